@@ -1,0 +1,8 @@
+// Bits in byte slices, the lowest bit of byte 0 first.
+ghost use mathlib.Core.Path.{_≡_};
+
+pub fn one() -> u8
+    ensures { λ r. ⌜ r ≡ 1 ⌝ }
+{
+    1
+}

@@ -1,0 +1,98 @@
+-- Document 01, "A row": reading items from bits by the same rules, what a faulty item is refused with, and the bits that a
+-- reading uses. Assumes nothing.
+use Prim.Native.Nat.{ℕ, zero, suc, _+_, _-_, _*_}
+use mathlib.Core.Bool.{Bool, true, false, cond, not, _&&_, _||_}
+use mathlib.Core.List.{List, [], _∷_, _++_}
+use lib.ListN.{length, take, drop}
+use lib.Dec.{leb, ltb, eqb}
+use Rattle.bitstream.specs.Bits.{numOf, begins, wordsFor}
+use Rattle.row_format.specs.Lists.{any, least}
+use Rattle.row_format.specs.Table.{lowLimit, codewords, codewordAt}
+use Rattle.row_format.specs.Row.{Item, difference, badPixel, badBias, escape, State, fresh, past, previous, pixelOf, after, byDifference, itemFor}
+
+-- the place of the first string that begins the rest; in an accepted table it is the only one
+pub data Match : Type 0 where
+  none : Match
+  found : ℕ → Match
+
+abbrev pub later : Match → Match
+later none = none
+later (found j) = found (suc j)
+
+unfoldable pub find : List (List ℕ) → List ℕ → Match
+find [] r = none
+find (s ∷ ss) r = let q : Match = find ss r in cond (begins s r) (found 0) (later q)
+
+-- reading one item: the item, or the number of the refusal; either with the bits it uses
+pub data Reading : Type 0 where
+  item : Item → ℕ → Reading
+  fault : ℕ → ℕ → Reading
+
+-- no string begins the rest r. 6: "the rest is empty or a proper beginning of some string", and uses all bits left.
+-- 7: it is no beginning of one, and uses "the shortest beginning of the rest with which no string begins"
+unfoldable pub unmatched : List (List ℕ) → List ℕ → Reading
+unmatched ss r =
+    cond (any (begins r) ss) (fault 6 (length r))
+    (fault 7 (least (λ k. not (any (begins (take k r)) ss)) (length r)))
+
+-- after the raw string of n bits. 6: "too few bits for the raw height". 9: "a raw height is 4094 or 4095"
+unfoldable pub rawHeight : ℕ → List ℕ → Reading
+rawHeight n r =
+    cond (ltb (length r) (n + 12)) (fault 6 (length r))
+    (cond (ltb (numOf (take 12 (drop n r))) 4094) (item (escape (numOf (take 12 (drop n r)))) (n + 12))
+    (fault 9 (n + 12)))
+
+-- the difference k leads to a height: one of 0 to 4093
+abbrev pub inside : State → ℕ → Bool
+inside s k = leb 4093 (previous s + k) && leb (previous s + k) 8186
+
+-- the item whose string, of n bits, stands at place j of the table. 8: "a step leads outside 0 to 4093"
+unfoldable pub matched : List ℕ → State → List ℕ → ℕ → ℕ → Reading
+matched t s r zero n = rawHeight n r
+matched t s r (suc zero) n = item badPixel n
+matched t s r (suc (suc zero)) n = item badBias n
+matched t s r (suc (suc (suc i))) n = cond (inside s (i + lowLimit t)) (item (difference (i + lowLimit t)) n) (fault 8 n)
+
+abbrev pub taken : List ℕ → State → List ℕ → Match → Reading
+taken t s r none = unmatched (codewords t) r
+taken t s r (found j) = matched t s r j (length (codewordAt t j))
+
+unfoldable pub readItem : List ℕ → State → List ℕ → Reading
+readItem t s r = taken t s r (find (codewords t) r)
+
+-- reading n items: the items and the bits used; or the number, the bit place of the faulty item and the bits used
+pub data Run : Type 0 where
+  done : List Item → ℕ → Run
+  stop : ℕ → ℕ → ℕ → Run
+
+abbrev pub prepend : Item → ℕ → Run → Run
+prepend i u (done is v) = done (i ∷ is) (u + v)
+prepend i u (stop e at v) = stop e (u + at) (u + v)
+
+abbrev pub follow : Reading → (Item → ℕ → Run) → Run
+follow (item i u) f = prepend i u (f i u)
+follow (fault e u) f = stop e 0 u
+
+-- by any way of reading one item
+unfoldable pub readBy : (State → List ℕ → Reading) → State → ℕ → List ℕ → Run
+readBy f s zero r = done [] 0
+readBy f s (suc n) r = follow (f s r) (λ i u. readBy f (after s i) n (drop u r))
+
+unfoldable pub readItems : List ℕ → ℕ → List ℕ → Run
+readItems t n r = readBy (readItem t) fresh n r
+
+-- 10: "an unused bit of the last used word is set", where a reading of the stream r has used u bits
+unfoldable pub stray : ℕ → List ℕ → Bool
+stray u r = any (eqb 1) (take (32 * wordsFor u - u) (drop u r))
+
+-- a raw item is needless where "the table has the step"
+abbrev pub needless : List ℕ → State → Item → Bool
+needless t s (difference k) = false
+needless t s badPixel = false
+needless t s badBias = false
+needless t s (escape h) = byDifference t s h
+
+-- some item of a row is needless
+unfoldable pub anyNeedless : List ℕ → State → List Item → Bool
+anyNeedless t s [] = false
+anyNeedless t s (i ∷ is) = needless t s i || anyNeedless t (after s i) is

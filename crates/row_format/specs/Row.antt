@@ -1,0 +1,82 @@
+-- Document 01, "A row": which item each pixel gets, and the bits of a row. Assumes nothing.
+use Prim.Native.Nat.{ℕ, _+_, _-_}
+use mathlib.Core.Bool.{Bool, true, false, cond}
+use mathlib.Core.List.{List, [], _∷_, _++_}
+use lib.Dec.{eqb}
+use Rattle.bitstream.specs.Bits.{digits}
+use Rattle.row_format.specs.Table.{lowLimit, hasDifference, codewordAt}
+
+-- "An item is thus one of four": a difference (document 01: a step, held as its count from -4093), bad pixel, bad bias, or
+-- an escape (document 01: raw) with its height
+pub data Item : Type 0 where
+  difference : ℕ → Item
+  badPixel : Item
+  badBias : Item
+  escape : ℕ → Item
+
+-- whether a pixel of this row has become previous, and which
+pub data State : Type 0 where
+  fresh : State
+  past : ℕ → State
+
+-- "previous being 0 at the row's start"
+abbrev pub previous : State → ℕ
+previous fresh = 0
+previous (past p) = p
+
+-- pixel minus previous, counted from -4093
+abbrev pub differenceTo : State → ℕ → ℕ
+differenceTo s p = p + 4093 - previous s
+
+-- a height is written by its difference, and not raw: "If the table has the step"
+unfoldable pub byDifference : List ℕ → State → ℕ → Bool
+byDifference t s p = hasDifference t (differenceTo s p)
+
+-- "For each pixel in order one item is written"
+unfoldable pub itemFor : List ℕ → State → ℕ → Item
+itemFor t s p =
+    cond (eqb p 4095) badPixel
+    (cond (eqb p 4094) badBias
+    (cond (byDifference t s p) (difference (differenceTo s p))
+    (escape p)))
+
+-- the pixel that an item stands for
+abbrev pub pixelOf : State → Item → ℕ
+pixelOf s (difference k) = previous s + k - 4093
+pixelOf s badPixel = 4095
+pixelOf s badBias = 4094
+pixelOf s (escape h) = h
+
+-- what becomes previous: a height by its difference always, a raw one "only if no pixel of this row has yet become previous"
+abbrev pub after : State → Item → State
+after s (difference k) = past (pixelOf s (difference k))
+after s badPixel = s
+after s badBias = s
+after fresh (escape h) = past h
+after (past p) (escape h) = past p
+
+-- the bits of an item: its string, and after the raw string "the pixel in 12 bits, least significant first"
+abbrev pub itemBits : List ℕ → Item → List ℕ
+itemBits t (difference k) = codewordAt t (3 + (k - lowLimit t))
+itemBits t badPixel = codewordAt t 1
+itemBits t badBias = codewordAt t 2
+itemBits t (escape h) = codewordAt t 0 ++ digits 12 h
+
+-- the items of a row from a state on
+unfoldable pub itemsFor : List ℕ → State → List ℕ → List Item
+itemsFor t s [] = []
+itemsFor t s (p ∷ ps) = itemFor t s p ∷ itemsFor t (after s (itemFor t s p)) ps
+
+-- the pixels that items stand for, from a state on
+unfoldable pub pixelsOf : State → List Item → List ℕ
+pixelsOf s [] = []
+pixelsOf s (i ∷ is) = pixelOf s i ∷ pixelsOf (after s i) is
+
+-- "Items follow each other without gaps"
+unfoldable pub bits : List ℕ → List Item → List ℕ
+bits t [] = []
+bits t (i ∷ is) = itemBits t i ++ bits t is
+
+-- the bits of a row; "A row takes the sum of the lengths of the items that the packing rules give for it": their length
+unfoldable pub rowBits : List ℕ → List ℕ → List ℕ
+rowBits t ps = bits t (itemsFor t fresh ps)

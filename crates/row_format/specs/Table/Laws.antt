@@ -1,0 +1,2 @@
+-- The laws of tables. Assumes nothing.
+use mathlib.Core.Path.{_≡_, refl}

@@ -1,22 +1,261 @@
 -- The laws of bits in bytes. Assumes nothing.
-use Prim.Native.Nat.{ℕ, zero, suc, _+_, _-_, _*_, _/_, _%_, _^_, _≤_, _<_}
-use native.Mathlib.Nat.{zero-mod, zero-div, add-zero, zero-add, mod-lt, mod-one, div-one, suc-mul, suc-add, zero-mul, mul-one, pow-suc, pow-zero, div-div-eq-div-mul, div-add-mod', mul-comm, mod-eq-of-lt, div-eq-of-lt, add-suc, mod-zero}
+use Prim.Native.Nat.{ℕ, zero, suc, _+_, _-_, _*_, _/_, _%_, _^_, _≤_, _<_, zero-le}
+use native.Mathlib.Nat.{zero-mod, zero-div, add-zero, zero-add, add-comm, add-assoc, mod-lt, mod-one, div-one, suc-add, zero-mul, mul-zero, mul-suc, mul-one, mul-assoc, mul-comm, mul-right-comm, add-mul, pow-suc, pow-zero, mod-eq-of-lt, div-eq-of-lt, add-div-left, add-mod-left, not-suc-le-zero, le-of-suc-le-suc, lt-of-lt-of-le, add-suc}
 use native.Mathlib.Numerals.{add-one}
+use native.Mathlib.Decide.{decLt}
 use native.Mathlib.Omega.{arith}
 use mathlib.Core.Path.{_≡_, refl, sym, ap, _∙_, subst}
-use mathlib.Core.Bool.{Bool, true, false}
-use mathlib.Core.List.{List, [], _∷_, _++_, append-assoc, append-nil}
-use lib.ListN.{length, take, drop, getD, length-append}
-use lib.Pow.{pow-add, shr-shr, pow-pos}
+use mathlib.Core.Logic.{by-cases}
+use mathlib.Core.List.{List, [], _∷_, _++_, append-assoc}
+use lib.ListN.{length, take, drop, getD, replicate, length-append, List·getD-append}
+use lib.Seq.{take-nil, drop-nil, take-append-add, drop-append-add, take-at, drop-at, getD-append-add}
+use lib.Arith.{digits-lt, digits-div, digits-mod, mod-mul}
+use lib.Pow.{pow-add, shr-shr, pow-pos, high, low}
 use Rattle.bitstream.specs.Bits.{digits, numOf, flat, cut}
 
--- ---- digits
+-- every element of the list is below k: of bits below 2, of bytes below 256
+pub record Below (k : ℕ) (xs : List ℕ) : Type 0 where
+  pub below : (i : ℕ) → getD xs i 0 < k
+
+pub below-nil : {k : ℕ} → 0 < k → Below k []
+below-nil h = record { below = λ i. h }
+
+pub below-cons : {k x : ℕ} {xs : List ℕ} → x < k → Below k xs → Below k (x ∷ xs)
+below-cons {k} {x} {xs} h hs = record { below = go }
+  where
+    go : (i : ℕ) → getD (x ∷ xs) i 0 < k
+    go zero = h
+    go (suc i) = hs .below i
+
+pub below-head : {k x : ℕ} {xs : List ℕ} → Below k (x ∷ xs) → x < k
+below-head h = h .below 0
+
+pub below-tail : {k x : ℕ} {xs : List ℕ} → Below k (x ∷ xs) → Below k xs
+below-tail h = record { below = λ i. h .below (suc i) }
+
+pub below-append : {k : ℕ} (xs ys : List ℕ) → Below k xs → Below k ys → Below k (xs ++ ys)
+below-append [] ys h g = g
+below-append (x ∷ xs) ys h g = below-cons (below-head h) (below-append xs ys (below-tail h) g)
+
+pub below-take : {k : ℕ} (n : ℕ) (xs : List ℕ) → Below k xs → Below k (take n xs)
+below-take zero xs h = record { below = λ i. native.Mathlib.Nat.lt-of-le-of-lt zero-le (h .below 0) }
+below-take (suc n) [] h = h
+below-take (suc n) (x ∷ xs) h = below-cons (below-head h) (below-take n xs (below-tail h))
+
+pub below-drop : {k : ℕ} (n : ℕ) (xs : List ℕ) → Below k xs → Below k (drop n xs)
+below-drop zero xs h = h
+below-drop (suc n) [] h = h
+below-drop (suc n) (x ∷ xs) h = below-drop n xs (below-tail h)
+
+-- ---- digits: the low bits of a number
 pub length-digits : (w v : ℕ) → length (digits w v) ≡ w
 unfolding digits
 length-digits zero v = refl
 length-digits (suc w) v = ap suc (length-digits w (v / 2))
 
+pub below-digits : (w v : ℕ) → Below 2 (digits w v)
+unfolding digits
+below-digits zero v = below-nil (omega arith)
+below-digits (suc w) v = below-cons (omega arith) (below-digits w (v / 2))
+
+halves : (m v : ℕ) → v / 2 / 2 ^ m ≡ v / 2 ^ suc m
+halves m v = shr-shr v 1 m ∙ ap (λ (k : ℕ). v / 2 ^ k) (native.Mathlib.Numerals.one-add m)
+
+pub digits-split : (m n v : ℕ) → digits (m + n) v ≡ digits m v ++ digits n (v / 2 ^ m)
+unfolding digits
+digits-split zero n v = rw (zero-add n, div-one v)
+digits-split (suc m) n v = rw (suc-add m n) (ap (λ (l : List ℕ). v % 2 ∷ l) (digits-split m n (v / 2) ∙ ap (λ (k : ℕ). digits m (v / 2) ++ digits n k) (halves m v)))
+
+pub numOf-digits : (w v : ℕ) → numOf (digits w v) ≡ v % 2 ^ w
+unfolding digits numOf
+numOf-digits zero v = sym (mod-one v)
+numOf-digits (suc w) v =
+    rw (numOf-digits w (v / 2))
+    (sym (ap (λ (k : ℕ). v % k) (pow-suc 2 w) ∙ mod-mul v (pow-pos w) (omega arith)))
+
+-- ---- numOf: the number of some bits
+pub numOf-append : (a b : List ℕ) → numOf (a ++ b) ≡ numOf b * 2 ^ length a + numOf a
+unfolding numOf
+numOf-append [] b = sym (add-zero _ ∙ mul-one (numOf b))
+numOf-append (x ∷ a) b =
+    rw (numOf-append a b, pow-suc 2 (length a), add-mul, add-assoc, mul-assoc)
+
+pub numOf-lt : (b : List ℕ) → Below 2 b → numOf b < 2 ^ length b
+unfolding numOf
+numOf-lt [] h = omega arith
+numOf-lt (x ∷ b) h = rw (pow-suc 2 (length b)) (digits-lt (numOf-lt b (below-tail h)) (below-head h))
+
+pub digits-numOf : (b : List ℕ) → Below 2 b → digits (length b) (numOf b) ≡ b
+unfolding digits numOf
+digits-numOf [] h = refl
+digits-numOf (x ∷ b) h = rw (digits-div (numOf b) (below-head h), digits-mod (numOf b) (below-head h), digits-numOf b (below-tail h))
+
+pub numOf-inj : (a b : List ℕ) → Below 2 a → Below 2 b → length a ≡ length b → numOf a ≡ numOf b → a ≡ b
+numOf-inj a b ha hb l e =
+    sym (digits-numOf a ha) ∙ ap (λ (n : ℕ). digits n (numOf a)) l ∙ ap (digits (length b)) e ∙ digits-numOf b hb
+
+-- the low and the high part of the number of some bits
+pub numOf-take : (n : ℕ) (b : List ℕ) → Below 2 b → numOf (take n b) ≡ numOf b % 2 ^ n
+unfolding numOf
+numOf-take zero b h = sym (mod-one (numOf b))
+numOf-take (suc n) [] h = sym (zero-mod (2 ^ suc n))
+numOf-take (suc n) (x ∷ b) h =
+    let two : 0 < 2 = omega arith in
+    rw (numOf-take n b (below-tail h), pow-suc 2 n, mod-mul (numOf b * 2 + x) (pow-pos n) two, digits-div (numOf b) (below-head h), digits-mod (numOf b) (below-head h))
+
+pub numOf-drop : (n : ℕ) (b : List ℕ) → Below 2 b → numOf (drop n b) ≡ numOf b / 2 ^ n
+unfolding numOf
+numOf-drop zero b h = sym (div-one (numOf b))
+numOf-drop (suc n) [] h = sym (zero-div (2 ^ suc n))
+numOf-drop (suc n) (x ∷ b) h =
+    numOf-drop n b (below-tail h) ∙ ap (λ (k : ℕ). k / 2 ^ n) (sym (digits-div (numOf b) (below-head h))) ∙ halves n (numOf b * 2 + x)
+
+-- n bits from place k of some bits
+pub numOf-field : (k n : ℕ) (b : List ℕ) → Below 2 b → numOf (take n (drop k b)) ≡ numOf b / 2 ^ k % 2 ^ n
+numOf-field k n b h = numOf-take n (drop k b) (below-drop k b h) ∙ ap (λ (x : ℕ). x % 2 ^ n) (numOf-drop k b h)
+
+-- ---- flat: numbers of one width, one after the other
 pub length-flat : (w : ℕ) (xs : List ℕ) → length (flat w xs) ≡ w * length xs
 unfolding flat
-length-flat w [] = sym (native.Mathlib.Nat.mul-zero w)
-length-flat w (x ∷ xs) = length-append (digits w x) (flat w xs) ∙ rw (length-digits w x, length-flat w xs) (native.Mathlib.Nat.add-comm w (w * length xs) ∙ sym (native.Mathlib.Nat.mul-suc w (length xs)))
+length-flat w [] = sym (mul-zero w)
+length-flat w (x ∷ xs) = length-append (digits w x) (flat w xs) ∙ rw (length-digits w x, length-flat w xs) (add-comm w (w * length xs) ∙ sym (mul-suc w (length xs)))
+
+pub below-flat : (w : ℕ) (xs : List ℕ) → Below 2 (flat w xs)
+unfolding flat
+below-flat w [] = below-nil (omega arith)
+below-flat w (x ∷ xs) = below-append (digits w x) (flat w xs) (below-digits w x) (below-flat w xs)
+
+pub flat-append : (w : ℕ) (xs ys : List ℕ) → flat w (xs ++ ys) ≡ flat w xs ++ flat w ys
+unfolding flat
+flat-append w [] ys = refl
+flat-append w (x ∷ xs) ys = rw (flat-append w xs ys) (sym (append-assoc (digits w x) (flat w xs) (flat w ys)))
+
+pub flat-take : (w n : ℕ) (xs : List ℕ) → flat w (take n xs) ≡ take (w * n) (flat w xs)
+unfolding flat
+flat-take w zero xs = ap (λ (k : ℕ). take k (flat w xs)) (sym (mul-zero w))
+flat-take w (suc n) [] = sym (take-nil (w * suc n))
+flat-take w (suc n) (x ∷ xs) =
+    ap (digits w x ++_) (flat-take w n xs)
+    ∙ sym (take-append-add (digits w x) (flat w xs) (w * n))
+    ∙ ap (λ (k : ℕ). take k (digits w x ++ flat w xs)) (ap (_+ w * n) (length-digits w x) ∙ add-comm w (w * n) ∙ sym (mul-suc w n))
+
+pub flat-drop : (w n : ℕ) (xs : List ℕ) → flat w (drop n xs) ≡ drop (w * n) (flat w xs)
+unfolding flat
+flat-drop w zero xs = ap (λ (k : ℕ). drop k (flat w xs)) (sym (mul-zero w))
+flat-drop w (suc n) [] = sym (drop-nil (w * suc n))
+flat-drop w (suc n) (x ∷ xs) =
+    flat-drop w n xs
+    ∙ sym (drop-append-add (digits w x) (flat w xs) (w * n))
+    ∙ ap (λ (k : ℕ). drop k (digits w x ++ flat w xs)) (ap (_+ w * n) (length-digits w x) ∙ add-comm w (w * n) ∙ sym (mul-suc w n))
+
+-- ---- cut: a stream taken apart into numbers of one width
+pub length-cut : (w n : ℕ) (b : List ℕ) → length (cut w n b) ≡ n
+unfolding cut
+length-cut w zero b = refl
+length-cut w (suc n) b = ap suc (length-cut w n (drop w b))
+
+pub getD-cut : (w n : ℕ) (b : List ℕ) (i : ℕ) → i < n → getD (cut w n b) i 0 ≡ numOf (take w (drop (w * i) b))
+unfolding cut
+getD-cut w zero b i h = absurd (not-suc-le-zero h)
+getD-cut w (suc n) b zero h = ap (λ (k : ℕ). numOf (take w (drop k b))) (sym (mul-zero w))
+getD-cut w (suc n) b (suc i) h =
+    getD-cut w n (drop w b) i (le-of-suc-le-suc h)
+    ∙ ap (λ (l : List ℕ). numOf (take w l)) (lib.Seq.drop-drop (w * i) w b ∙ ap (λ (k : ℕ). drop k b) (add-comm w (w * i) ∙ sym (mul-suc w i)))
+
+-- numbers below 2 ^ w come back, whatever follows
+pub cut-flat : (w : ℕ) (xs r : List ℕ) → Below (2 ^ w) xs → cut w (length xs) (flat w xs ++ r) ≡ xs
+unfolding cut flat
+cut-flat w [] r h = refl
+cut-flat w (x ∷ xs) r h =
+    let e : digits w x ++ flat w xs ++ r ≡ digits w x ++ (flat w xs ++ r) = append-assoc (digits w x) (flat w xs) r in
+    rw (e, take-at (digits w x) (flat w xs ++ r) w (length-digits w x), drop-at (digits w x) (flat w xs ++ r) w (length-digits w x), numOf-digits w x, mod-eq-of-lt (below-head h), cut-flat w xs r (below-tail h))
+
+-- ---- pad: the first k bits of a stream, 0 past its end
+abbrev pub pad : ℕ → List ℕ → List ℕ
+pad zero b = []
+pad (suc k) [] = 0 ∷ pad k []
+pad (suc k) (x ∷ b) = x ∷ pad k b
+
+pub pad-add : (m n : ℕ) (b : List ℕ) → pad (m + n) b ≡ pad m b ++ pad n (drop m b)
+pad-add zero n b = rw (zero-add n)
+pad-add (suc m) n [] = rw (suc-add m n) (ap (0 ∷_) (pad-add m n [] ∙ rw (drop-nil {A = ℕ} m)))
+pad-add (suc m) n (x ∷ b) = rw (suc-add m n) (ap (x ∷_) (pad-add m n b))
+
+pub pad-take : (k : ℕ) (b : List ℕ) → pad k (take k b) ≡ pad k b
+pad-take zero b = refl
+pad-take (suc k) [] = refl
+pad-take (suc k) (x ∷ b) = ap (x ∷_) (pad-take k b)
+
+pub pad-nil : (k : ℕ) → pad k [] ≡ replicate k 0
+pad-nil zero = refl
+pad-nil (suc k) = ap (0 ∷_) (pad-nil k)
+
+pub pad-all : (k : ℕ) (b : List ℕ) → length b ≤ k → pad k b ≡ b ++ replicate (k - length b) 0
+pad-all k [] h = pad-nil k ∙ ap (λ (n : ℕ). replicate n 0) (sym (native.Mathlib.Nat.sub-zero k))
+pad-all zero (x ∷ b) h = absurd (not-suc-le-zero h)
+pad-all (suc k) (x ∷ b) h = ap (x ∷_) (pad-all k b (le-of-suc-le-suc h) ∙ ap (λ (n : ℕ). b ++ replicate n 0) (sym (native.Mathlib.Nat.suc-sub-suc k (length b))))
+
+pub pad-append : (b c : List ℕ) (n : ℕ) → pad (length b + n) (b ++ c) ≡ b ++ pad n c
+pad-append [] c n = rw (zero-add n)
+pad-append (x ∷ b) c n = rw (suc-add (length b) n) (ap (x ∷_) (pad-append b c n))
+
+pub digits-pad : (w : ℕ) (b : List ℕ) → Below 2 b → digits w (numOf b) ≡ pad w b
+unfolding digits numOf
+digits-pad zero b h = refl
+digits-pad (suc w) [] h = ap (0 ∷_) (digits-pad w [] h)
+digits-pad (suc w) (x ∷ b) h = rw (digits-div (numOf b) (below-head h), digits-mod (numOf b) (below-head h), digits-pad w b (below-tail h))
+
+-- a stream taken apart and put together again
+pub flat-cut : (w n : ℕ) (b : List ℕ) → Below 2 b → flat w (cut w n b) ≡ pad (w * n) b
+unfolding cut flat
+flat-cut w zero b h = ap (λ (k : ℕ). pad k b) (sym (mul-zero w))
+flat-cut w (suc n) b h =
+    ap (_++ flat w (cut w n (drop w b))) (digits-pad w (take w b) (below-take w b h) ∙ pad-take w b)
+    ∙ ap (pad w b ++_) (flat-cut w n (drop w b) (below-drop w b h))
+    ∙ sym (pad-add w (w * n) b)
+    ∙ ap (λ (k : ℕ). pad k b) (add-comm w (w * n) ∙ sym (mul-suc w n))
+
+pub below-cut : (w n : ℕ) (b : List ℕ) → Below 2 b → Below (2 ^ w) (cut w n b)
+unfolding cut
+below-cut w zero b h = below-nil (pow-pos w)
+below-cut w (suc n) b h =
+    below-cons (rw (numOf-take w b h) (mod-lt (numOf b) (pow-pos w))) (below-cut w n (drop w b) (below-drop w b h))
+
+-- ---- little-endian numbers in bytes
+-- the first byte is the lowest; a byte past the end counts as 0
+pub numberOf-suc : (n at : ℕ) (s : List ℕ) → numOf (flat 8 (take (suc n) (drop at s))) ≡ numOf (flat 8 (take n (drop (suc at) s))) * 256 + getD s at 0 % 256
+unfolding flat numOf
+numberOf-suc n zero [] = rw (take-nil n)
+numberOf-suc n zero (x ∷ s) = numOf-append (digits 8 x) (flat 8 (take n s)) ∙ rw (length-digits 8 x, numOf-digits 8 x)
+numberOf-suc n (suc at) [] = rw (take-nil n)
+numberOf-suc n (suc at) (x ∷ s) = numberOf-suc n at s
+
+-- ---- the bit at a place
+pub getD-digits : (w v k : ℕ) → k < w → getD (digits w v) k 0 ≡ v / 2 ^ k % 2
+unfolding digits
+getD-digits zero v k h = absurd (not-suc-le-zero h)
+getD-digits (suc w) v zero h = ap (_% 2) (sym (div-one v))
+getD-digits (suc w) v (suc k) h = getD-digits w (v / 2) k (le-of-suc-le-suc h) ∙ ap (_% 2) (halves k v)
+
+module _ (w x : ℕ) (xs : List ℕ) (k : ℕ) where
+  in-first : k < w → getD (digits w x ++ flat w xs) k 0 ≡ getD (x ∷ xs) (k / w) 0 / 2 ^ (k % w) % 2
+  in-first l =
+      List·getD-append (digits w x) (flat w xs) 0 k (subst (λ (n : ℕ). k < n) (sym (length-digits w x)) l)
+      ∙ getD-digits w x k l
+      ∙ rw (div-eq-of-lt l, mod-eq-of-lt l)
+
+  past-first : 0 < w → ¬ (k < w) → getD (flat w xs) (k - w) 0 ≡ getD xs ((k - w) / w) 0 / 2 ^ ((k - w) % w) % 2
+      → getD (digits w x ++ flat w xs) k 0 ≡ getD (x ∷ xs) (k / w) 0 / 2 ^ (k % w) % 2
+  past-first h g ih =
+      let e : w + (k - w) ≡ k = omega arith in
+      let q : k / w ≡ suc ((k - w) / w) = ap (_/ w) (sym e) ∙ add-div-left (k - w) h ∙ add-one ((k - w) / w) in
+      let m : k % w ≡ (k - w) % w = ap (_% w) (sym e) ∙ add-mod-left w (k - w) in
+      ap (λ (n : ℕ). getD (digits w x ++ flat w xs) n 0) (sym e ∙ ap (_+ (k - w)) (sym (length-digits w x)))
+      ∙ getD-append-add (digits w x) (flat w xs) (k - w) 0
+      ∙ ih
+      ∙ rw (q, m)
+
+pub getD-flat : (w : ℕ) (xs : List ℕ) (k : ℕ) → 0 < w → getD (flat w xs) k 0 ≡ getD xs (k / w) 0 / 2 ^ (k % w) % 2
+unfolding flat
+getD-flat w [] k h = sym (rw (zero-div (2 ^ (k % w))))
+getD-flat w (x ∷ xs) k h = by-cases (decLt k w) (in-first w x xs k) (λ g. past-first w x xs k h g (getD-flat w xs (k - w) h))

@@ -1,4 +1,5 @@
 pub mod Lists
+pub mod BitLaws
 pub mod Table
 pub mod Row
 pub mod Reading

@@ -1,5 +1,6 @@
 -- Laws of bits that tables and rows need. Assumes nothing.
 use Prim.Native.Nat.{ℕ, zero, suc, _+_, _-_, _*_, _/_, _%_, _^_, _≤_, _<_}
+use native.Mathlib.Nat.{le-of-suc-le-suc, not-suc-le-zero}
 use native.Mathlib.Omega.{arith}
 use mathlib.Core.Path.{_≡_, refl, sym, ap, _∙_}
 use mathlib.Core.Bool.{Bool, true, false, _&&_, _||_}
@@ -8,7 +9,7 @@ use lib.ListN.{length, take, drop}
 use lib.Dec.{eqb}
 use borrow.Author.Tests.{eq-eqb, eqb-true}
 use Rattle.bitstream.specs.Bits.{begins}
-use Rattle.row_format.specs.Lists.Laws.{true-false, and-true-left, and-true-right}
+use Rattle.row_format.specs.Lists.Laws.{by-test, true-false, and-true-left, and-true-right}
 
 -- ---- begins
 -- of two strings that begin the same bits, one begins the other
@@ -22,3 +23,27 @@ begins-both (x ∷ a) (y ∷ b) (c ∷ r) p q =
     let yc : y ≡ c = eqb-true y c (and-true-left (eqb y c) (begins b r) q) in
     rw (eq-eqb x y (xc ∙ sym yc), eq-eqb y x (yc ∙ sym xc))
        (begins-both a b r (and-true-right (eqb x c) (begins a r) p) (and-true-right (eqb y c) (begins b r) q))
+
+pub begins-length : (a r : List ℕ) → begins a r ≡ true → length a ≤ length r
+unfolding begins
+begins-length [] r p = omega arith
+begins-length (x ∷ a) [] p = true-false p refl
+begins-length (x ∷ a) (c ∷ r) p = let q : length a ≤ length r = begins-length a r (and-true-right (eqb x c) (begins a r) p) in omega arith
+
+-- of two strings of one length, either begins the other
+pub begins-swap : (a r : List ℕ) → length r ≤ length a → begins a r ≡ true → begins r a ≡ true
+unfolding begins
+begins-swap [] [] h p = refl
+begins-swap [] (c ∷ r) h p = absurd (omega arith)
+begins-swap (x ∷ a) [] h p = refl
+begins-swap (x ∷ a) (c ∷ r) h p =
+    rw (eq-eqb c x (sym (eqb-true x c (and-true-left (eqb x c) (begins a r) p))))
+       (begins-swap a r (omega arith) (and-true-right (eqb x c) (begins a r) p))
+
+-- only as many bits are looked at as the string has
+pub begins-take : (a r : List ℕ) (k : ℕ) → length a ≤ k → begins a (take k r) ≡ begins a r
+unfolding begins
+begins-take [] r k h = refl
+begins-take (x ∷ a) r zero h = absurd (omega arith)
+begins-take (x ∷ a) [] (suc k) h = refl
+begins-take (x ∷ a) (c ∷ r) (suc k) h = ap (λ (q : Bool). eqb x c && q) (begins-take a r k (omega arith))

@@ -4,3 +4,4 @@ pub mod Table
 pub mod Row
 pub mod Reading
 pub mod Calls
+pub mod Theorems

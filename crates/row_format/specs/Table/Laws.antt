@@ -49,11 +49,14 @@ unfolding longest
 longest-most [] m most = omega arith
 longest-most (s ∷ ss) m most = max-le (most 0 (omega arith)) (longest-most ss m (λ j h. most (suc j) (omega arith)))
 
-pub length-codewordAt-most : (t : List ℕ) (j : ℕ) → length (codewordAt t j) ≤ maxItemBits t
+pub longest-maxItemBits : (t : List ℕ) → longest (codewords t) ≤ maxItemBits t
 unfolding maxItemBits
+longest-maxItemBits t = le-max-left (longest (codewords t)) (escapeLength t + 12)
+
+pub length-codewordAt-most : (t : List ℕ) (j : ℕ) → length (codewordAt t j) ≤ maxItemBits t
 length-codewordAt-most t j =
     let most : length (codewordAt t j) ≤ longest (codewords t) = rw (getD-codewords t j) at (length-longest (codewords t) j) in
-    omega arith
+    omega (arith, longest-maxItemBits t)
 
 pub escapeLength-most : (t : List ℕ) → escapeLength t + 12 ≤ maxItemBits t
 unfolding maxItemBits

@@ -1,0 +1,4 @@
+-- The theorems of demands 2 and 3. Assumes nothing.
+use mathlib.Core.Path.{_≡_, refl}
+pub mod Search
+pub mod Bounds

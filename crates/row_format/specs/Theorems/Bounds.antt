@@ -6,17 +6,18 @@ use native.Mathlib.Omega.{arith}
 use mathlib.Core.Path.{_≡_, refl, sym, ap, _∙_}
 use mathlib.Core.Bool.{Bool, true, false, cond, not}
 use mathlib.Core.List.{List, [], _∷_, _++_}
-use lib.ListN.{length, take, drop, getD, length-take}
+use lib.ListN.{length, take, drop, getD, length-append}
 use lib.Seq.{length-take-le}
 use lib.Dec.{ltb}
 use borrow.Author.Tests.{ltb-true, ltb-false}
-use Rattle.bitstream.specs.Bits.{numOf, begins, wordsOf, stream}
+use Rattle.bitstream.specs.Bits.{digits, numOf, begins, wordsOf, stream}
+use Rattle.bitstream.specs.Bits.Laws.{length-digits}
 use Rattle.row_format.specs.Lists.{any, least}
 use Rattle.row_format.specs.Lists.Laws.{by-test, true-false, or-false-left, or-false-right, least-within, least-most}
 use Rattle.row_format.specs.BitLaws.{begins-length}
 use Rattle.row_format.specs.Table.{lowLimit, codewords, codewordAt, longest, maxItemBits, escapeLength}
 use Rattle.row_format.specs.Table.Laws.{length-codewordAt, length-codewordAt-most, escapeLength-most, longest-maxItemBits}
-use Rattle.row_format.specs.Row.{Item, State, fresh, after}
+use Rattle.row_format.specs.Row.{Item, difference, badPixel, badBias, escape, State, fresh, after, itemFor, itemBits, itemsFor, bits, rowBits}
 use Rattle.row_format.specs.Reading.{Match, none, found, find, Reading, item, fault, unmatched, rawHeight, inside, matched, taken, readItem, Run, done, stop, prepend, follow, readBy, readItems}
 use Rattle.row_format.specs.Calls.{unpackNumber, usedByRun, usedUnless, bitsUsed}
 use Rattle.row_format.specs.Theorems.Search.{Found, find-found, any-begins-none-take}
@@ -100,3 +101,26 @@ usedUnless-most (suc e) u m h = omega arith
 pub bitsUsed-most : (tb wb : List ℕ) (n : ℕ) (m : List ℕ) → bitsUsed tb wb n m ≤ n * maxItemBits (wordsOf tb)
 unfolding bitsUsed
 bitsUsed-most tb wb n m = usedUnless-most (unpackNumber tb n (length m / 2)) _ _ (readItems-uses (wordsOf tb) n (stream wb))
+
+-- ---- a row, under every table and of whatever pixels
+pub length-itemBits : (t : List ℕ) (i : Item) → length (itemBits t i) ≤ maxItemBits t
+length-itemBits t (difference k) = length-codewordAt-most t (3 + (k - lowLimit t))
+length-itemBits t badPixel = length-codewordAt-most t 1
+length-itemBits t badBias = length-codewordAt-most t 2
+length-itemBits t (escape h) =
+    omega (arith, length-append (codewordAt t 0) (digits 12 h), length-digits 12 h, length-codewordAt t 0, escapeLength-most t)
+
+pub length-bits : (t : List ℕ) (is : List Item) → length (bits t is) ≤ length is * maxItemBits t
+unfolding bits
+length-bits t [] = omega arith
+length-bits t (i ∷ is) =
+    rw (suc-mul (length is) (maxItemBits t)) (omega (arith, length-append (itemBits t i) (bits t is), length-itemBits t i, length-bits t is))
+
+pub length-itemsFor : (t : List ℕ) (s : State) (ps : List ℕ) → length (itemsFor t s ps) ≡ length ps
+unfolding itemsFor
+length-itemsFor t s [] = refl
+length-itemsFor t s (p ∷ ps) = ap suc (length-itemsFor t (after s (itemFor t s p)) ps)
+
+pub length-rowBits : (t ps : List ℕ) → length (rowBits t ps) ≤ length ps * maxItemBits t
+unfolding rowBits
+length-rowBits t ps = rw (length-itemsFor t fresh ps) at (length-bits t (itemsFor t fresh ps))

@@ -47,3 +47,8 @@ begins-take [] r k h = refl
 begins-take (x ∷ a) r zero h = absurd (omega arith)
 begins-take (x ∷ a) [] (suc k) h = refl
 begins-take (x ∷ a) (c ∷ r) (suc k) h = ap (λ (q : Bool). eqb x c && q) (begins-take a r k (omega arith))
+
+pub begins-append : (a r : List ℕ) → begins a (a ++ r) ≡ true
+unfolding begins
+begins-append [] r = refl
+begins-append (x ∷ a) r = rw (eq-eqb x x refl) (begins-append a r)

@@ -2,3 +2,4 @@
 use mathlib.Core.Path.{_≡_, refl}
 pub mod Search
 pub mod Bounds
+pub mod RoundTrip

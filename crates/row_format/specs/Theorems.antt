@@ -3,3 +3,4 @@ use mathlib.Core.Path.{_≡_, refl}
 pub mod Search
 pub mod Bounds
 pub mod RoundTrip
+pub mod Words

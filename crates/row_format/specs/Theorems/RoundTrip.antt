@@ -5,21 +5,25 @@ use native.Mathlib.Omega.{arith}
 use mathlib.Core.Path.{_≡_, refl, sym, ap, _∙_}
 use mathlib.Core.Bool.{Bool, true, false, cond, not, _&&_}
 use mathlib.Core.List.{List, [], _∷_, _++_, append-assoc}
-use lib.ListN.{length, take, drop, getD, length-append}
+use lib.ListN.{length, take, drop, getD, replicate, length-append}
 use lib.Seq.{drop-append-seam, take-append-seam, drop-at, take-at}
 use lib.Dec.{leb, ltb, eqb}
 use borrow.Author.Tests.{leb-true, le-leb, ltb-true, ltb-false, lt-ltb, le-ltb, eqb-true, eqb-false}
-use Rattle.bitstream.specs.Bits.{digits, numOf, begins}
-use Rattle.bitstream.specs.Bits.Laws.{length-digits, numOf-digits}
+use Rattle.bitstream.specs.Bits.{digits, numOf, flat, begins, bytesOf, wordsOf, halvesOf, stream, wordsFor}
+use Rattle.bitstream.specs.Bits.Laws.{Below, length-digits, numOf-digits}
+use Rattle.answer.specs.Outcome.{Outcome, wrote}
 use Rattle.row_format.specs.Lists.{any}
 use Rattle.row_format.specs.Lists.Laws.{by-test, true-false, and-true-left, and-true-right, or-false-left, or-false-right}
-use Rattle.row_format.specs.BitLaws.{begins-append}
+use Rattle.row_format.specs.BitLaws.{begins-append, stream-bytesOf}
 use Rattle.row_format.specs.Table.{lowLimit, tableSize, hasDifference, codewords, codewordAt}
-use Rattle.row_format.specs.Table.Laws.{Accepted}
+use Rattle.row_format.specs.Table.Laws.{Accepted, accepted, tableNumber-verdict}
 use Rattle.row_format.specs.Row.{Item, difference, badPixel, badBias, escape, State, fresh, past, previous, differenceTo, byDifference, itemFor, pixelOf, after, itemBits, itemsFor, pixelsOf, bits, rowBits}
 use Rattle.row_format.specs.Reading.{Match, none, found, find, Reading, item, fault, rawHeight, inside, matched, taken, readItem, Run, done, stop, prepend, follow, readBy, readItems}
+use Rattle.row_format.specs.Calls.{afterRun, packed, unpacked}
+use Rattle.row_format.specs.Calls.Laws.{Packable, packable, unpackNumber-unpackable}
 use Rattle.row_format.specs.Theorems.Search.{find-only}
 use Rattle.row_format.specs.Theorems.Bounds.{length-itemsFor}
+use Rattle.row_format.specs.Theorems.Words.{below-rowBits, stray-zeros, bytesOf-halvesOf}
 
 -- ---- one item
 -- an item that may stand in a row where s says what is previous
@@ -131,3 +135,28 @@ pub readItems-rowBits : (t : List ℕ) (ok : Accepted t) (ps r : List ℕ) → a
 unfolding readItems rowBits
 readItems-rowBits t ok ps r e =
     rw (length-itemsFor t fresh ps) at (readBy-own t ok fresh (itemsFor t fresh ps) r (itemsFor-fit t fresh ps (omega arith) e))
+
+-- ---- the calls
+-- the bytes that packing writes for a row
+abbrev pub rowBytes : List ℕ → List ℕ → List ℕ
+rowBytes t ps = bytesOf (4 * wordsFor (length (rowBits t ps))) (rowBits t ps)
+
+-- a reading of a row's words, whatever words follow
+pub afterRun-rowBytes : (t : List ℕ) (ok : Accepted t) (ps rest m : List ℕ) → any (ltb 4095) ps ≡ false
+    → afterRun (stream (rowBytes t ps ++ rest)) (length ps) m (readItems t (length ps) (stream (rowBytes t ps ++ rest)))
+      ≡ wrote (length (rowBits t ps)) (bytesOf (2 * length ps) (flat 16 ps)) m
+afterRun-rowBytes t ok ps rest m e =
+    let b = rowBits t ps in
+    let padding = replicate (32 * wordsFor (length b) - length b) 0 ++ stream rest in
+    rw (stream-bytesOf b rest (below-rowBits t ps), readItems-rowBits t ok ps padding e, stray-zeros b (stream rest), pixelsOf-itemsFor t fresh ps (omega arith) e)
+
+-- what packing wrote is unpacked: the bits are those written, and the pixels' bytes the row's own
+pub unpacked-rowBytes : (tb pb rest m : List ℕ) → Below 256 pb → Packable tb (halvesOf pb) → length (halvesOf pb) ≤ length m / 2
+    → unpacked tb (rowBytes (wordsOf tb) (halvesOf pb) ++ rest) (length (halvesOf pb)) m
+      ≡ wrote (length (rowBits (wordsOf tb) (halvesOf pb))) (take (2 * length (halvesOf pb)) pb) m
+unfolding unpacked
+unpacked-rowBytes tb pb rest m bytes ok room =
+    let t = wordsOf tb in
+    let ps = halvesOf pb in
+    let yes′ = unpackNumber-unpackable tb (length ps) (length m / 2) (record { table = ok .table; few = ok .few; room = room }) in
+    rw (yes′, afterRun-rowBytes t (accepted t (tableNumber-verdict tb (ok .table))) ps rest m (ok .pixels), bytesOf-halvesOf pb bytes)

@@ -12,6 +12,7 @@ use Rattle.row_format.specs.Row.{fresh, rowBits, pixelsOf}
 use Rattle.row_format.specs.Reading.{Run, done, stop, readItems, stray}
 use Rattle.answer.specs.declared.Answer.{Answer}
 use Rattle.answer.specs.Outcome.{Outcome, answerOf, outcome, refused, wrote, _orElse_, refuseIf, unless, countUnless}
+pub mod Laws
 
 -- 11: "more than 4096 pixels"
 abbrev pub tooMany : ℕ → ℕ

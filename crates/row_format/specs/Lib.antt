@@ -1,5 +1,7 @@
 pub mod Lists
+pub mod BitLaws
 pub mod Table
 pub mod Row
 pub mod Reading
 pub mod Calls
+pub mod Theorems

@@ -1,2 +1,200 @@
--- The laws of tables. Assumes nothing.
-use mathlib.Core.Path.{_≡_, refl}
+-- The laws of tables: what is true of an accepted one. Assumes nothing.
+use Prim.Native.Nat.{ℕ, zero, suc, _+_, _-_, _*_, _/_, _%_, _^_, _≤_, _<_, max}
+use native.Mathlib.Nat.{le-max-left, le-max-right, max-le, le-refl, eq-or-lt-of-le, le-of-suc-le-suc}
+use native.Mathlib.Decide.{decLt}
+use native.Mathlib.Omega.{arith}
+use mathlib.Core.Path.{_≡_, refl, sym, ap, _∙_}
+use mathlib.Core.Bool.{Bool, true, false, cond, not, _&&_, _||_}
+use mathlib.Core.List.{List, [], _∷_, map}
+use lib.ListN.{length, drop, getD, length-map, length-drop, List·getD-map, List·getD-eq-default}
+use lib.Seq.{getD-drop}
+use lib.IntN.{ℤ, pos, negsuc, _-ℤ_}
+use lib.Signed.{_≤ℤ_}
+use lib.Dec.{leb, ltb, eqb, le→leb}
+use borrow.Author.Tests.{leb-true, ltb-true, ltb-false, eqb-true, not-false, le-leb, lt-ltb, le-ltb, eq-eqb}
+use Rattle.bitstream.specs.Bits.{digits, begins, wordsOf}
+use Rattle.bitstream.specs.Bits.Laws.{length-digits}
+use Rattle.row_format.specs.Lists.{any}
+use Rattle.row_format.specs.Lists.Laws.{by-test, true-false, and-true-all, or-false-left, or-false-right, cond-zero-test, cond-zero-rest, any-false-at}
+use Rattle.row_format.specs.BitLaws.{begins-both}
+use Rattle.row_format.specs.Table.{lowLimit, tableSize, codeword, codewords, codewordAt, escapeLength, signed, entryDifference, hasDifference, wrongSize, wrongWord, wrongCodeword, clash, verdict, tableNumber, longest, maxItemBits}
+
+-- ---- codewords
+pub length-codeword : (w : ℕ) → length (codeword w) ≡ w % 32
+unfolding codeword
+length-codeword w = length-digits (w % 32) (w / 32)
+
+-- a place past the table's end has no bits, in either form, so that no bound on the place is needed
+pub getD-codewords : (t : List ℕ) (j : ℕ) → getD (codewords t) j [] ≡ codewordAt t j
+unfolding codewords codewordAt codeword digits
+getD-codewords t j = List·getD-map codeword (drop 3 t) j 0 ∙ ap codeword (getD-drop 3 t j 0)
+
+pub length-codewordAt : (t : List ℕ) (j : ℕ) → length (codewordAt t j) ≡ getD t (3 + j) 0 % 32
+unfolding codewordAt
+length-codewordAt t j = length-codeword (getD t (3 + j) 0)
+
+pub length-codewords : (t : List ℕ) → length (codewords t) ≡ length t - 3
+unfolding codewords
+length-codewords t = length-map (drop 3 t) codeword ∙ length-drop 3 t
+
+-- ---- the longest
+pub length-longest : (ss : List (List ℕ)) (j : ℕ) → length (getD ss j []) ≤ longest ss
+unfolding longest
+length-longest [] j = omega arith
+length-longest (s ∷ ss) zero = le-max-left (length s) (longest ss)
+length-longest (s ∷ ss) (suc j) = omega (arith, length-longest ss j)
+
+pub longest-most : (ss : List (List ℕ)) (m : ℕ) → ((j : ℕ) → j < length ss → length (getD ss j []) ≤ m) → longest ss ≤ m
+unfolding longest
+longest-most [] m most = omega arith
+longest-most (s ∷ ss) m most = max-le (most 0 (omega arith)) (longest-most ss m (λ j h. most (suc j) (omega arith)))
+
+pub longest-maxItemBits : (t : List ℕ) → longest (codewords t) ≤ maxItemBits t
+unfolding maxItemBits
+longest-maxItemBits t = le-max-left (longest (codewords t)) (escapeLength t + 12)
+
+pub length-codewordAt-most : (t : List ℕ) (j : ℕ) → length (codewordAt t j) ≤ maxItemBits t
+length-codewordAt-most t j =
+    let most : length (codewordAt t j) ≤ longest (codewords t) = rw (getD-codewords t j) at (length-longest (codewords t) j) in
+    omega (arith, longest-maxItemBits t)
+
+pub escapeLength-most : (t : List ℕ) → escapeLength t + 12 ≤ maxItemBits t
+unfolding maxItemBits
+escapeLength-most t = le-max-right (longest (codewords t)) (escapeLength t + 12)
+
+-- ---- a clash of strings
+by-order : (i j : ℕ) → (i < j → ⊥) → (j < i → ⊥) → i ≡ j
+by-order i j less more = by-test (ltb i j) (λ e. absurd (less (ltb-true i j e)))
+    (λ e. by-test (ltb j i) (λ d. absurd (more (ltb-true j i d))) (λ d. omega (arith, ltb-false i j e, ltb-false j i d)))
+
+pub clash-false-at : (ss : List (List ℕ)) (i j : ℕ) → clash ss ≡ false → i < j → j < length ss
+    → (begins (getD ss i []) (getD ss j []) || begins (getD ss j []) (getD ss i [])) ≡ false
+unfolding clash
+clash-false-at [] i j e below h = absurd (omega arith)
+clash-false-at (s ∷ ss) i zero e below h = absurd (omega arith)
+clash-false-at (s ∷ ss) zero (suc j) e below h =
+    any-false-at (λ u. begins s u || begins u s) ss j [] (or-false-left (any (λ u. begins s u || begins u s) ss) (clash ss) e) (omega arith)
+clash-false-at (s ∷ ss) (suc i) (suc j) e below h =
+    clash-false-at ss i j (or-false-right (any (λ u. begins s u || begins u s) ss) (clash ss) e) (omega arith) (omega arith)
+
+-- ---- differences
+-- the signed number that a count from -4093 stands for
+pub signed-least : (k : ℕ) → negsuc 4092 ≤ℤ signed k
+signed-least k = by-test (ltb k 4093)
+    (λ e. record { le = rw e (le→leb (4093 - suc k) 4092 (omega arith)) })
+    (λ e. record { le = rw e tt })
+
+pub signed-most : (k : ℕ) → k ≤ 8186 → signed k ≤ℤ pos 4093
+signed-most k h = by-test (ltb k 4093)
+    (λ e. record { le = rw e tt })
+    (λ e. record { le = rw e (le→leb (k - 4093) 4093 (omega arith)) })
+
+-- ---- accepted tables
+-- a codeword's word: "Lengths are 1 to 27 .. No bit is set above the string"
+pub record RightWord (w : ℕ) : Type 0 where
+  pub least : 1 ≤ w % 32
+  pub most : w % 32 ≤ 27
+  pub above : w / 32 < 2 ^ (w % 32)
+
+pub record Accepted (t : List ℕ) : Type 0 where
+  pub size-least : 1 ≤ tableSize t
+  pub size-most : tableSize t ≤ 8187
+  pub sum-most : lowLimit t + tableSize t ≤ 8187
+  pub words : length t ≡ 6 + tableSize t
+  pub escape-most : escapeLength t ≤ 15
+  pub word : (j : ℕ) → j < 3 + tableSize t → RightWord (getD t (3 + j) 0)
+  pub apart : clash (codewords t) ≡ false
+
+right-word : (w : ℕ) → wrongWord w ≡ false → RightWord w
+unfolding wrongWord
+right-word w e =
+    let parts = and-true-all (leb 1 (w % 32)) (leb (w % 32) 27) (ltb (w / 32) (2 ^ (w % 32))) (not-false _ e) in
+    record {
+      least = leb-true 1 (w % 32) (parts .0);
+      most = leb-true (w % 32) 27 (parts .1);
+      above = ltb-true (w / 32) (2 ^ (w % 32)) (parts .2) }
+
+-- the sizes of an accepted table's header
+record Sized (t : List ℕ) : Type 0 where
+  pub least : 1 ≤ tableSize t
+  pub most : lowLimit t + tableSize t ≤ 8187
+  pub words : length t ≡ 6 + tableSize t
+
+sized : (t : List ℕ) → wrongSize t ≡ false → Sized t
+unfolding wrongSize
+sized t e =
+    let parts = and-true-all (leb 1 (tableSize t)) (leb (lowLimit t + tableSize t) 8187) (eqb (length t) (6 + tableSize t)) (not-false _ e) in
+    record {
+      least = leb-true 1 (tableSize t) (parts .0);
+      most = leb-true (lowLimit t + tableSize t) 8187 (parts .1);
+      words = eqb-true (length t) (6 + tableSize t) (parts .2) }
+
+pub accepted : (t : List ℕ) → verdict t ≡ 0 → Accepted t
+unfolding verdict wrongCodeword
+accepted t e =
+    let size = sized t (cond-zero-test (wrongSize t) 0 _ e) in
+    let rest = cond-zero-rest (wrongSize t) 0 (cond (wrongCodeword t) 2 (cond (clash (codewords t)) 3 0)) e in
+    let right = cond-zero-test (wrongCodeword t) 1 _ rest in
+    let free = cond-zero-rest (wrongCodeword t) 1 (cond (clash (codewords t)) 3 0) rest in
+    record {
+      size-least = size .least;
+      size-most = omega (arith, size .most);
+      sum-most = size .most;
+      words = size .words;
+      escape-most = ltb-false 15 (escapeLength t) (or-false-left (ltb 15 (escapeLength t)) (any wrongWord (drop 3 t)) right);
+      word = λ j h.
+        let inside : j < length (drop 3 t) = omega (arith, length-drop 3 t, size .words) in
+        right-word (getD t (3 + j) 0) (rw (getD-drop 3 t j 0) at
+          (any-false-at wrongWord (drop 3 t) j 0 (or-false-right (ltb 15 (escapeLength t)) (any wrongWord (drop 3 t)) right) inside));
+      apart = cond-zero-test (clash (codewords t)) 2 0 free }
+
+-- of a table's bytes
+pub tableNumber-whole : (b : List ℕ) → tableNumber b ≡ 0 → length b % 4 ≡ 0
+unfolding tableNumber
+tableNumber-whole b e = by-test (eqb (length b % 4) 0) (eqb-true (length b % 4) 0) (λ odd. absurd (omega (arith, rw odd at e)))
+
+pub tableNumber-verdict : (b : List ℕ) → tableNumber b ≡ 0 → verdict (wordsOf b) ≡ 0
+unfolding tableNumber
+tableNumber-verdict b e = rw (eq-eqb (length b % 4) 0 (tableNumber-whole b e)) at e
+
+module _ (t : List ℕ) (ok : Accepted t) where
+  -- "Lengths are 1 to 27"
+  pub codewordAt-least : (j : ℕ) → j < 3 + tableSize t → 1 ≤ length (codewordAt t j)
+  codewordAt-least j h = rw (length-codewordAt t j) (ok .word j h .least)
+
+  pub codewordAt-most : (j : ℕ) → j < 3 + tableSize t → length (codewordAt t j) ≤ 27
+  codewordAt-most j h = rw (length-codewordAt t j) (ok .word j h .most)
+
+  -- "the raw string's 1 to 15"
+  pub escapeLength-least : 1 ≤ escapeLength t
+  escapeLength-least = ok .word 0 (omega arith) .least
+
+  pub length-codewords-size : length (codewords t) ≡ 3 + tableSize t
+  length-codewords-size = omega (arith, length-codewords t, ok .words)
+
+  -- two strings that begin the same bits are one
+  codewordAt-below : (i j : ℕ) (r : List ℕ) → i < j → j < 3 + tableSize t
+      → begins (codewordAt t i) r ≡ true → begins (codewordAt t j) r ≡ true → ⊥
+  codewordAt-below i j r below h p q =
+      true-false (begins-both (codewordAt t i) (codewordAt t j) r p q)
+        (rw (getD-codewords t i, getD-codewords t j) at
+          (clash-false-at (codewords t) i j (ok .apart) below (omega (arith, length-codewords-size))))
+
+  pub codewordAt-only : (i j : ℕ) (r : List ℕ) → i < 3 + tableSize t → j < 3 + tableSize t
+      → begins (codewordAt t i) r ≡ true → begins (codewordAt t j) r ≡ true → i ≡ j
+  codewordAt-only i j r hi hj p q = by-order i j (λ below. codewordAt-below i j r below hj p q) (λ below. codewordAt-below j i r below hi q p)
+
+  -- M
+  pub maxItemBits-least : 13 ≤ maxItemBits t
+  maxItemBits-least = omega (arith, escapeLength-most t, escapeLength-least)
+
+  pub maxItemBits-most : maxItemBits t ≤ 27
+  unfolding maxItemBits
+  maxItemBits-most =
+      let each : longest (codewords t) ≤ 27 = longest-most (codewords t) 27
+            (λ j h. rw (getD-codewords t j) (codewordAt-most j (omega (arith, length-codewords-size)))) in
+      omega (arith, ok .escape-most)
+
+  -- "So steps lie within -4093 to 4093"
+  pub entryDifference-most : (i : ℕ) → i < tableSize t → entryDifference t i ≤ 8186
+  entryDifference-most i h = omega (arith, ok .sum-most)

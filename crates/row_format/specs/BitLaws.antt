@@ -1,0 +1,83 @@
+-- Laws of bits that tables and rows need. Assumes nothing.
+use Prim.Native.Nat.{ℕ, zero, suc, _+_, _-_, _*_, _/_, _%_, _^_, _≤_, _<_}
+use native.Mathlib.Nat.{le-of-suc-le-suc, not-suc-le-zero}
+use native.Mathlib.Omega.{arith}
+use mathlib.Core.Path.{_≡_, refl, sym, ap, _∙_}
+use mathlib.Core.Bool.{Bool, true, false, _&&_, _||_}
+use mathlib.Core.List.{List, [], _∷_, _++_, append-assoc, append-nil}
+use lib.ListN.{length, take, drop, replicate, length-append}
+use lib.Seq.{take-append-add}
+use lib.Dec.{eqb}
+use borrow.Author.Tests.{eq-eqb, eqb-true}
+use Rattle.bitstream.specs.Bits.{flat, cut, bitsOf, bytesOf, stream, wordsFor, begins}
+use Rattle.bitstream.specs.Bits.Laws.{Below, pad, pad-all, length-cut, flat-append, flat-cut, cut-flat}
+use Rattle.row_format.specs.Lists.Laws.{by-test, true-false, and-true-left, and-true-right}
+
+-- ---- pad
+pub pad-within : (k : ℕ) (b : List ℕ) → k ≤ length b → pad k b ≡ take k b
+pad-within zero b h = refl
+pad-within (suc k) [] h = absurd (omega arith)
+pad-within (suc k) (x ∷ b) h = ap (x ∷_) (pad-within k b (omega arith))
+
+-- ---- bytes
+pub bytesOf-bitsOf : (n : ℕ) (s : List ℕ) → Below 256 s → length s ≡ n → bytesOf n (bitsOf s) ≡ s
+bytesOf-bitsOf n s bytes size =
+    ap (λ (k : ℕ). cut 8 k (flat 8 s)) (sym size) ∙ ap (cut 8 (length s)) (sym (append-nil (flat 8 s))) ∙ cut-flat 8 s [] bytes
+
+-- ---- streams of words
+-- whole words stand in front of a stream by their bits
+pub stream-append : (w : ℕ) (a s : List ℕ) → length a ≡ 4 * w → stream (a ++ s) ≡ bitsOf a ++ stream s
+stream-append w a s h =
+    let whole : 4 * (length (a ++ s) / 4) ≡ length a + 4 * (length s / 4) = rw (length-append a s) (omega arith) in
+    rw (whole, take-append-add a s (4 * (length s / 4)), flat-append 8 a (take (4 * (length s / 4)) s))
+
+-- the whole words that some bits fill, and what follows them: the bits, zeros up to the end of the last word, and the rest
+pub stream-bytesOf : (b s : List ℕ) → Below 2 b
+    → stream (bytesOf (4 * wordsFor (length b)) b ++ s) ≡ b ++ (replicate (32 * wordsFor (length b) - length b) 0 ++ stream s)
+stream-bytesOf b s bin =
+    let w = wordsFor (length b) in
+    let place : 8 * (4 * wordsFor (length b)) ≡ 32 * wordsFor (length b) = omega arith in
+    stream-append w (bytesOf (4 * w) b) s (length-cut 8 (4 * w) b)
+    ∙ rw (flat-cut 8 (4 * w) b bin, place, pad-all (32 * w) b (omega arith)) (append-assoc b (replicate (32 * w - length b) 0) (stream s))
+
+-- ---- begins
+-- of two strings that begin the same bits, one begins the other
+pub begins-both : (a b r : List ℕ) → begins a r ≡ true → begins b r ≡ true → (begins a b || begins b a) ≡ true
+unfolding begins
+begins-both [] b r p q = refl
+begins-both (x ∷ a) [] r p q = refl
+begins-both (x ∷ a) (y ∷ b) [] p q = true-false q refl
+begins-both (x ∷ a) (y ∷ b) (c ∷ r) p q =
+    let xc : x ≡ c = eqb-true x c (and-true-left (eqb x c) (begins a r) p) in
+    let yc : y ≡ c = eqb-true y c (and-true-left (eqb y c) (begins b r) q) in
+    rw (eq-eqb x y (xc ∙ sym yc), eq-eqb y x (yc ∙ sym xc))
+       (begins-both a b r (and-true-right (eqb x c) (begins a r) p) (and-true-right (eqb y c) (begins b r) q))
+
+pub begins-length : (a r : List ℕ) → begins a r ≡ true → length a ≤ length r
+unfolding begins
+begins-length [] r p = omega arith
+begins-length (x ∷ a) [] p = true-false p refl
+begins-length (x ∷ a) (c ∷ r) p = let q : length a ≤ length r = begins-length a r (and-true-right (eqb x c) (begins a r) p) in omega arith
+
+-- of two strings of one length, either begins the other
+pub begins-swap : (a r : List ℕ) → length r ≤ length a → begins a r ≡ true → begins r a ≡ true
+unfolding begins
+begins-swap [] [] h p = refl
+begins-swap [] (c ∷ r) h p = absurd (omega arith)
+begins-swap (x ∷ a) [] h p = refl
+begins-swap (x ∷ a) (c ∷ r) h p =
+    rw (eq-eqb c x (sym (eqb-true x c (and-true-left (eqb x c) (begins a r) p))))
+       (begins-swap a r (omega arith) (and-true-right (eqb x c) (begins a r) p))
+
+-- only as many bits are looked at as the string has
+pub begins-take : (a r : List ℕ) (k : ℕ) → length a ≤ k → begins a (take k r) ≡ begins a r
+unfolding begins
+begins-take [] r k h = refl
+begins-take (x ∷ a) r zero h = absurd (omega arith)
+begins-take (x ∷ a) [] (suc k) h = refl
+begins-take (x ∷ a) (c ∷ r) (suc k) h = ap (λ (q : Bool). eqb x c && q) (begins-take a r k (omega arith))
+
+pub begins-append : (a r : List ℕ) → begins a (a ++ r) ≡ true
+unfolding begins
+begins-append [] r = refl
+begins-append (x ∷ a) r = rw (eq-eqb x x refl) (begins-append a r)

@@ -1,0 +1,66 @@
+-- The laws of the calls' numbers: when each refusal is given. Assumes nothing.
+use Prim.Native.Nat.{ℕ, zero, suc, _+_, _*_, _/_, _≤_, _<_}
+use native.Mathlib.Omega.{arith}
+use mathlib.Core.Path.{_≡_, refl, sym, ap, _∙_}
+use mathlib.Core.Bool.{Bool, true, false, cond}
+use mathlib.Core.List.{List, [], _∷_, _++_}
+use mathlib.Core.Logic.{_↔_}
+use lib.ListN.{length}
+use lib.Dec.{ltb}
+use borrow.Author.Tests.{ltb-true, ltb-false, lt-ltb, le-ltb}
+use Rattle.bitstream.specs.Bits.{wordsOf, wordsFor}
+use Rattle.answer.specs.Outcome.{_orElse_, refuseIf}
+use Rattle.row_format.specs.Lists.{any}
+use Rattle.row_format.specs.Lists.Laws.{by-test, cond-zero-test}
+use Rattle.row_format.specs.Table.{tableNumber}
+use Rattle.row_format.specs.Row.{rowBits}
+use Rattle.row_format.specs.Calls.{tooMany, packNumber, unpackNumber}
+
+-- ---- refusals in order: none is given exactly where none of the parts is
+pub orElse-zero-left : (a b : ℕ) → a orElse b ≡ 0 → a ≡ 0
+orElse-zero-left zero b e = refl
+orElse-zero-left (suc a) b e = absurd (omega arith)
+
+pub orElse-zero-right : (a b : ℕ) → a orElse b ≡ 0 → b ≡ 0
+orElse-zero-right zero b e = e
+orElse-zero-right (suc a) b e = absurd (omega arith)
+
+-- ---- packing
+-- what the refusals before the one for room ask of a table and a row
+pub record Packable (tb ps : List ℕ) : Type 0 where
+  pub table : tableNumber tb ≡ 0
+  pub few : length ps ≤ 4096
+  pub pixels : any (ltb 4095) ps ≡ false
+
+pub packNumber-packable : (tb ps : List ℕ) (roomWords : ℕ) → Packable tb ps
+    → packNumber tb ps roomWords ≡ refuseIf (ltb roomWords (wordsFor (length (rowBits (wordsOf tb) ps)))) 5
+unfolding packNumber
+packNumber-packable tb ps roomWords ok = rw (ok .table, le-ltb 4096 (length ps) (ok .few), ok .pixels)
+
+-- done: packable, and with room enough
+pub packable : (tb ps : List ℕ) (roomWords : ℕ) → packNumber tb ps roomWords ≡ 0 → Packable tb ps
+unfolding packNumber
+packable tb ps roomWords e =
+    let full = refuseIf (ltb roomWords (wordsFor (length (rowBits (wordsOf tb) ps)))) 5 in
+    let rest = refuseIf (any (ltb 4095) ps) 4 orElse full in
+    let after-table = orElse-zero-right (tableNumber tb) (tooMany (length ps) orElse rest) e in
+    let after-few = orElse-zero-right (tooMany (length ps)) rest after-table in
+    record {
+      table = orElse-zero-left (tableNumber tb) (tooMany (length ps) orElse rest) e;
+      few = ltb-false 4096 (length ps) (cond-zero-test (ltb 4096 (length ps)) 10 0 (orElse-zero-left (tooMany (length ps)) rest after-table));
+      pixels = cond-zero-test (any (ltb 4095) ps) 3 0 (orElse-zero-left (refuseIf (any (ltb 4095) ps) 4) full after-few) }
+
+pub packNumber-zero-room : (tb ps : List ℕ) (roomWords : ℕ) → packNumber tb ps roomWords ≡ 0 → wordsFor (length (rowBits (wordsOf tb) ps)) ≤ roomWords
+packNumber-zero-room tb ps roomWords e =
+    let need = wordsFor (length (rowBits (wordsOf tb) ps)) in
+    ltb-false roomWords need (cond-zero-test (ltb roomWords need) 4 0 (sym (packNumber-packable tb ps roomWords (packable tb ps roomWords e)) ∙ e))
+
+-- ---- unpacking
+pub record Unpackable (tb : List ℕ) (n roomPixels : ℕ) : Type 0 where
+  pub table : tableNumber tb ≡ 0
+  pub few : n ≤ 4096
+  pub room : n ≤ roomPixels
+
+pub unpackNumber-unpackable : (tb : List ℕ) (n roomPixels : ℕ) → Unpackable tb n roomPixels → unpackNumber tb n roomPixels ≡ 0
+unfolding unpackNumber
+unpackNumber-unpackable tb n roomPixels ok = rw (ok .table, le-ltb 4096 n (ok .few), le-ltb roomPixels n (ok .room))

@@ -1,0 +1,82 @@
+-- The laws of tests and of tests over lists. Assumes nothing.
+use Prim.Native.Nat.{ℕ, zero, suc, _≤_, _<_}
+use native.Mathlib.Omega.{arith}
+use mathlib.Core.Path.{_≡_, refl, sym, ap, _∙_}
+use mathlib.Core.Bool.{Bool, true, false, cond, not, _&&_, _||_}
+use mathlib.Core.List.{List, [], _∷_}
+use mathlib.Core.Logic.{_⊎_, inl, inr}
+use lib.ListN.{length, getD}
+use Rattle.row_format.specs.Lists.{any, least}
+
+-- ---- tests
+-- a test's two ways, with what each says
+pub by-test : {A : Type 0} (b : Bool) → (b ≡ true → A) → (b ≡ false → A) → A
+by-test true yes′ no′ = yes′ refl
+by-test false yes′ no′ = no′ refl
+
+pub true-false : {A : Type 0} {b : Bool} → b ≡ true → b ≡ false → A
+true-false p q = absurd (let z : _≡_ {A = ℕ} 0 1 = cc in omega arith)
+
+pub and-true-left : (a b : Bool) → (a && b) ≡ true → a ≡ true
+and-true-left true b e = refl
+and-true-left false b e = e
+
+pub and-true-right : (a b : Bool) → (a && b) ≡ true → b ≡ true
+and-true-right true b e = e
+and-true-right false b e = true-false e refl
+
+pub and-true-all : (a b c : Bool) → (a && (b && c)) ≡ true → (a ≡ true) × (b ≡ true) × (c ≡ true)
+and-true-all true true c e = (refl, refl, e)
+and-true-all true false c e = true-false e refl
+and-true-all false b c e = true-false e refl
+
+pub or-false-left : (a b : Bool) → (a || b) ≡ false → a ≡ false
+or-false-left true b e = e
+or-false-left false b e = refl
+
+pub or-false-right : (a b : Bool) → (a || b) ≡ false → b ≡ false
+or-false-right true b e = true-false refl e
+or-false-right false b e = e
+
+-- a refusal that isn't given: its test failed, and what comes after it isn't given either
+pub cond-zero-test : (b : Bool) (e d : ℕ) → cond b (suc e) d ≡ 0 → b ≡ false
+cond-zero-test true e d z = absurd (omega arith)
+cond-zero-test false e d z = refl
+
+pub cond-zero-rest : (b : Bool) (e d : ℕ) → cond b (suc e) d ≡ 0 → d ≡ 0
+cond-zero-rest true e d z = absurd (omega arith)
+cond-zero-rest false e d z = z
+
+-- ---- any
+module _ {A : Type 0} (f : A → Bool) where
+  pub any-false-at : (xs : List A) (i : ℕ) (d : A) → any f xs ≡ false → i < length xs → f (getD xs i d) ≡ false
+  unfolding any
+  any-false-at [] i d e h = absurd (omega arith)
+  any-false-at (x ∷ xs) zero d e h = or-false-left (f x) (any f xs) e
+  any-false-at (x ∷ xs) (suc i) d e h = any-false-at xs i d (or-false-right (f x) (any f xs) e) (omega arith)
+
+-- ---- least
+pub least-within : (f : ℕ → Bool) (n : ℕ) → least f n ≤ n
+unfolding least
+least-within f zero = omega arith
+least-within f (suc n) = by-test (f 0) (λ e. rw e (omega arith)) (λ e. rw e (let q : least (λ k. f (suc k)) n ≤ n = least-within (λ k. f (suc k)) n in omega arith))
+
+pub least-most : (f : ℕ → Bool) (n k : ℕ) → f k ≡ true → least f n ≤ k
+unfolding least
+least-most f zero k e = omega arith
+least-most f (suc n) zero e = rw e (omega arith)
+least-most f (suc n) (suc k) e = by-test (f 0) (λ z. rw z (omega arith)) (λ z. rw z (let q : least (λ k. f (suc k)) n ≤ k = least-most (λ k. f (suc k)) n k e in omega arith))
+
+least-zero : (f : ℕ → Bool) (n : ℕ) → f 0 ≡ true → least f n ≡ 0
+unfolding least
+least-zero f zero e = refl
+least-zero f (suc n) e = rw e
+
+-- two tests that agree as far as a number that passes have the same least
+pub least-same : (f g : ℕ → Bool) (m n k : ℕ) → k ≤ m → k ≤ n → ((j : ℕ) → j ≤ k → f j ≡ g j) → f k ≡ true → least f m ≡ least g n
+unfolding least
+least-same f g m n zero hm hn same e = least-zero f m e ∙ sym (least-zero g n (sym (same 0 (omega arith)) ∙ e))
+least-same f g zero n (suc k) hm hn same e = absurd (omega arith)
+least-same f g (suc m) zero (suc k) hm hn same e = absurd (omega arith)
+least-same f g (suc m) (suc n) (suc k) hm hn same e =
+    rw (same 0 (omega arith), least-same (λ j. f (suc j)) (λ j. g (suc j)) m n k (omega arith) (omega arith) (λ j h. same (suc j) (omega arith)) e)

@@ -1,0 +1,6 @@
+-- The theorems of demands 2 and 3. Assumes nothing.
+use mathlib.Core.Path.{_≡_, refl}
+pub mod Search
+pub mod Bounds
+pub mod RoundTrip
+pub mod Words

@@ -4,3 +4,4 @@ pub mod Search
 pub mod Bounds
 pub mod RoundTrip
 pub mod Words
+pub mod Locality

@@ -8,13 +8,13 @@ use mathlib.Core.Logic.{_↔_}
 use lib.ListN.{length}
 use lib.Dec.{ltb}
 use borrow.Author.Tests.{ltb-true, ltb-false, lt-ltb, le-ltb}
-use Rattle.bitstream.specs.Bits.{wordsOf, wordsFor}
-use Rattle.answer.specs.Outcome.{_orElse_, refuseIf}
+use Rattle.bitstream.specs.Bits.{wordsOf, halvesOf, bytesOf, wordsFor}
+use Rattle.answer.specs.Outcome.{_orElse_, refuseIf, wrote}
 use Rattle.row_format.specs.Lists.{any}
 use Rattle.row_format.specs.Lists.Laws.{by-test, cond-zero-test}
 use Rattle.row_format.specs.Table.{tableNumber}
 use Rattle.row_format.specs.Row.{rowBits}
-use Rattle.row_format.specs.Calls.{tooMany, packNumber, unpackNumber}
+use Rattle.row_format.specs.Calls.{tooMany, packNumber, packedRow, packed, unpackNumber}
 
 -- ---- refusals in order: none is given exactly where none of the parts is
 pub orElse-zero-left : (a b : ℕ) → a orElse b ≡ 0 → a ≡ 0
@@ -54,6 +54,15 @@ pub packNumber-zero-room : (tb ps : List ℕ) (roomWords : ℕ) → packNumber t
 packNumber-zero-room tb ps roomWords e =
     let need = wordsFor (length (rowBits (wordsOf tb) ps)) in
     ltb-false roomWords need (cond-zero-test (ltb roomWords need) 4 0 (sym (packNumber-packable tb ps roomWords (packable tb ps roomWords e)) ∙ e))
+
+-- the bytes that packing writes for a row
+abbrev pub rowBytes : List ℕ → List ℕ → List ℕ
+rowBytes t ps = bytesOf (4 * wordsFor (length (rowBits t ps))) (rowBits t ps)
+
+pub packed-done : (tb pb m : List ℕ) → packNumber tb (halvesOf pb) (length m / 4) ≡ 0
+    → packed tb pb m ≡ wrote (length (rowBits (wordsOf tb) (halvesOf pb))) (rowBytes (wordsOf tb) (halvesOf pb)) m
+unfolding packed packedRow
+packed-done tb pb m e = rw e
 
 -- ---- unpacking
 pub record Unpackable (tb : List ℕ) (n roomPixels : ℕ) : Type 0 where

@@ -5,3 +5,5 @@ pub mod Bounds
 pub mod RoundTrip
 pub mod Words
 pub mod Locality
+pub mod Room
+pub mod Tightness

@@ -81,3 +81,10 @@ pub begins-append : (a r : List ℕ) → begins a (a ++ r) ≡ true
 unfolding begins
 begins-append [] r = refl
 begins-append (x ∷ a) r = rw (eq-eqb x x refl) (begins-append a r)
+
+pub begins-drop : (a r : List ℕ) → begins a r ≡ true → r ≡ a ++ drop (length a) r
+unfolding begins
+begins-drop [] r p = refl
+begins-drop (x ∷ a) [] p = true-false p refl
+begins-drop (x ∷ a) (c ∷ r) p =
+    rw (eqb-true x c (and-true-left (eqb x c) (begins a r) p)) (ap (c ∷_) (begins-drop a r (and-true-right (eqb x c) (begins a r) p)))

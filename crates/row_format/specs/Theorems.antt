@@ -7,3 +7,4 @@ pub mod Words
 pub mod Locality
 pub mod Room
 pub mod Tightness
+pub mod Standing

@@ -8,7 +8,7 @@ use mathlib.Core.List.{List, [], _∷_, _++_, append-assoc}
 use lib.ListN.{length, take, drop, getD, replicate, length-append}
 use lib.Seq.{drop-append-seam, take-append-seam, drop-at, take-at}
 use lib.Dec.{leb, ltb, eqb}
-use borrow.Author.Tests.{leb-true, le-leb, ltb-true, ltb-false, lt-ltb, le-ltb, eqb-true, eqb-false}
+use borrow.Author.Tests.{leb-true, le-leb, ltb-true, ltb-false, lt-ltb, le-ltb, eqb-true, eqb-false, ne-eqb}
 use Rattle.bitstream.specs.Bits.{digits, numOf, flat, begins, bytesOf, wordsOf, halvesOf, stream, wordsFor}
 use Rattle.bitstream.specs.Bits.Laws.{Below, length-digits, numOf-digits}
 use Rattle.answer.specs.Outcome.{Outcome, wrote}
@@ -98,6 +98,11 @@ itemFor-right t s p height most = by-test (eqb p 4095)
           fits = (has, rw (le-leb 4093 (previous s + differenceTo s p) (omega arith), le-leb (previous s + differenceTo s p) 8186 (omega arith)));
           pixel = omega arith }))
         (λ has. rw has (record { fits = omega arith; pixel = refl }))))))
+
+-- a height whose difference the table lacks is written as the height itself
+pub itemFor-escape : (t : List ℕ) (s : State) (p : ℕ) → p ≤ 4093 → byDifference t s p ≡ false → itemFor t s p ≡ escape p
+unfolding itemFor
+itemFor-escape t s p h e = rw (ne-eqb p 4095 (λ q. omega arith), ne-eqb p 4094 (λ q. omega arith), e)
 
 -- ---- a row
 abbrev pub FitAll : List ℕ → State → List Item → Type 0

@@ -8,3 +8,4 @@ pub mod Locality
 pub mod Room
 pub mod Tightness
 pub mod Standing
+pub mod OwnWords

@@ -11,9 +11,9 @@ use lib.Seq.{length-take-le, take-take, take-nil}
 use lib.Dec.{ltb}
 use borrow.Author.Tests.{le-ltb}
 use Rattle.bitstream.specs.Bits.{numOf, flat, begins, bitsOf, wordsOf, stream, wordsFor}
-use Rattle.bitstream.specs.Bits.Laws.{length-flat, flat-take}
 use Rattle.row_format.specs.Lists.{any, least}
 use Rattle.row_format.specs.Lists.Laws.{least-same}
+use Rattle.row_format.specs.BitLaws.{stream-take, length-stream}
 use Rattle.row_format.specs.Table.{lowLimit, codewords, codewordAt, longest, escapeLength, maxItemBits}
 use Rattle.row_format.specs.Table.Laws.{length-codewordAt, longest-maxItemBits, escapeLength-most}
 use Rattle.row_format.specs.Row.{Item, State, fresh, after}
@@ -106,16 +106,6 @@ front : (t : List ℕ) (n : ℕ) (r m : List ℕ) (w : ℕ) → n * maxItemBits 
 front t n r m w enough within =
     rw (readItems-take t n r (32 * w) enough within)
     (afterRun-take r n m (readItems t n r) (32 * w) (omega (arith, readItems-uses t n r)))
-
-stream-take : (wb : List ℕ) (w : ℕ) → 4 * w ≤ length wb → take (32 * w) (stream wb) ≡ bitsOf (take (4 * w) wb)
-stream-take wb w h =
-    let place : 32 * w ≡ 8 * (4 * w) = omega arith in
-    rw (place) (sym (flat-take 8 (4 * w) (take (4 * (length wb / 4)) wb)) ∙ rw (take-take (4 * w) (4 * (length wb / 4)) wb (omega arith)))
-
-length-stream : (wb : List ℕ) → length (stream wb) ≡ 32 * (length wb / 4)
-length-stream wb =
-    let size : length (take (4 * (length wb / 4)) wb) ≡ 4 * (length wb / 4) = length-take-le (4 * (length wb / 4)) wb (omega arith) in
-    rw (length-flat 8 (take (4 * (length wb / 4)) wb), size) (omega arith)
 
 pub unpacked-alike : (tb wb wb′ : List ℕ) (n : ℕ) (m : List ℕ)
     → let k = wordsFor (n * maxItemBits (wordsOf tb)) in

@@ -9,3 +9,4 @@ pub mod Room
 pub mod Tightness
 pub mod Standing
 pub mod OwnWords
+pub mod Memory

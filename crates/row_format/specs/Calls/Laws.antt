@@ -9,7 +9,7 @@ use lib.ListN.{length}
 use lib.Dec.{ltb}
 use borrow.Author.Tests.{ltb-true, ltb-false, lt-ltb, le-ltb}
 use Rattle.bitstream.specs.Bits.{wordsOf, halvesOf, bytesOf, wordsFor}
-use Rattle.answer.specs.Outcome.{_orElse_, refuseIf, wrote}
+use Rattle.answer.specs.Outcome.{_orElse_, refuseIf, refused, wrote}
 use Rattle.row_format.specs.Lists.{any}
 use Rattle.row_format.specs.Lists.Laws.{by-test, cond-zero-test}
 use Rattle.row_format.specs.Table.{tableNumber}
@@ -64,6 +64,10 @@ pub packed-done : (tb pb m : List ℕ) → packNumber tb (halvesOf pb) (length m
 unfolding packed packedRow
 packed-done tb pb m e = rw e
 
+pub packed-refused : (tb pb m : List ℕ) (e : ℕ) → packNumber tb (halvesOf pb) (length m / 4) ≡ suc e → packed tb pb m ≡ refused (suc e) m
+unfolding packed
+packed-refused tb pb m e h = rw h
+
 -- ---- unpacking
 pub record Unpackable (tb : List ℕ) (n roomPixels : ℕ) : Type 0 where
   pub table : tableNumber tb ≡ 0
@@ -73,3 +77,13 @@ pub record Unpackable (tb : List ℕ) (n roomPixels : ℕ) : Type 0 where
 pub unpackNumber-unpackable : (tb : List ℕ) (n roomPixels : ℕ) → Unpackable tb n roomPixels → unpackNumber tb n roomPixels ≡ 0
 unfolding unpackNumber
 unpackNumber-unpackable tb n roomPixels ok = rw (ok .table, le-ltb 4096 n (ok .few), le-ltb roomPixels n (ok .room))
+
+pub unpackable : (tb : List ℕ) (n roomPixels : ℕ) → unpackNumber tb n roomPixels ≡ 0 → Unpackable tb n roomPixels
+unfolding unpackNumber
+unpackable tb n roomPixels e =
+    let full = refuseIf (ltb roomPixels n) 5 in
+    let after-table = orElse-zero-right (tableNumber tb) (tooMany n orElse full) e in
+    record {
+      table = orElse-zero-left (tableNumber tb) (tooMany n orElse full) e;
+      few = ltb-false 4096 n (cond-zero-test (ltb 4096 n) 10 0 (orElse-zero-left (tooMany n) full after-table));
+      room = ltb-false roomPixels n (cond-zero-test (ltb roomPixels n) 4 0 (orElse-zero-right (tooMany n) full after-table)) }

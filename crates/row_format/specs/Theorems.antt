@@ -10,3 +10,4 @@ pub mod Tightness
 pub mod Standing
 pub mod OwnWords
 pub mod Memory
+pub mod Numbers

@@ -5,11 +5,13 @@ use mathlib.Core.Path.{_≡_, refl, sym, ap, _∙_}
 use mathlib.Core.Bool.{Bool, true, false, cond}
 use mathlib.Core.List.{List, [], _∷_, _++_}
 use mathlib.Core.Logic.{_↔_}
-use lib.ListN.{length}
+use lib.ListN.{length, take, drop}
+use lib.Seq.{take-at}
 use lib.Dec.{ltb}
 use borrow.Author.Tests.{ltb-true, ltb-false, lt-ltb, le-ltb}
 use Rattle.bitstream.specs.Bits.{wordsOf, halvesOf, bytesOf, wordsFor}
-use Rattle.answer.specs.Outcome.{_orElse_, refuseIf, refused, wrote}
+use Rattle.bitstream.specs.Bits.Laws.{length-cut}
+use Rattle.answer.specs.Outcome.{Outcome, _orElse_, refuseIf, refused, wrote, unless}
 use Rattle.row_format.specs.Lists.{any}
 use Rattle.row_format.specs.Lists.Laws.{by-test, cond-zero-test}
 use Rattle.row_format.specs.Table.{tableNumber}
@@ -24,6 +26,10 @@ orElse-zero-left (suc a) b e = absurd (omega arith)
 pub orElse-zero-right : (a b : ℕ) → a orElse b ≡ 0 → b ≡ 0
 orElse-zero-right zero b e = e
 orElse-zero-right (suc a) b e = absurd (omega arith)
+
+pub unless-number : (e : ℕ) (m : List ℕ) (o : Outcome) → o .answer .number ≡ 0 → unless e m o .answer .number ≡ e
+unless-number zero m o h = h
+unless-number (suc e) m o h = refl
 
 -- ---- packing
 -- what the refusals before the one for room ask of a table and a row
@@ -67,6 +73,19 @@ packed-done tb pb m e = rw e
 pub packed-refused : (tb pb m : List ℕ) (e : ℕ) → packNumber tb (halvesOf pb) (length m / 4) ≡ suc e → packed tb pb m ≡ refused (suc e) m
 unfolding packed
 packed-refused tb pb m e h = rw h
+
+-- the number that a packing answers is that of its refusals
+pub packed-number : (tb pb m : List ℕ) → packed tb pb m .answer .number ≡ packNumber tb (halvesOf pb) (length m / 4)
+unfolding packed packedRow
+packed-number tb pb m = unless-number (packNumber tb (halvesOf pb) (length m / 4)) m (packedRow (wordsOf tb) (halvesOf pb) m) refl
+
+-- the words that a done packing wrote
+pub packed-front : (tb pb m : List ℕ) → packNumber tb (halvesOf pb) (length m / 4) ≡ 0
+    → take (4 * wordsFor (packed tb pb m .answer .count)) (packed tb pb m .memory) ≡ rowBytes (wordsOf tb) (halvesOf pb)
+packed-front tb pb m e =
+    let b = rowBits (wordsOf tb) (halvesOf pb) in
+    let front = rowBytes (wordsOf tb) (halvesOf pb) in
+    rw (packed-done tb pb m e) (take-at front (drop (length front) m) (4 * wordsFor (length b)) (length-cut 8 (4 * wordsFor (length b)) b))
 
 -- ---- unpacking
 pub record Unpackable (tb : List ℕ) (n roomPixels : ℕ) : Type 0 where

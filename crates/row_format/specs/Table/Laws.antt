@@ -89,6 +89,24 @@ signed-most k h = by-test (ltb k 4093)
     (λ e. record { le = rw e tt })
     (λ e. record { le = rw e (le→leb (k - 4093) 4093 (omega arith)) })
 
+-- pixel minus previous, as a count from -4093, stands for that difference
+pub signed-differenceTo : (p q : ℕ) → q ≤ 4093 → signed (p + 4093 - q) ≡ pos p -ℤ pos q
+signed-differenceTo p zero h =
+    let k = p + 4093 - 0 in
+    let value : p + 4093 - 0 - 4093 ≡ p + 0 = omega arith in
+    rw (le-ltb k 4093 (omega arith)) (ap pos value)
+signed-differenceTo p (suc q) h =
+    let k = p + 4093 - suc q in
+    by-test (ltb p (suc q))
+    (λ e.
+      let less = ltb-true p (suc q) e in
+      let value : 4093 - suc (p + 4093 - suc q) ≡ suc q - suc p = omega arith in
+      rw (e, lt-ltb k 4093 (omega arith)) (ap negsuc value))
+    (λ e.
+      let more = ltb-false p (suc q) e in
+      let value : p + 4093 - suc q - 4093 ≡ p - suc q = omega arith in
+      rw (e, le-ltb k 4093 (omega arith)) (ap pos value))
+
 -- ---- accepted tables
 -- a codeword's word: "Lengths are 1 to 27 .. No bit is set above the string"
 pub record RightWord (w : ℕ) : Type 0 where

@@ -11,3 +11,4 @@ pub mod Standing
 pub mod OwnWords
 pub mod Memory
 pub mod Numbers
+pub mod Done

@@ -47,11 +47,11 @@ module _ (P : ℕ → Type 0) where
       (refuseIf-in (ltb roomWords (wordsFor (length (rowBits (wordsOf tb) ps)))) 5 p0 p5)))
 
   -- ---- reading
-  abbrev FaultIn : Reading → Type 0
+  abbrev pub FaultIn : Reading → Type 0
   FaultIn (item i u) = Unit {0}
   FaultIn (fault e u) = P e
 
-  abbrev StopIn : Run → Type 0
+  abbrev pub StopIn : Run → Type 0
   StopIn (done is u) = Unit {0}
   StopIn (stop e at u) = P e
 

@@ -7,21 +7,23 @@ use mathlib.Core.Bool.{Bool, true, false, cond, _&&_, _||_}
 use mathlib.Core.List.{List, [], _∷_, _++_}
 use mathlib.Core.Logic.{_↔_}
 use lib.ListN.{length, take, drop, replicate, length-drop, length-append}
-use lib.Seq.{length-take-le, take-append-add}
+use lib.Seq.{length-take-le, take-append-add, take-at}
 use lib.Dec.{leb, ltb, eqb}
 use borrow.Author.Tests.{leb-true, le-ltb, ltb-false, eqb-true, eqb-false, ne-eqb}
-use Rattle.bitstream.specs.Bits.{flat, bitsOf, bytesOf, stream, wordsFor}
-use Rattle.bitstream.specs.Bits.Laws.{Below, below-head, below-tail, below-take, below-drop, below-flat, below-cut, length-cut, flat-cut, pad-all}
+use Rattle.bitstream.specs.Bits.{flat, bitsOf, bytesOf, wordsOf, halvesOf, stream, wordsFor}
+use Rattle.bitstream.specs.Bits.Laws.{Below, below-nil, below-cons, below-head, below-tail, below-take, below-drop, below-flat, below-cut, length-cut, flat-cut, pad-all}
 use Rattle.row_format.specs.Lists.{any}
 use Rattle.row_format.specs.Lists.Laws.{by-test, true-false, and-true-left, and-true-right, or-false-left, or-false-right}
 use Rattle.row_format.specs.BitLaws.{bitsOf-inj, stream-take, length-stream}
 use Rattle.row_format.specs.Table.{lowLimit, tableSize, hasDifference}
-use Rattle.row_format.specs.Table.Laws.{Accepted}
+use Rattle.row_format.specs.Table.Laws.{Accepted, accepted, tableNumber-verdict}
 use Rattle.row_format.specs.Row.{Item, difference, badPixel, badBias, escape, State, fresh, past, previous, differenceTo, byDifference, itemFor, pixelOf, after, itemsFor, pixelsOf, bits, rowBits}
 use Rattle.row_format.specs.Reading.{inside, Run, done, stop, readItem, readBy, readItems, stray, needless, anyNeedless}
-use Rattle.row_format.specs.Calls.Laws.{rowBytes}
+use Rattle.row_format.specs.Calls.{packNumber, packed, unpacked}
+use Rattle.row_format.specs.Calls.Laws.{rowBytes, packed-front}
+use Rattle.row_format.specs.Theorems.Done.{Accepts}
 use Rattle.row_format.specs.Theorems.RoundTrip.{Fits, FitAll, after-height, itemFor-escape, readBy-own, readItems-rowBits}
-use Rattle.row_format.specs.Theorems.Words.{below-bits, below-rowBits}
+use Rattle.row_format.specs.Theorems.Words.{below-bits, below-rowBits, halvesOf-bytesOf}
 use Rattle.row_format.specs.Theorems.Standing.{RunStands, readItems-stands}
 
 -- ---- an item that fits and isn't needless is the one that packing gives for its pixel
@@ -82,6 +84,14 @@ any-pixelsOf : (t : List ℕ) (s : State) (is : List Item) → FitAll t s is →
 unfolding pixelsOf any
 any-pixelsOf t s [] fits = refl
 any-pixelsOf t s (i ∷ is) fits = rw (le-ltb 4095 (pixelOf s i) (pixelOf-most t s i (fits .0))) (any-pixelsOf t (after s i) is (fits .1))
+
+-- pixels, as numbers of 16 bits
+any-false-below : (ps : List ℕ) → any (ltb 4095) ps ≡ false → Below 65536 ps
+unfolding any
+any-false-below [] e = below-nil (omega arith)
+any-false-below (p ∷ ps) e =
+    let most = ltb-false 4095 p (or-false-left (ltb 4095 p) (any (ltb 4095) ps) e) in
+    below-cons (omega arith) (any-false-below ps (or-false-right (ltb 4095 p) (any (ltb 4095) ps) e))
 
 -- ---- words
 -- bits none of which is 1
@@ -160,3 +170,25 @@ module _ (t : List ℕ) (ok : Accepted t) (wb : List ℕ) (bytes : Below 256 wb)
 
   pub own-words : (take (4 * wordsFor u) wb ≡ rowBytes t (pixelsOf fresh is)) ↔ (anyNeedless t fresh is ≡ false)
   own-words = (none-needless, own)
+
+-- ---- the same of the calls: a done unpacking, and a packing of the pixels that it left
+module _ (tb wb : List ℕ) (n : ℕ) (m : List ℕ) (bytes : Below 256 wb) (got : Accepts tb wb n m) where
+  accepted-table : Accepted (wordsOf tb)
+  accepted-table = accepted (wordsOf tb) (tableNumber-verdict tb (got .given .table))
+
+  pixels-left : halvesOf (take (2 * n) (unpacked tb wb n m .memory)) ≡ pixelsOf fresh (got .items)
+  pixels-left =
+      let ps = pixelsOf fresh (got .items) in
+      let there = readItems-stands (wordsOf tb) accepted-table n (stream wb) (got .items) (got .used) (below-flat 8 _) (got .read) in
+      let b = bytesOf (2 * n) (flat 16 ps) in
+      rw (got .left, take-at b (drop (length b) m) (2 * n) (length-cut 8 (2 * n) (flat 16 ps)))
+      (halvesOf-bytesOf n ps (length-pixelsOf fresh (got .items) ∙ there .count) (any-false-below ps (any-pixelsOf (wordsOf tb) fresh (got .items) (there .fits))))
+
+  pub own-words-packed : (mw : List ℕ)
+      → let pb = take (2 * n) (unpacked tb wb n m .memory) in
+        packNumber tb (halvesOf pb) (length mw / 4) ≡ 0
+      → (take (4 * wordsFor (unpacked tb wb n m .answer .count)) wb ≡ take (4 * wordsFor (packed tb pb mw .answer .count)) (packed tb pb mw .memory))
+        ↔ (anyNeedless (wordsOf tb) fresh (got .items) ≡ false)
+  own-words-packed mw e =
+      rw (packed-front tb (take (2 * n) (unpacked tb wb n m .memory)) mw e, pixels-left, got .left)
+      (own-words (wordsOf tb) accepted-table wb bytes n (got .items) (got .used) (got .read) (got .clean))

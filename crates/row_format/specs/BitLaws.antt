@@ -6,11 +6,11 @@ use mathlib.Core.Path.{_≡_, refl, sym, ap, _∙_}
 use mathlib.Core.Bool.{Bool, true, false, _&&_, _||_}
 use mathlib.Core.List.{List, [], _∷_, _++_, append-assoc, append-nil}
 use lib.ListN.{length, take, drop, replicate, length-append}
-use lib.Seq.{take-append-add}
+use lib.Seq.{take-append-add, take-take, length-take-le}
 use lib.Dec.{eqb}
 use borrow.Author.Tests.{eq-eqb, eqb-true}
 use Rattle.bitstream.specs.Bits.{flat, cut, bitsOf, bytesOf, stream, wordsFor, begins}
-use Rattle.bitstream.specs.Bits.Laws.{Below, pad, pad-all, length-cut, flat-append, flat-cut, cut-flat}
+use Rattle.bitstream.specs.Bits.Laws.{Below, pad, pad-all, length-cut, length-flat, flat-append, flat-take, flat-cut, cut-flat}
 use Rattle.row_format.specs.Lists.Laws.{by-test, true-false, and-true-left, and-true-right}
 
 -- ---- pad
@@ -24,7 +24,21 @@ pub bytesOf-bitsOf : (n : ℕ) (s : List ℕ) → Below 256 s → length s ≡ n
 bytesOf-bitsOf n s bytes size =
     ap (λ (k : ℕ). cut 8 k (flat 8 s)) (sym size) ∙ ap (cut 8 (length s)) (sym (append-nil (flat 8 s))) ∙ cut-flat 8 s [] bytes
 
+pub bitsOf-inj : (n : ℕ) (a b : List ℕ) → Below 256 a → Below 256 b → length a ≡ n → length b ≡ n → bitsOf a ≡ bitsOf b → a ≡ b
+bitsOf-inj n a b ha hb la lb e = sym (bytesOf-bitsOf n a ha la) ∙ ap (bytesOf n) e ∙ bytesOf-bitsOf n b hb lb
+
 -- ---- streams of words
+-- the first words of a stream, and its length
+pub stream-take : (wb : List ℕ) (w : ℕ) → 4 * w ≤ length wb → take (32 * w) (stream wb) ≡ bitsOf (take (4 * w) wb)
+stream-take wb w h =
+    let place : 32 * w ≡ 8 * (4 * w) = omega arith in
+    rw place (sym (flat-take 8 (4 * w) (take (4 * (length wb / 4)) wb)) ∙ rw (take-take (4 * w) (4 * (length wb / 4)) wb (omega arith)))
+
+pub length-stream : (wb : List ℕ) → length (stream wb) ≡ 32 * (length wb / 4)
+length-stream wb =
+    let size : length (take (4 * (length wb / 4)) wb) ≡ 4 * (length wb / 4) = length-take-le (4 * (length wb / 4)) wb (omega arith) in
+    rw (length-flat 8 (take (4 * (length wb / 4)) wb), size) (omega arith)
+
 -- whole words stand in front of a stream by their bits
 pub stream-append : (w : ℕ) (a s : List ℕ) → length a ≡ 4 * w → stream (a ++ s) ≡ bitsOf a ++ stream s
 stream-append w a s h =
@@ -81,3 +95,10 @@ pub begins-append : (a r : List ℕ) → begins a (a ++ r) ≡ true
 unfolding begins
 begins-append [] r = refl
 begins-append (x ∷ a) r = rw (eq-eqb x x refl) (begins-append a r)
+
+pub begins-drop : (a r : List ℕ) → begins a r ≡ true → r ≡ a ++ drop (length a) r
+unfolding begins
+begins-drop [] r p = refl
+begins-drop (x ∷ a) [] p = true-false p refl
+begins-drop (x ∷ a) (c ∷ r) p =
+    rw (eqb-true x c (and-true-left (eqb x c) (begins a r) p)) (ap (c ∷_) (begins-drop a r (and-true-right (eqb x c) (begins a r) p)))

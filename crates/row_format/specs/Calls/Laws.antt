@@ -5,16 +5,18 @@ use mathlib.Core.Path.{_≡_, refl, sym, ap, _∙_}
 use mathlib.Core.Bool.{Bool, true, false, cond}
 use mathlib.Core.List.{List, [], _∷_, _++_}
 use mathlib.Core.Logic.{_↔_}
-use lib.ListN.{length}
+use lib.ListN.{length, take, drop}
+use lib.Seq.{take-at}
 use lib.Dec.{ltb}
 use borrow.Author.Tests.{ltb-true, ltb-false, lt-ltb, le-ltb}
-use Rattle.bitstream.specs.Bits.{wordsOf, wordsFor}
-use Rattle.answer.specs.Outcome.{_orElse_, refuseIf}
+use Rattle.bitstream.specs.Bits.{wordsOf, halvesOf, bytesOf, wordsFor}
+use Rattle.bitstream.specs.Bits.Laws.{length-cut}
+use Rattle.answer.specs.Outcome.{Outcome, _orElse_, refuseIf, refused, wrote, unless}
 use Rattle.row_format.specs.Lists.{any}
 use Rattle.row_format.specs.Lists.Laws.{by-test, cond-zero-test}
 use Rattle.row_format.specs.Table.{tableNumber}
 use Rattle.row_format.specs.Row.{rowBits}
-use Rattle.row_format.specs.Calls.{tooMany, packNumber, unpackNumber}
+use Rattle.row_format.specs.Calls.{tooMany, packNumber, packedRow, packed, unpackNumber}
 
 -- ---- refusals in order: none is given exactly where none of the parts is
 pub orElse-zero-left : (a b : ℕ) → a orElse b ≡ 0 → a ≡ 0
@@ -24,6 +26,10 @@ orElse-zero-left (suc a) b e = absurd (omega arith)
 pub orElse-zero-right : (a b : ℕ) → a orElse b ≡ 0 → b ≡ 0
 orElse-zero-right zero b e = e
 orElse-zero-right (suc a) b e = absurd (omega arith)
+
+pub unless-number : (e : ℕ) (m : List ℕ) (o : Outcome) → o .answer .number ≡ 0 → unless e m o .answer .number ≡ e
+unless-number zero m o h = h
+unless-number (suc e) m o h = refl
 
 -- ---- packing
 -- what the refusals before the one for room ask of a table and a row
@@ -55,6 +61,32 @@ packNumber-zero-room tb ps roomWords e =
     let need = wordsFor (length (rowBits (wordsOf tb) ps)) in
     ltb-false roomWords need (cond-zero-test (ltb roomWords need) 4 0 (sym (packNumber-packable tb ps roomWords (packable tb ps roomWords e)) ∙ e))
 
+-- the bytes that packing writes for a row
+abbrev pub rowBytes : List ℕ → List ℕ → List ℕ
+rowBytes t ps = bytesOf (4 * wordsFor (length (rowBits t ps))) (rowBits t ps)
+
+pub packed-done : (tb pb m : List ℕ) → packNumber tb (halvesOf pb) (length m / 4) ≡ 0
+    → packed tb pb m ≡ wrote (length (rowBits (wordsOf tb) (halvesOf pb))) (rowBytes (wordsOf tb) (halvesOf pb)) m
+unfolding packed packedRow
+packed-done tb pb m e = rw e
+
+pub packed-refused : (tb pb m : List ℕ) (e : ℕ) → packNumber tb (halvesOf pb) (length m / 4) ≡ suc e → packed tb pb m ≡ refused (suc e) m
+unfolding packed
+packed-refused tb pb m e h = rw h
+
+-- the number that a packing answers is that of its refusals
+pub packed-number : (tb pb m : List ℕ) → packed tb pb m .answer .number ≡ packNumber tb (halvesOf pb) (length m / 4)
+unfolding packed packedRow
+packed-number tb pb m = unless-number (packNumber tb (halvesOf pb) (length m / 4)) m (packedRow (wordsOf tb) (halvesOf pb) m) refl
+
+-- the words that a done packing wrote
+pub packed-front : (tb pb m : List ℕ) → packNumber tb (halvesOf pb) (length m / 4) ≡ 0
+    → take (4 * wordsFor (packed tb pb m .answer .count)) (packed tb pb m .memory) ≡ rowBytes (wordsOf tb) (halvesOf pb)
+packed-front tb pb m e =
+    let b = rowBits (wordsOf tb) (halvesOf pb) in
+    let front = rowBytes (wordsOf tb) (halvesOf pb) in
+    rw (packed-done tb pb m e) (take-at front (drop (length front) m) (4 * wordsFor (length b)) (length-cut 8 (4 * wordsFor (length b)) b))
+
 -- ---- unpacking
 pub record Unpackable (tb : List ℕ) (n roomPixels : ℕ) : Type 0 where
   pub table : tableNumber tb ≡ 0
@@ -64,3 +96,13 @@ pub record Unpackable (tb : List ℕ) (n roomPixels : ℕ) : Type 0 where
 pub unpackNumber-unpackable : (tb : List ℕ) (n roomPixels : ℕ) → Unpackable tb n roomPixels → unpackNumber tb n roomPixels ≡ 0
 unfolding unpackNumber
 unpackNumber-unpackable tb n roomPixels ok = rw (ok .table, le-ltb 4096 n (ok .few), le-ltb roomPixels n (ok .room))
+
+pub unpackable : (tb : List ℕ) (n roomPixels : ℕ) → unpackNumber tb n roomPixels ≡ 0 → Unpackable tb n roomPixels
+unfolding unpackNumber
+unpackable tb n roomPixels e =
+    let full = refuseIf (ltb roomPixels n) 5 in
+    let after-table = orElse-zero-right (tableNumber tb) (tooMany n orElse full) e in
+    record {
+      table = orElse-zero-left (tableNumber tb) (tooMany n orElse full) e;
+      few = ltb-false 4096 n (cond-zero-test (ltb 4096 n) 10 0 (orElse-zero-left (tooMany n) full after-table));
+      room = ltb-false roomPixels n (cond-zero-test (ltb roomPixels n) 4 0 (orElse-zero-right (tooMany n) full after-table)) }

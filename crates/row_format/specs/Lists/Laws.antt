@@ -55,6 +55,11 @@ module _ {A : Type 0} (f : A → Bool) where
   any-false-at (x ∷ xs) zero d e h = or-false-left (f x) (any f xs) e
   any-false-at (x ∷ xs) (suc i) d e h = any-false-at xs i d (or-false-right (f x) (any f xs) e) (omega arith)
 
+  pub any-false : (xs : List A) (d : A) → ((i : ℕ) → i < length xs → f (getD xs i d) ≡ false) → any f xs ≡ false
+  unfolding any
+  any-false [] d each = refl
+  any-false (x ∷ xs) d each = rw (each 0 (omega arith)) (any-false xs d (λ i h. each (suc i) (omega arith)))
+
 -- ---- least
 pub least-within : (f : ℕ → Bool) (n : ℕ) → least f n ≤ n
 unfolding least

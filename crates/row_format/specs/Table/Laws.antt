@@ -15,7 +15,7 @@ use borrow.Author.Tests.{leb-true, ltb-true, ltb-false, eqb-true, not-false, le-
 use Rattle.bitstream.specs.Bits.{digits, begins, wordsOf}
 use Rattle.bitstream.specs.Bits.Laws.{length-digits}
 use Rattle.row_format.specs.Lists.{any}
-use Rattle.row_format.specs.Lists.Laws.{by-test, true-false, and-true-all, or-false-left, or-false-right, cond-zero-test, cond-zero-rest, any-false-at}
+use Rattle.row_format.specs.Lists.Laws.{by-test, true-false, and-true-all, or-false-left, or-false-right, cond-zero-test, cond-zero-rest, any-false-at, any-false}
 use Rattle.row_format.specs.BitLaws.{begins-both}
 use Rattle.row_format.specs.Table.{lowLimit, tableSize, codeword, codewords, codewordAt, escapeLength, signed, entryDifference, hasDifference, wrongSize, wrongWord, wrongCodeword, clash, verdict, tableNumber, longest, maxItemBits}
 
@@ -89,6 +89,24 @@ signed-most k h = by-test (ltb k 4093)
     (λ e. record { le = rw e tt })
     (λ e. record { le = rw e (le→leb (k - 4093) 4093 (omega arith)) })
 
+-- pixel minus previous, as a count from -4093, stands for that difference
+pub signed-differenceTo : (p q : ℕ) → q ≤ 4093 → signed (p + 4093 - q) ≡ pos p -ℤ pos q
+signed-differenceTo p zero h =
+    let k = p + 4093 - 0 in
+    let value : p + 4093 - 0 - 4093 ≡ p + 0 = omega arith in
+    rw (le-ltb k 4093 (omega arith)) (ap pos value)
+signed-differenceTo p (suc q) h =
+    let k = p + 4093 - suc q in
+    by-test (ltb p (suc q))
+    (λ e.
+      let less = ltb-true p (suc q) e in
+      let value : 4093 - suc (p + 4093 - suc q) ≡ suc q - suc p = omega arith in
+      rw (e, lt-ltb k 4093 (omega arith)) (ap negsuc value))
+    (λ e.
+      let more = ltb-false p (suc q) e in
+      let value : p + 4093 - suc q - 4093 ≡ p - suc q = omega arith in
+      rw (e, le-ltb k 4093 (omega arith)) (ap pos value))
+
 -- ---- accepted tables
 -- a codeword's word: "Lengths are 1 to 27 .. No bit is set above the string"
 pub record RightWord (w : ℕ) : Type 0 where
@@ -147,6 +165,19 @@ accepted t e =
         right-word (getD t (3 + j) 0) (rw (getD-drop 3 t j 0) at
           (any-false-at wrongWord (drop 3 t) j 0 (or-false-right (ltb 15 (escapeLength t)) (any wrongWord (drop 3 t)) right) inside));
       apart = cond-zero-test (clash (codewords t)) 2 0 free }
+
+-- and a table of which all that is true is accepted
+wrongWord-right : (w : ℕ) → RightWord w → wrongWord w ≡ false
+unfolding wrongWord
+wrongWord-right w h = rw (le-leb 1 (w % 32) (h .least), le-leb (w % 32) 27 (h .most), lt-ltb (w / 32) (2 ^ (w % 32)) (h .above))
+
+pub verdict-accepted : (t : List ℕ) → Accepted t → verdict t ≡ 0
+unfolding verdict wrongSize wrongCodeword
+verdict-accepted t ok =
+    let words : any wrongWord (drop 3 t) ≡ false = any-false wrongWord (drop 3 t) 0
+          (λ j h. rw (getD-drop 3 t j 0) (wrongWord-right (getD t (3 + j) 0) (ok .word j (omega (arith, length-drop 3 t, ok .words))))) in
+    rw (le-leb 1 (tableSize t) (ok .size-least), le-leb (lowLimit t + tableSize t) 8187 (ok .sum-most), eq-eqb (length t) (6 + tableSize t) (ok .words),
+        le-ltb 15 (escapeLength t) (ok .escape-most), words, ok .apart)
 
 -- of a table's bytes
 pub tableNumber-whole : (b : List ℕ) → tableNumber b ≡ 0 → length b % 4 ≡ 0

@@ -103,12 +103,14 @@ unfolding bitsUsed
 bitsUsed-most tb wb n m = usedUnless-most (unpackNumber tb n (length m / 2)) _ _ (readItems-uses (wordsOf tb) n (stream wb))
 
 -- ---- a row, under every table and of whatever pixels
+pub length-itemBits-escape : (t : List ℕ) (h : ℕ) → length (itemBits t (escape h)) ≡ escapeLength t + 12
+length-itemBits-escape t h = length-append (codewordAt t 0) (digits 12 h) ∙ rw (length-digits 12 h, length-codewordAt t 0)
+
 pub length-itemBits : (t : List ℕ) (i : Item) → length (itemBits t i) ≤ maxItemBits t
 length-itemBits t (difference k) = length-codewordAt-most t (3 + (k - lowLimit t))
 length-itemBits t badPixel = length-codewordAt-most t 1
 length-itemBits t badBias = length-codewordAt-most t 2
-length-itemBits t (escape h) =
-    omega (arith, length-append (codewordAt t 0) (digits 12 h), length-digits 12 h, length-codewordAt t 0, escapeLength-most t)
+length-itemBits t (escape h) = omega (arith, length-itemBits-escape t h, escapeLength-most t)
 
 pub length-bits : (t : List ℕ) (is : List Item) → length (bits t is) ≤ length is * maxItemBits t
 unfolding bits

@@ -8,7 +8,7 @@ use mathlib.Core.List.{List, [], _∷_, _++_, append-assoc}
 use lib.ListN.{length, take, drop, getD, replicate, length-append}
 use lib.Seq.{drop-append-seam, take-append-seam, drop-at, take-at}
 use lib.Dec.{leb, ltb, eqb}
-use borrow.Author.Tests.{leb-true, le-leb, ltb-true, ltb-false, lt-ltb, le-ltb, eqb-true, eqb-false}
+use borrow.Author.Tests.{leb-true, le-leb, ltb-true, ltb-false, lt-ltb, le-ltb, eqb-true, eqb-false, ne-eqb}
 use Rattle.bitstream.specs.Bits.{digits, numOf, flat, begins, bytesOf, wordsOf, halvesOf, stream, wordsFor}
 use Rattle.bitstream.specs.Bits.Laws.{Below, length-digits, numOf-digits}
 use Rattle.answer.specs.Outcome.{Outcome, wrote}
@@ -19,8 +19,8 @@ use Rattle.row_format.specs.Table.{lowLimit, tableSize, hasDifference, c
 use Rattle.row_format.specs.Table.Laws.{Accepted, accepted, tableNumber-verdict}
 use Rattle.row_format.specs.Row.{Item, difference, badPixel, badBias, escape, State, fresh, past, previous, differenceTo, byDifference, itemFor, pixelOf, after, itemBits, itemsFor, pixelsOf, bits, rowBits}
 use Rattle.row_format.specs.Reading.{Match, none, found, find, Reading, item, fault, rawHeight, inside, matched, taken, readItem, Run, done, stop, prepend, follow, readBy, readItems}
-use Rattle.row_format.specs.Calls.{afterRun, packed, unpacked}
-use Rattle.row_format.specs.Calls.Laws.{Packable, packable, unpackNumber-unpackable}
+use Rattle.row_format.specs.Calls.{afterRun, packNumber, packed, unpacked}
+use Rattle.row_format.specs.Calls.Laws.{Packable, packable, rowBytes, packed-done, unpackNumber-unpackable}
 use Rattle.row_format.specs.Theorems.Search.{find-only}
 use Rattle.row_format.specs.Theorems.Bounds.{length-itemsFor}
 use Rattle.row_format.specs.Theorems.Words.{below-rowBits, stray-zeros, bytesOf-halvesOf}
@@ -99,6 +99,11 @@ itemFor-right t s p height most = by-test (eqb p 4095)
           pixel = omega arith }))
         (λ has. rw has (record { fits = omega arith; pixel = refl }))))))
 
+-- a height whose difference the table lacks is written as the height itself
+pub itemFor-escape : (t : List ℕ) (s : State) (p : ℕ) → p ≤ 4093 → byDifference t s p ≡ false → itemFor t s p ≡ escape p
+unfolding itemFor
+itemFor-escape t s p h e = rw (ne-eqb p 4095 (λ q. omega arith), ne-eqb p 4094 (λ q. omega arith), e)
+
 -- ---- a row
 abbrev pub FitAll : List ℕ → State → List Item → Type 0
 FitAll t s [] = Unit {0}
@@ -137,10 +142,6 @@ readItems-rowBits t ok ps r e =
     rw (length-itemsFor t fresh ps) at (readBy-own t ok fresh (itemsFor t fresh ps) r (itemsFor-fit t fresh ps (omega arith) e))
 
 -- ---- the calls
--- the bytes that packing writes for a row
-abbrev pub rowBytes : List ℕ → List ℕ → List ℕ
-rowBytes t ps = bytesOf (4 * wordsFor (length (rowBits t ps))) (rowBits t ps)
-
 -- a reading of a row's words, whatever words follow
 pub afterRun-rowBytes : (t : List ℕ) (ok : Accepted t) (ps rest m : List ℕ) → any (ltb 4095) ps ≡ false
     → afterRun (stream (rowBytes t ps ++ rest)) (length ps) m (readItems t (length ps) (stream (rowBytes t ps ++ rest)))
@@ -160,3 +161,12 @@ unpacked-rowBytes tb pb rest m bytes ok room =
     let ps = halvesOf pb in
     let yes′ = unpackNumber-unpackable tb (length ps) (length m / 2) (record { table = ok .table; few = ok .few; room = room }) in
     rw (yes′, afterRun-rowBytes t (accepted t (tableNumber-verdict tb (ok .table))) ps rest m (ok .pixels), bytesOf-halvesOf pb bytes)
+
+-- the same from the very memory that packing leaves
+pub unpacked-packed : (tb pb m m′ : List ℕ) → Below 256 pb → packNumber tb (halvesOf pb) (length m / 4) ≡ 0 → length (halvesOf pb) ≤ length m′ / 2
+    → unpacked tb (packed tb pb m .memory) (length (halvesOf pb)) m′
+      ≡ wrote (packed tb pb m .answer .count) (take (2 * length (halvesOf pb)) pb) m′
+unpacked-packed tb pb m m′ bytes e room =
+    let front = rowBytes (wordsOf tb) (halvesOf pb) in
+    rw (packed-done tb pb m e)
+    (unpacked-rowBytes tb pb (drop (length front) m) m′ bytes (packable tb (halvesOf pb) (length m / 4) e) room)

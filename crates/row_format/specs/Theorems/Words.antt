@@ -6,7 +6,7 @@ use mathlib.Core.Path.{_≡_, refl, sym, ap, _∙_, subst}
 use mathlib.Core.Bool.{Bool, true, false, _||_}
 use mathlib.Core.List.{List, [], _∷_, _++_, append-assoc, append-nil}
 use lib.ListN.{length, take, drop, getD, replicate, length-append, length-replicate}
-use lib.Seq.{drop-append-seam, take-at, length-take-le}
+use lib.Seq.{drop-append-seam, take-at, take-all, length-take-le}
 use lib.Dec.{eqb}
 use Rattle.bitstream.specs.Bits.{digits, flat, cut, bitsOf, bytesOf, halvesOf, stream, wordsFor}
 use Rattle.bitstream.specs.Bits.Laws.{Below, below-nil, below-append, below-take, below-digits, below-flat, length-flat, length-cut, flat-take, flat-cut, cut-flat, pad}
@@ -62,3 +62,15 @@ bytesOf-halvesOf pb bytes =
           ∙ sym (flat-take 8 (2 * n) pb) in
     let size : length (take (2 * n) pb) ≡ 2 * n = length-take-le (2 * n) pb (omega arith) in
     rw (length-cut 16 n (bitsOf pb), halves) (bytesOf-bitsOf (2 * n) (take (2 * n) pb) (below-take (2 * n) pb bytes) size)
+
+-- and the pixels that their bytes hold are the pixels
+pub halvesOf-bytesOf : (n : ℕ) (ps : List ℕ) → length ps ≡ n → Below 65536 ps → halvesOf (bytesOf (2 * n) (flat 16 ps)) ≡ ps
+halvesOf-bytesOf n ps size low =
+    let size-bits : length (flat 16 ps) ≡ 16 * n = length-flat 16 ps ∙ ap (16 *_) size in
+    let place : 8 * (2 * n) ≡ 16 * n = omega arith in
+    let count : 2 * n / 2 ≡ n = omega arith in
+    let same : bitsOf (bytesOf (2 * n) (flat 16 ps)) ≡ flat 16 ps =
+          flat-cut 8 (2 * n) (flat 16 ps) (below-flat 16 ps)
+          ∙ rw place (pad-within (16 * n) (flat 16 ps) (omega arith) ∙ take-all (16 * n) (flat 16 ps) (omega arith)) in
+    rw (length-cut 8 (2 * n) (flat 16 ps), count, same)
+    (ap (λ (k : ℕ). cut 16 k (flat 16 ps)) (sym size) ∙ ap (cut 16 (length ps)) (sym (append-nil (flat 16 ps))) ∙ cut-flat 16 ps [] low)

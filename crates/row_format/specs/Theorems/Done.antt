@@ -1,0 +1,40 @@
+-- What a done unpacking has read. Assumes nothing.
+use Prim.Native.Nat.{ℕ, zero, suc, _+_, _*_, _/_, _≤_, _<_}
+use native.Mathlib.Omega.{arith}
+use mathlib.Core.Path.{_≡_, refl, sym, ap, _∙_}
+use mathlib.Core.Bool.{Bool, true, false}
+use mathlib.Core.List.{List, [], _∷_, _++_}
+use lib.ListN.{length}
+use Rattle.bitstream.specs.Bits.{flat, bytesOf, wordsOf, stream}
+use Rattle.answer.specs.Outcome.{Outcome, wrote, refuseIf, unless}
+use Rattle.row_format.specs.Lists.Laws.{by-test}
+use Rattle.row_format.specs.Row.{Item, fresh, pixelsOf}
+use Rattle.row_format.specs.Reading.{Run, done, stop, readItems, stray}
+use Rattle.row_format.specs.Calls.{afterRun, unpackNumber, unpacked}
+use Rattle.row_format.specs.Calls.Laws.{Unpackable, unpackable}
+use Rattle.row_format.specs.Theorems.Numbers.{StopIn, readItems-in}
+
+-- the items and bits of a reading that was accepted, and what it left
+pub record Accepts (tb wb : List ℕ) (n : ℕ) (m : List ℕ) : Type 0 where
+  pub given : Unpackable tb n (length m / 2)
+  pub items : List Item
+  pub used : ℕ
+  pub read : readItems (wordsOf tb) n (stream wb) ≡ done items used
+  pub clean : stray used (stream wb) ≡ false
+  pub left : unpacked tb wb n m ≡ wrote used (bytesOf (2 * n) (flat 16 (pixelsOf fresh items))) m
+
+module _ (tb wb : List ℕ) (n : ℕ) (m : List ℕ) where
+  by-run : (e : ℕ) → unpackNumber tb n (length m / 2) ≡ e → (x : Run) → readItems (wordsOf tb) n (stream wb) ≡ x → StopIn (λ k. k ≡ 0 → ⊥) x
+      → unless e m (afterRun (stream wb) n m x) .answer .number ≡ 0 → Accepts tb wb n m
+  unfolding unpacked
+  by-run zero passed (done is u) read real h = by-test (stray u (stream wb))
+      (λ e. absurd (omega (arith, rw e at h)))
+      (λ e. record { given = unpackable tb n (length m / 2) passed; items = is; used = u; read = read; clean = e; left = rw (passed, read, e) })
+  by-run zero passed (stop k at u) read real h = absurd (real h)
+  by-run (suc e) passed x read real h = absurd (omega arith)
+
+  pub unpacked-accepts : unpacked tb wb n m .answer .number ≡ 0 → Accepts tb wb n m
+  unfolding unpacked
+  unpacked-accepts h =
+      by-run (unpackNumber tb n (length m / 2)) refl (readItems (wordsOf tb) n (stream wb)) refl
+        (readItems-in (λ k. k ≡ 0 → ⊥) (λ e. omega arith) (λ e. omega arith) (λ e. omega arith) (λ e. omega arith) (wordsOf tb) n (stream wb)) h

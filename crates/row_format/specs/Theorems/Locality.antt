@@ -1,0 +1,122 @@
+-- Demand 3: runs of words that are alike in their first n times M bits, rounded up to whole words, are unpacked alike. This
+-- holds under every table, accepted or not. Assumes nothing.
+use Prim.Native.Nat.{ℕ, zero, suc, _+_, _-_, _*_, _/_, _%_, _≤_, _<_}
+use native.Mathlib.Nat.{suc-mul, sub-zero, zero-sub, suc-sub-suc}
+use native.Mathlib.Omega.{arith}
+use mathlib.Core.Path.{_≡_, refl, sym, ap, _∙_}
+use mathlib.Core.Bool.{Bool, true, false, cond, not}
+use mathlib.Core.List.{List, [], _∷_, _++_}
+use lib.ListN.{length, take, drop, length-drop}
+use lib.Seq.{length-take-le, take-take, take-nil}
+use lib.Dec.{ltb}
+use borrow.Author.Tests.{le-ltb}
+use Rattle.bitstream.specs.Bits.{numOf, flat, begins, bitsOf, wordsOf, stream, wordsFor}
+use Rattle.row_format.specs.Lists.{any, least}
+use Rattle.row_format.specs.Lists.Laws.{least-same}
+use Rattle.row_format.specs.BitLaws.{stream-take, length-stream}
+use Rattle.row_format.specs.Table.{lowLimit, codewords, codewordAt, longest, escapeLength, maxItemBits}
+use Rattle.row_format.specs.Table.Laws.{length-codewordAt, longest-maxItemBits, escapeLength-most}
+use Rattle.row_format.specs.Row.{Item, State, fresh, after}
+use Rattle.row_format.specs.Reading.{Match, none, found, find, Reading, item, fault, unmatched, rawHeight, matched, taken, readItem, Run, done, stop, follow, readBy, readItems, stray}
+use Rattle.row_format.specs.Calls.{usedByRun, afterRun, unpackNumber, unpacked}
+use Rattle.row_format.specs.Theorems.Search.{Found, find-found, find-take, any-begins-none, any-begins-none-take}
+use Rattle.row_format.specs.Theorems.Bounds.{bitsOfReading, readItem-uses, readItems-uses}
+
+drop-take : (n k : ℕ) (l : List ℕ) → drop n (take k l) ≡ take (k - n) (drop n l)
+drop-take zero k l = rw (sub-zero k)
+drop-take (suc n) zero l = rw (zero-sub (suc n))
+drop-take (suc n) (suc k) [] = sym (take-nil (suc k - suc n))
+drop-take (suc n) (suc k) (x ∷ l) = drop-take n k l ∙ rw (suc-sub-suc k n)
+
+-- a field that lies in front
+field-take : (at n k : ℕ) (l : List ℕ) → at + n ≤ k → take n (drop at (take k l)) ≡ take n (drop at l)
+field-take at n k l h = rw (drop-take at k l) (take-take n (k - at) (drop at l) (omega arith))
+
+-- ---- one item
+unmatched-take : (ss : List (List ℕ)) (r : List ℕ) (k : ℕ) → longest ss ≤ k → k ≤ length r → any (λ s. begins s r) ss ≡ false
+    → unmatched ss (take k r) ≡ unmatched ss r
+unfolding unmatched
+unmatched-take ss r k h within e =
+    let size = length-take-le k r within in
+    let same : (j : ℕ) → j ≤ longest ss → not (any (begins (take j (take k r))) ss) ≡ not (any (begins (take j r)) ss) =
+          λ j low. rw (take-take j k r (omega arith)) in
+    rw (any-begins-none-take ss r k h within e, any-begins-none ss r (omega arith) e, size)
+    (ap (fault 7) (least-same (λ j. not (any (begins (take j (take k r))) ss)) (λ j. not (any (begins (take j r)) ss)) k (length r) (longest ss) h (omega arith) same
+      (same (longest ss) (omega arith) ∙ ap not (any-begins-none-take ss r (longest ss) (omega arith) (omega arith) e))))
+
+rawHeight-take : (n : ℕ) (r : List ℕ) (k : ℕ) → n + 12 ≤ k → k ≤ length r → rawHeight n (take k r) ≡ rawHeight n r
+unfolding rawHeight
+rawHeight-take n r k h within =
+    rw (length-take-le k r within, le-ltb k (n + 12) h, le-ltb (length r) (n + 12) (omega arith), field-take n 12 k r h)
+
+-- past the raw string's nothing is read but the string
+matched-take : (t : List ℕ) (s : State) (r r′ : List ℕ) (j n : ℕ) → matched t s r (suc j) n ≡ matched t s r′ (suc j) n
+unfolding matched
+matched-take t s r r′ zero n = refl
+matched-take t s r r′ (suc zero) n = refl
+matched-take t s r r′ (suc (suc i)) n = refl
+
+module _ (t : List ℕ) (s : State) (r : List ℕ) (k : ℕ) (enough : maxItemBits t ≤ k) (within : k ≤ length r) where
+  taken-take : (m : Match) → Found (codewords t) r m → taken t s (take k r) m ≡ taken t s r m
+  unfolding matched
+  taken-take none e = unmatched-take (codewords t) r k (omega (arith, longest-maxItemBits t)) within e
+  taken-take (found zero) q =
+      rawHeight-take (length (codewordAt t 0)) r k (omega (arith, escapeLength-most t, length-codewordAt t 0)) within
+  taken-take (found (suc j)) q = matched-take t s (take k r) r j (length (codewordAt t (suc j)))
+
+  pub readItem-take : readItem t s (take k r) ≡ readItem t s r
+  unfolding readItem
+  readItem-take =
+      rw (find-take (codewords t) r k (omega (arith, longest-maxItemBits t))) (taken-take (find (codewords t) r) (find-found (codewords t) r))
+
+-- ---- a run of items, by any way of reading one that looks at no more than m bits
+follow-same : (x : Reading) (f g : Item → ℕ → Run) (m : ℕ) → bitsOfReading x ≤ m → ((i : Item) (u : ℕ) → u ≤ m → f i u ≡ g i u) → follow x f ≡ follow x g
+follow-same (item i u) f g m h same = rw (same i u h)
+follow-same (fault e u) f g m h same = refl
+
+module _ (f : State → List ℕ → Reading) (m : ℕ) (uses : (s : State) (r : List ℕ) → bitsOfReading (f s r) ≤ m)
+    (local : (s : State) (r : List ℕ) (k : ℕ) → m ≤ k → k ≤ length r → f s (take k r) ≡ f s r) where
+  pub readBy-take : (s : State) (n : ℕ) (r : List ℕ) (k : ℕ) → n * m ≤ k → k ≤ length r → readBy f s n (take k r) ≡ readBy f s n r
+  unfolding readBy
+  readBy-take s zero r k enough within = refl
+  readBy-take s (suc n) r k enough within =
+      let room : n * m + m ≤ k = rw (suc-mul n m) at enough in
+      rw (local s r k (omega arith) within)
+      (follow-same (f s r) (λ i u. readBy f (after s i) n (drop u (take k r))) (λ i u. readBy f (after s i) n (drop u r)) m (uses s r)
+        (λ i u h. rw (drop-take u k r)
+          (readBy-take (after s i) n (drop u r) (k - u) (omega arith) (omega (arith, length-drop u r)))))
+
+pub readItems-take : (t : List ℕ) (n : ℕ) (r : List ℕ) (k : ℕ) → n * maxItemBits t ≤ k → k ≤ length r → readItems t n (take k r) ≡ readItems t n r
+unfolding readItems
+readItems-take t n r k enough within = readBy-take (readItem t) (maxItemBits t) (readItem-uses t) (readItem-take t) fresh n r k enough within
+
+-- ---- the call
+-- only here it matters that the bits are rounded up to whole words
+stray-take : (u : ℕ) (r : List ℕ) (k : ℕ) → 32 * wordsFor u ≤ k → stray u (take k r) ≡ stray u r
+unfolding stray
+stray-take u r k h = rw (field-take u (32 * wordsFor u - u) k r (omega arith))
+
+afterRun-take : (r : List ℕ) (n : ℕ) (m : List ℕ) (x : Run) (k : ℕ) → 32 * wordsFor (usedByRun x) ≤ k → afterRun (take k r) n m x ≡ afterRun r n m x
+afterRun-take r n m (done is u) k h = rw (stray-take u r k h)
+afterRun-take r n m (stop e at u) k h = refl
+
+-- an unpacking looks at no more than the words that n times M bits fill
+front : (t : List ℕ) (n : ℕ) (r m : List ℕ) (w : ℕ) → n * maxItemBits t ≤ 32 * w → 32 * w ≤ length r
+    → afterRun (take (32 * w) r) n m (readItems t n (take (32 * w) r)) ≡ afterRun r n m (readItems t n r)
+front t n r m w enough within =
+    rw (readItems-take t n r (32 * w) enough within)
+    (afterRun-take r n m (readItems t n r) (32 * w) (omega (arith, readItems-uses t n r)))
+
+pub unpacked-alike : (tb wb wb′ : List ℕ) (n : ℕ) (m : List ℕ)
+    → let k = wordsFor (n * maxItemBits (wordsOf tb)) in
+      4 * k ≤ length wb → 4 * k ≤ length wb′ → take (4 * k) wb ≡ take (4 * k) wb′ → unpacked tb wb n m ≡ unpacked tb wb′ n m
+unfolding unpacked
+unpacked-alike tb wb wb′ n m h h′ e =
+    let t = wordsOf tb in
+    let k = wordsFor (n * maxItemBits t) in
+    let same : take (32 * k) (stream wb) ≡ take (32 * k) (stream wb′) = stream-take wb k h ∙ ap (flat 8) e ∙ sym (stream-take wb′ k h′) in
+    let runs : afterRun (stream wb) n m (readItems t n (stream wb)) ≡ afterRun (stream wb′) n m (readItems t n (stream wb′)) =
+          sym (front t n (stream wb) m k (omega arith) (omega (arith, length-stream wb)))
+          ∙ ap (λ (r : List ℕ). afterRun r n m (readItems t n r)) same
+          ∙ front t n (stream wb′) m k (omega arith) (omega (arith, length-stream wb′)) in
+    rw runs

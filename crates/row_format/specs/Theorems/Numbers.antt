@@ -1,0 +1,104 @@
+-- Demand 1: packing and unpacking answer a number from document 01, and only those that it lists for the call. Each law is
+-- over any property P that these numbers have. Assumes nothing.
+use Prim.Native.Nat.{ℕ, zero, suc, _+_, _*_, _/_, _%_, _≤_, _<_}
+use native.Mathlib.Omega.{arith}
+use mathlib.Core.Path.{_≡_, refl}
+use mathlib.Core.Bool.{Bool, true, false, cond}
+use mathlib.Core.List.{List, [], _∷_}
+use lib.ListN.{length, take, drop}
+use lib.Dec.{ltb, eqb}
+use Rattle.bitstream.specs.Bits.{numOf, begins, wordsOf, halvesOf, stream, wordsFor}
+use Rattle.answer.specs.Outcome.{Outcome, _orElse_, refuseIf, unless}
+use Rattle.row_format.specs.Lists.{any}
+use Rattle.row_format.specs.Lists.Laws.{by-test}
+use Rattle.row_format.specs.Table.{lowLimit, wrongSize, wrongCodeword, clash, codewords, codewordAt, verdict, tableNumber}
+use Rattle.row_format.specs.Row.{Item, State, fresh, after, rowBits}
+use Rattle.row_format.specs.Reading.{Match, none, found, find, Reading, item, fault, unmatched, rawHeight, inside, matched, taken, readItem, Run, done, stop, prepend, follow, readBy, readItems, stray}
+use Rattle.row_format.specs.Calls.{tooMany, packNumber, packed, unpackNumber, afterRun, unpacked}
+
+module _ (P : ℕ → Type 0) where
+  refuseIf-in : (b : Bool) (e : ℕ) → P 0 → P e → P (refuseIf b e)
+  refuseIf-in true e none′ given = given
+  refuseIf-in false e none′ given = none′
+
+  orElse-in : (a b : ℕ) → P a → P b → P (a orElse b)
+  orElse-in zero b first second = second
+  orElse-in (suc a) b first second = first
+
+  unless-in : (e : ℕ) (m : List ℕ) (o : Outcome) → P e → P (o .answer .number) → P (unless e m o .answer .number)
+  unless-in zero m o refusal rest = rest
+  unless-in (suc e) m o refusal rest = refusal
+
+  tableNumber-in : (b : List ℕ) → P 0 → P 1 → P 2 → P 3 → P (tableNumber b)
+  unfolding tableNumber verdict
+  tableNumber-in b p0 p1 p2 p3 =
+      let t = wordsOf b in
+      by-test (eqb (length b % 4) 0)
+      (λ e. rw e (by-test (wrongSize t) (λ d. rw d p1)
+        (λ d. rw d (by-test (wrongCodeword t) (λ c. rw c p2) (λ c. rw c (refuseIf-in (clash (codewords t)) 3 p0 p3))))))
+      (λ e. rw e p1)
+
+  pub packNumber-in : (tb ps : List ℕ) (roomWords : ℕ) → P 0 → P 1 → P 2 → P 3 → P 11 → P 4 → P 5 → P (packNumber tb ps roomWords)
+  unfolding packNumber
+  packNumber-in tb ps roomWords p0 p1 p2 p3 p11 p4 p5 =
+      orElse-in (tableNumber tb) _ (tableNumber-in tb p0 p1 p2 p3)
+      (orElse-in (tooMany (length ps)) _ (refuseIf-in (ltb 4096 (length ps)) 11 p0 p11)
+      (orElse-in (refuseIf (any (ltb 4095) ps) 4) _ (refuseIf-in (any (ltb 4095) ps) 4 p0 p4)
+      (refuseIf-in (ltb roomWords (wordsFor (length (rowBits (wordsOf tb) ps)))) 5 p0 p5)))
+
+  -- ---- reading
+  abbrev pub FaultIn : Reading → Type 0
+  FaultIn (item i u) = Unit {0}
+  FaultIn (fault e u) = P e
+
+  abbrev pub StopIn : Run → Type 0
+  StopIn (done is u) = Unit {0}
+  StopIn (stop e at u) = P e
+
+  module _ (p6 : P 6) (p7 : P 7) (p8 : P 8) (p9 : P 9) where
+    rawHeight-in : (n : ℕ) (r : List ℕ) → FaultIn (rawHeight n r)
+    unfolding rawHeight
+    rawHeight-in n r = by-test (ltb (length r) (n + 12))
+        (λ e. rw e p6)
+        (λ e. rw e (by-test (ltb (numOf (take 12 (drop n r))) 4094) (λ d. rw d tt) (λ d. rw d p9)))
+
+    taken-in : (t : List ℕ) (s : State) (r : List ℕ) (m : Match) → FaultIn (taken t s r m)
+    unfolding unmatched matched
+    taken-in t s r none = by-test (any (begins r) (codewords t)) (λ e. rw e p6) (λ e. rw e p7)
+    taken-in t s r (found zero) = rawHeight-in (length (codewordAt t 0)) r
+    taken-in t s r (found (suc zero)) = tt
+    taken-in t s r (found (suc (suc zero))) = tt
+    taken-in t s r (found (suc (suc (suc i)))) = by-test (inside s (i + lowLimit t)) (λ e. rw e tt) (λ e. rw e p8)
+
+    pub readItem-in : (t : List ℕ) (s : State) (r : List ℕ) → FaultIn (readItem t s r)
+    unfolding readItem
+    readItem-in t s r = taken-in t s r (find (codewords t) r)
+
+    prepend-in : (i : Item) (u : ℕ) (x : Run) → StopIn x → StopIn (prepend i u x)
+    prepend-in i u (done is v) h = tt
+    prepend-in i u (stop e at v) h = h
+
+    follow-in : (x : Reading) (f : Item → ℕ → Run) → FaultIn x → ((i : Item) (u : ℕ) → StopIn (f i u)) → StopIn (follow x f)
+    follow-in (item i u) f h rest = prepend-in i u (f i u) (rest i u)
+    follow-in (fault e u) f h rest = h
+
+    readBy-in : (t : List ℕ) (s : State) (n : ℕ) (r : List ℕ) → StopIn (readBy (readItem t) s n r)
+    unfolding readBy
+    readBy-in t s zero r = tt
+    readBy-in t s (suc n) r = follow-in (readItem t s r) _ (readItem-in t s r) (λ i u. readBy-in t (after s i) n (drop u r))
+
+    pub readItems-in : (t : List ℕ) (n : ℕ) (r : List ℕ) → StopIn (readItems t n r)
+    unfolding readItems
+    readItems-in t n r = readBy-in t fresh n r
+
+    afterRun-in : (r : List ℕ) (n : ℕ) (m : List ℕ) (x : Run) → P 0 → P 10 → StopIn x → P (afterRun r n m x .answer .number)
+    afterRun-in r n m (done is u) p0 p10 h = unless-in (refuseIf (stray u r) 10) m _ (refuseIf-in (stray u r) 10 p0 p10) p0
+    afterRun-in r n m (stop e at u) p0 p10 h = h
+
+    pub unpacked-in : (tb wb : List ℕ) (n : ℕ) (m : List ℕ) → P 0 → P 1 → P 2 → P 3 → P 11 → P 5 → P 10 → P (unpacked tb wb n m .answer .number)
+    unfolding unpacked unpackNumber
+    unpacked-in tb wb n m p0 p1 p2 p3 p11 p5 p10 =
+        unless-in (unpackNumber tb n (length m / 2)) m _
+        (orElse-in (tableNumber tb) _ (tableNumber-in tb p0 p1 p2 p3)
+          (orElse-in (tooMany n) _ (refuseIf-in (ltb 4096 n) 11 p0 p11) (refuseIf-in (ltb (length m / 2) n) 5 p0 p5)))
+        (afterRun-in (stream wb) n m (readItems (wordsOf tb) n (stream wb)) p0 p10 (readItems-in (wordsOf tb) n (stream wb)))

@@ -1,9 +1,8 @@
 -- Laws of bits that tables and rows need. Assumes nothing.
-use Prim.Native.Nat.{ℕ, zero, suc, _+_, _-_, _*_, _/_, _%_, _^_, _≤_, _<_}
-use native.Mathlib.Nat.{le-of-suc-le-suc, not-suc-le-zero}
+use Prim.Native.Nat.{ℕ, zero, suc, _+_, _-_, _*_, _/_, _≤_}
 use native.Mathlib.Omega.{arith}
 use mathlib.Core.Path.{_≡_, refl, sym, ap, _∙_}
-use mathlib.Core.Bool.{Bool, true, false, _&&_, _||_}
+use mathlib.Core.Bool.{Bool, true, _&&_, _||_}
 use mathlib.Core.List.{List, [], _∷_, _++_, append-assoc, append-nil}
 use lib.ListN.{length, take, drop, replicate, length-append}
 use lib.Seq.{take-append-add, take-take, length-take-le}
@@ -11,7 +10,7 @@ use lib.Dec.{eqb}
 use borrow.Author.Tests.{eq-eqb, eqb-true}
 use Rattle.bitstream.specs.Bits.{flat, cut, bitsOf, bytesOf, stream, wordsFor, begins}
 use Rattle.bitstream.specs.Bits.Laws.{Below, pad, pad-all, length-cut, length-flat, flat-append, flat-take, flat-cut, cut-flat}
-use Rattle.row_format.specs.Lists.Laws.{by-test, true-false, and-true-left, and-true-right}
+use Rattle.row_format.specs.Lists.Laws.{true-false, and-true-left, and-true-right}
 
 -- ---- pad
 pub pad-within : (k : ℕ) (b : List ℕ) → k ≤ length b → pad k b ≡ take k b

@@ -2,24 +2,24 @@
 -- prove them. tb, pb and wb are the bytes of a table, of pixels and of words, t is a table's words, and m is the memory lent
 -- for writing, as it was. A table is accepted where its verdict is 0. M is maxItemBits t, and an item's bits are those of
 -- itemBits t. Assumes nothing.
-use Prim.Native.Nat.{ℕ, zero, suc, _+_, _*_, _/_, _^_, _≤_, _<_, zero-le}
-use mathlib.Core.Path.{_≡_, refl, sym, ap, _∙_}
-use mathlib.Core.Bool.{Bool, true, false}
+use Prim.Native.Nat.{ℕ, _+_, _*_, _/_, _^_, _≤_, _<_, zero-le}
+use mathlib.Core.Path.{_≡_, refl, sym, _∙_}
+use mathlib.Core.Bool.{true, false}
 use mathlib.Core.List.{List, [], _∷_, _++_}
 use mathlib.Core.Logic.{_↔_}
-use lib.ListN.{length, take, drop, getD}
-use lib.IntN.{ℤ, pos, negsuc, _-ℤ_}
+use lib.ListN.{length, take, getD}
+use lib.IntN.{pos, negsuc, _-ℤ_}
 use lib.Signed.{_≤ℤ_}
 use lib.Dec.{ltb, eqb}
 use Rattle.bitstream.specs.Bits.{begins, wordsOf, halvesOf, stream, wordsFor}
 use Rattle.bitstream.specs.Bits.Laws.{Below}
 use Rattle.answer.specs.Outcome.{wrote}
 use Rattle.row_format.specs.Lists.{any}
-use Rattle.row_format.specs.Table.{lowLimit, tableSize, codewordAt, escapeLength, signed, entryDifference, hasDifference, verdict, tableNumber, maxItemBits}
-use Rattle.row_format.specs.Table.Laws.{Accepted, accepted, signed-least, signed-most, signed-differenceTo, length-codewordAt, escapeLength-least, codewordAt-least, codewordAt-most, codewordAt-only, entryDifference-most, maxItemBits-least, maxItemBits-most}
+use Rattle.row_format.specs.Table.{lowLimit, tableSize, codewordAt, escapeLength, signed, entryDifference, hasDifference, verdict, maxItemBits}
+use Rattle.row_format.specs.Table.Laws.{accepted, signed-least, signed-most, signed-differenceTo, length-codewordAt, escapeLength-least, codewordAt-least, codewordAt-most, codewordAt-only, entryDifference-most, maxItemBits-least, maxItemBits-most}
 use Rattle.row_format.specs.Row.{Item, escape, State, fresh, previous, differenceTo, byDifference, itemFor, itemsFor, pixelsOf, rowBits}
 use Rattle.row_format.specs.Reading.{readItem, done, readItems, stray, anyNeedless}
-use Rattle.row_format.specs.Calls.{packNumber, packed, unpacked, bitsUsed, room}
+use Rattle.row_format.specs.Calls.{packed, unpacked, bitsUsed, room}
 use Rattle.row_format.specs.Calls.Laws.{Packable, packable, packed-number, packed-done, packed-front, rowBytes}
 use Bounds.{bitsOfReading, readItem-uses, bitsUsed-most, length-rowBits}
 use RoundTrip.{itemFor-escape, pixelsOf-itemsFor, unpacked-rowBytes, unpacked-packed}
@@ -29,7 +29,7 @@ use Tightness.{steep, length-steep, any-steep, longest-escape, length-rowBits-st
 use OwnWords.{own-words, own-words-packed}
 use Memory.{Kept, Within, packed-kept, packed-within, unpacked-kept, unpacked-within}
 use Numbers.{packNumber-in, unpacked-in}
-use Done.{Accepts, unpacked-accepts}
+use Done.{unpacked-accepts}
 pub mod Search
 pub mod Bounds
 pub mod RoundTrip

@@ -1,14 +1,13 @@
 -- The laws of tables: what is true of an accepted one. Assumes nothing.
-use Prim.Native.Nat.{ℕ, zero, suc, _+_, _-_, _*_, _/_, _%_, _^_, _≤_, _<_, max}
-use native.Mathlib.Nat.{le-max-left, le-max-right, max-le, le-refl, eq-or-lt-of-le, le-of-suc-le-suc}
-use native.Mathlib.Decide.{decLt}
+use Prim.Native.Nat.{ℕ, zero, suc, _+_, _-_, _/_, _%_, _^_, _≤_, _<_}
+use native.Mathlib.Nat.{le-max-left, le-max-right, max-le}
 use native.Mathlib.Omega.{arith}
-use mathlib.Core.Path.{_≡_, refl, sym, ap, _∙_}
-use mathlib.Core.Bool.{Bool, true, false, cond, not, _&&_, _||_}
-use mathlib.Core.List.{List, [], _∷_, map}
-use lib.ListN.{length, drop, getD, length-map, length-drop, List·getD-map, List·getD-eq-default}
+use mathlib.Core.Path.{_≡_, ap, _∙_}
+use mathlib.Core.Bool.{true, false, cond, _||_}
+use mathlib.Core.List.{List, [], _∷_}
+use lib.ListN.{length, drop, getD, length-map, length-drop, List·getD-map}
 use lib.Seq.{getD-drop}
-use lib.IntN.{ℤ, pos, negsuc, _-ℤ_}
+use lib.IntN.{pos, negsuc, _-ℤ_}
 use lib.Signed.{_≤ℤ_}
 use lib.Dec.{leb, ltb, eqb, le→leb}
 use borrow.Author.Tests.{leb-true, ltb-true, ltb-false, eqb-true, not-false, le-leb, lt-ltb, le-ltb, eq-eqb}
@@ -17,7 +16,7 @@ use Rattle.bitstream.specs.Bits.Laws.{length-digits}
 use Rattle.row_format.specs.Lists.{any}
 use Rattle.row_format.specs.Lists.Laws.{by-test, true-false, and-true-all, or-false-left, or-false-right, cond-zero-test, cond-zero-rest, any-false-at, any-false}
 use Rattle.row_format.specs.BitLaws.{begins-both}
-use Rattle.row_format.specs.Table.{lowLimit, tableSize, codeword, codewords, codewordAt, escapeLength, signed, entryDifference, hasDifference, wrongSize, wrongWord, wrongCodeword, clash, verdict, tableNumber, longest, maxItemBits}
+use Rattle.row_format.specs.Table.{lowLimit, tableSize, codeword, codewords, codewordAt, escapeLength, signed, entryDifference, wrongSize, wrongWord, wrongCodeword, clash, verdict, tableNumber, longest, maxItemBits}
 
 -- ---- codewords
 pub length-codeword : (w : ℕ) → length (codeword w) ≡ w % 32

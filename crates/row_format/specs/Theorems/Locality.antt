@@ -1,24 +1,23 @@
 -- Demand 3: runs of words that are alike in their first n times M bits, rounded up to whole words, are unpacked alike. This
 -- holds under every table, accepted or not. Assumes nothing.
-use Prim.Native.Nat.{ℕ, zero, suc, _+_, _-_, _*_, _/_, _%_, _≤_, _<_}
+use Prim.Native.Nat.{ℕ, zero, suc, _+_, _-_, _*_, _≤_}
 use native.Mathlib.Nat.{suc-mul, sub-zero, zero-sub, suc-sub-suc}
 use native.Mathlib.Omega.{arith}
 use mathlib.Core.Path.{_≡_, refl, sym, ap, _∙_}
-use mathlib.Core.Bool.{Bool, true, false, cond, not}
-use mathlib.Core.List.{List, [], _∷_, _++_}
+use mathlib.Core.Bool.{false, not}
+use mathlib.Core.List.{List, [], _∷_}
 use lib.ListN.{length, take, drop, length-drop}
 use lib.Seq.{length-take-le, take-take, take-nil}
-use lib.Dec.{ltb}
 use borrow.Author.Tests.{le-ltb}
-use Rattle.bitstream.specs.Bits.{numOf, flat, begins, bitsOf, wordsOf, stream, wordsFor}
-use Rattle.row_format.specs.Lists.{any, least}
+use Rattle.bitstream.specs.Bits.{flat, begins, wordsOf, stream, wordsFor}
+use Rattle.row_format.specs.Lists.{any}
 use Rattle.row_format.specs.Lists.Laws.{least-same}
 use Rattle.row_format.specs.BitLaws.{stream-take, length-stream}
-use Rattle.row_format.specs.Table.{lowLimit, codewords, codewordAt, longest, escapeLength, maxItemBits}
+use Rattle.row_format.specs.Table.{codewords, codewordAt, longest, maxItemBits}
 use Rattle.row_format.specs.Table.Laws.{length-codewordAt, longest-maxItemBits, escapeLength-most}
 use Rattle.row_format.specs.Row.{Item, State, fresh, after}
 use Rattle.row_format.specs.Reading.{Match, none, found, find, Reading, item, fault, unmatched, rawHeight, matched, taken, readItem, Run, done, stop, follow, readBy, readItems, stray}
-use Rattle.row_format.specs.Calls.{usedByRun, afterRun, unpackNumber, unpacked}
+use Rattle.row_format.specs.Calls.{usedByRun, afterRun, unpacked}
 use Rattle.row_format.specs.Theorems.Search.{Found, find-found, find-take, any-begins-none, any-begins-none-take}
 use Rattle.row_format.specs.Theorems.Bounds.{bitsOfReading, readItem-uses, readItems-uses}
 

@@ -1,19 +1,18 @@
 -- Demand 1 of packing and unpacking: a refused call leaves the lent memory as found, and a done one writes only the words or
 -- pixels that it counts. Assumes nothing.
-use Prim.Native.Nat.{ℕ, zero, suc, _+_, _*_, _/_, _≤_, _<_}
+use Prim.Native.Nat.{ℕ, zero, suc, _*_, _/_, _≤_}
 use native.Mathlib.Omega.{arith}
-use mathlib.Core.Path.{_≡_, refl, sym, ap, _∙_}
-use mathlib.Core.Bool.{Bool, true, false}
-use mathlib.Core.List.{List, [], _∷_, _++_}
-use lib.ListN.{length, take, drop, length-append, length-drop}
+use mathlib.Core.Path.{_≡_, refl}
+use mathlib.Core.List.{List}
+use lib.ListN.{length, drop, length-append, length-drop}
 use lib.Seq.{drop-append-seam}
 use Rattle.bitstream.specs.Bits.{flat, bytesOf, halvesOf, wordsOf, stream, wordsFor}
 use Rattle.bitstream.specs.Bits.Laws.{length-cut}
-use Rattle.answer.specs.Outcome.{Outcome, outcome, refused, wrote, refuseIf, unless}
+use Rattle.answer.specs.Outcome.{Outcome, refused, wrote, refuseIf, unless}
 use Rattle.row_format.specs.Row.{fresh, pixelsOf, rowBits}
 use Rattle.row_format.specs.Reading.{Run, done, stop, readItems, stray}
 use Rattle.row_format.specs.Calls.{packNumber, packedRow, packed, afterRun, unpackNumber, unpacked}
-use Rattle.row_format.specs.Calls.Laws.{rowBytes, packNumber-zero-room, packed-done, packed-refused, Unpackable, unpackable}
+use Rattle.row_format.specs.Calls.Laws.{rowBytes, packNumber-zero-room, packed-done, packed-refused, unpackable}
 
 -- ---- refused: no count, and the memory m as found
 pub record Kept (m : List ℕ) (o : Outcome) : Type 0 where

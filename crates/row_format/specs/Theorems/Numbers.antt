@@ -1,20 +1,18 @@
 -- Demand 1: packing and unpacking answer a number from document 01, and only those that it lists for the call. Each law is
 -- over any property P that these numbers have. Assumes nothing.
-use Prim.Native.Nat.{ℕ, zero, suc, _+_, _*_, _/_, _%_, _≤_, _<_}
-use native.Mathlib.Omega.{arith}
-use mathlib.Core.Path.{_≡_, refl}
-use mathlib.Core.Bool.{Bool, true, false, cond}
-use mathlib.Core.List.{List, [], _∷_}
+use Prim.Native.Nat.{ℕ, zero, suc, _+_, _/_, _%_}
+use mathlib.Core.Bool.{Bool, true, false}
+use mathlib.Core.List.{List}
 use lib.ListN.{length, take, drop}
 use lib.Dec.{ltb, eqb}
-use Rattle.bitstream.specs.Bits.{numOf, begins, wordsOf, halvesOf, stream, wordsFor}
+use Rattle.bitstream.specs.Bits.{numOf, begins, wordsOf, stream, wordsFor}
 use Rattle.answer.specs.Outcome.{Outcome, _orElse_, refuseIf, unless}
 use Rattle.row_format.specs.Lists.{any}
 use Rattle.row_format.specs.Lists.Laws.{by-test}
 use Rattle.row_format.specs.Table.{lowLimit, wrongSize, wrongCodeword, clash, codewords, codewordAt, verdict, tableNumber}
 use Rattle.row_format.specs.Row.{Item, State, fresh, after, rowBits}
 use Rattle.row_format.specs.Reading.{Match, none, found, find, Reading, item, fault, unmatched, rawHeight, inside, matched, taken, readItem, Run, done, stop, prepend, follow, readBy, readItems, stray}
-use Rattle.row_format.specs.Calls.{tooMany, packNumber, packed, unpackNumber, afterRun, unpacked}
+use Rattle.row_format.specs.Calls.{tooMany, packNumber, unpackNumber, afterRun, unpacked}
 
 module _ (P : ℕ → Type 0) where
   refuseIf-in : (b : Bool) (e : ℕ) → P 0 → P e → P (refuseIf b e)

@@ -1,24 +1,23 @@
 -- Document 01: "The used words of an accepted reading are the very words packing would write exactly when no raw item was
 -- needless". Assumes nothing.
-use Prim.Native.Nat.{ℕ, zero, suc, _+_, _-_, _*_, _/_, _≤_, _<_}
+use Prim.Native.Nat.{ℕ, suc, _+_, _-_, _*_, _/_, _≤_}
 use native.Mathlib.Omega.{arith}
-use mathlib.Core.Path.{_≡_, refl, sym, ap, _∙_, subst}
-use mathlib.Core.Bool.{Bool, true, false, cond, _&&_, _||_}
+use mathlib.Core.Path.{_≡_, refl, sym, ap, _∙_}
+use mathlib.Core.Bool.{true, false}
 use mathlib.Core.List.{List, [], _∷_, _++_}
 use mathlib.Core.Logic.{_↔_}
 use lib.ListN.{length, take, drop, replicate, length-drop, length-append}
 use lib.Seq.{length-take-le, take-append-add, take-at}
 use lib.Dec.{leb, ltb, eqb}
-use borrow.Author.Tests.{leb-true, le-ltb, ltb-false, eqb-true, eqb-false, ne-eqb}
+use borrow.Author.Tests.{leb-true, le-ltb, ltb-false, eqb-false, ne-eqb}
 use Rattle.bitstream.specs.Bits.{flat, bitsOf, bytesOf, wordsOf, halvesOf, stream, wordsFor}
 use Rattle.bitstream.specs.Bits.Laws.{Below, below-nil, below-cons, below-head, below-tail, below-take, below-drop, below-flat, below-cut, length-cut, flat-cut, pad-all}
 use Rattle.row_format.specs.Lists.{any}
-use Rattle.row_format.specs.Lists.Laws.{by-test, true-false, and-true-left, and-true-right, or-false-left, or-false-right}
+use Rattle.row_format.specs.Lists.Laws.{by-test, and-true-left, and-true-right, or-false-left, or-false-right}
 use Rattle.row_format.specs.BitLaws.{bitsOf-inj, stream-take, length-stream}
-use Rattle.row_format.specs.Table.{lowLimit, tableSize, hasDifference}
 use Rattle.row_format.specs.Table.Laws.{Accepted, accepted, tableNumber-verdict}
-use Rattle.row_format.specs.Row.{Item, difference, badPixel, badBias, escape, State, fresh, past, previous, differenceTo, byDifference, itemFor, pixelOf, after, itemsFor, pixelsOf, bits, rowBits}
-use Rattle.row_format.specs.Reading.{inside, Run, done, stop, readItem, readBy, readItems, stray, needless, anyNeedless}
+use Rattle.row_format.specs.Row.{Item, difference, badPixel, badBias, escape, State, fresh, previous, differenceTo, byDifference, itemFor, pixelOf, after, itemsFor, pixelsOf, bits, rowBits}
+use Rattle.row_format.specs.Reading.{inside, done, readItems, stray, needless, anyNeedless}
 use Rattle.row_format.specs.Calls.{packNumber, packed, unpacked}
 use Rattle.row_format.specs.Calls.Laws.{rowBytes, packed-front}
 use Rattle.row_format.specs.Theorems.Done.{Accepts}

@@ -1,24 +1,24 @@
 -- Demand 2: what packing writes is read back, item by item and as a row. Assumes nothing.
-use Prim.Native.Nat.{ℕ, zero, suc, _+_, _-_, _*_, _/_, _%_, _≤_, _<_}
+use Prim.Native.Nat.{ℕ, suc, _+_, _-_, _*_, _/_, _≤_, _<_}
 use native.Mathlib.Nat.{sub-add-cancel, mod-eq-of-lt}
 use native.Mathlib.Omega.{arith}
-use mathlib.Core.Path.{_≡_, refl, sym, ap, _∙_}
-use mathlib.Core.Bool.{Bool, true, false, cond, not, _&&_}
+use mathlib.Core.Path.{_≡_, refl, sym, _∙_}
+use mathlib.Core.Bool.{true, false}
 use mathlib.Core.List.{List, [], _∷_, _++_, append-assoc}
-use lib.ListN.{length, take, drop, getD, replicate, length-append}
-use lib.Seq.{drop-append-seam, take-append-seam, drop-at, take-at}
+use lib.ListN.{length, take, drop, replicate, length-append}
+use lib.Seq.{drop-append-seam, drop-at, take-at}
 use lib.Dec.{leb, ltb, eqb}
 use borrow.Author.Tests.{leb-true, le-leb, ltb-true, ltb-false, lt-ltb, le-ltb, eqb-true, eqb-false, ne-eqb}
-use Rattle.bitstream.specs.Bits.{digits, numOf, flat, begins, bytesOf, wordsOf, halvesOf, stream, wordsFor}
+use Rattle.bitstream.specs.Bits.{digits, numOf, flat, bytesOf, wordsOf, halvesOf, stream, wordsFor}
 use Rattle.bitstream.specs.Bits.Laws.{Below, length-digits, numOf-digits}
-use Rattle.answer.specs.Outcome.{Outcome, wrote}
+use Rattle.answer.specs.Outcome.{wrote}
 use Rattle.row_format.specs.Lists.{any}
-use Rattle.row_format.specs.Lists.Laws.{by-test, true-false, and-true-left, and-true-right, or-false-left, or-false-right}
+use Rattle.row_format.specs.Lists.Laws.{by-test, and-true-left, and-true-right, or-false-left, or-false-right}
 use Rattle.row_format.specs.BitLaws.{begins-append, stream-bytesOf}
-use Rattle.row_format.specs.Table.{lowLimit, tableSize, hasDifference, codewords, codewordAt}
+use Rattle.row_format.specs.Table.{lowLimit, tableSize, hasDifference, codewordAt}
 use Rattle.row_format.specs.Table.Laws.{Accepted, accepted, tableNumber-verdict}
 use Rattle.row_format.specs.Row.{Item, difference, badPixel, badBias, escape, State, fresh, past, previous, differenceTo, byDifference, itemFor, pixelOf, after, itemBits, itemsFor, pixelsOf, bits, rowBits}
-use Rattle.row_format.specs.Reading.{Match, none, found, find, Reading, item, fault, rawHeight, inside, matched, taken, readItem, Run, done, stop, prepend, follow, readBy, readItems}
+use Rattle.row_format.specs.Reading.{item, rawHeight, inside, matched, readItem, done, readBy, readItems}
 use Rattle.row_format.specs.Calls.{afterRun, packNumber, packed, unpacked}
 use Rattle.row_format.specs.Calls.Laws.{Packable, packable, rowBytes, packed-done, unpackNumber-unpackable}
 use Rattle.row_format.specs.Theorems.Search.{find-only}

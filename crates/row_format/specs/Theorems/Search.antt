@@ -1,16 +1,15 @@
 -- The search for the string that begins the rest. Assumes nothing.
-use Prim.Native.Nat.{ℕ, zero, suc, _+_, _≤_, _<_}
-use native.Mathlib.Nat.{le-max-left, le-max-right, le-trans}
+use Prim.Native.Nat.{ℕ, _+_, _≤_, _<_}
 use native.Mathlib.Omega.{arith}
-use mathlib.Core.Path.{_≡_, refl, sym, ap, _∙_}
-use mathlib.Core.Bool.{Bool, true, false, cond, not, _||_}
-use mathlib.Core.List.{List, [], _∷_, _++_}
-use lib.ListN.{length, take, drop, getD}
+use mathlib.Core.Path.{_≡_, refl, ap, _∙_}
+use mathlib.Core.Bool.{true, false}
+use mathlib.Core.List.{List, [], _∷_}
+use lib.ListN.{length, take, getD}
 use lib.Seq.{length-take-le}
 use Rattle.bitstream.specs.Bits.{begins}
 use Rattle.row_format.specs.Lists.{any}
 use Rattle.row_format.specs.Lists.Laws.{by-test, true-false, or-false-left, or-false-right, any-false-at}
-use Rattle.row_format.specs.BitLaws.{begins-length, begins-swap, begins-take}
+use Rattle.row_format.specs.BitLaws.{begins-swap, begins-take}
 use Rattle.row_format.specs.Table.{longest, tableSize, codewords, codewordAt}
 use Rattle.row_format.specs.Table.Laws.{Accepted, getD-codewords, length-codewords-size, codewordAt-only}
 use Rattle.row_format.specs.Reading.{Match, none, found, later, find}

@@ -1,13 +1,12 @@
 -- What is read stands there: under an accepted table the bits that a reading uses are those of its items. Assumes nothing.
-use Prim.Native.Nat.{ℕ, zero, suc, _+_, _-_, _*_, _/_, _%_, _≤_, _<_}
-use native.Mathlib.Nat.{add-sub-cancel}
+use Prim.Native.Nat.{ℕ, zero, suc, _+_, _-_, _≤_, _<_}
 use native.Mathlib.Omega.{arith}
 use mathlib.Core.Path.{_≡_, refl, sym, ap, _∙_, subst}
-use mathlib.Core.Bool.{Bool, true, false, cond, _&&_}
-use mathlib.Core.List.{List, [], _∷_, _++_, append-assoc}
-use lib.ListN.{length, take, drop, getD, length-append, length-drop, take-append-drop}
+use mathlib.Core.Bool.{true}
+use mathlib.Core.List.{List, _++_, append-assoc}
+use lib.ListN.{length, take, drop, length-append, length-drop, take-append-drop}
 use lib.Seq.{drop-drop, length-take-le}
-use lib.Dec.{leb, ltb}
+use lib.Dec.{ltb}
 use borrow.Author.Tests.{ltb-true, ltb-false, lt-ltb, le-leb}
 use Rattle.bitstream.specs.Bits.{digits, numOf, begins}
 use Rattle.bitstream.specs.Bits.Laws.{Below, below-take, below-drop, length-digits, digits-numOf}
@@ -16,7 +15,7 @@ use Rattle.row_format.specs.Lists.Laws.{by-test}
 use Rattle.row_format.specs.BitLaws.{begins-drop}
 use Rattle.row_format.specs.Table.{lowLimit, tableSize, hasDifference, codewords, codewordAt}
 use Rattle.row_format.specs.Table.Laws.{Accepted, getD-codewords, length-codewords-size}
-use Rattle.row_format.specs.Row.{Item, difference, badPixel, badBias, escape, State, fresh, after, itemBits, bits}
+use Rattle.row_format.specs.Row.{Item, difference, State, fresh, after, itemBits, bits}
 use Rattle.row_format.specs.Reading.{Match, none, found, find, Reading, item, fault, rawHeight, inside, unmatched, matched, taken, readItem, Run, done, stop, prepend, follow, readBy, readItems}
 use Rattle.row_format.specs.Theorems.Search.{Found, find-found}
 use Rattle.row_format.specs.Theorems.RoundTrip.{Fits, FitAll}

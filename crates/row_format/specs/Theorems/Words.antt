@@ -1,15 +1,15 @@
 -- Rows in words and pixels in bytes: what is written has no stray bit, and pixels come back as the bytes they were.
 -- Assumes nothing.
-use Prim.Native.Nat.{ℕ, zero, suc, _+_, _-_, _*_, _/_, _%_, _^_, _≤_, _<_}
+use Prim.Native.Nat.{ℕ, zero, suc, _+_, _-_, _*_, _/_, _%_, _≤_}
 use native.Mathlib.Omega.{arith}
-use mathlib.Core.Path.{_≡_, refl, sym, ap, _∙_, subst}
-use mathlib.Core.Bool.{Bool, true, false, _||_}
-use mathlib.Core.List.{List, [], _∷_, _++_, append-assoc, append-nil}
-use lib.ListN.{length, take, drop, getD, replicate, length-append, length-replicate}
+use mathlib.Core.Path.{_≡_, refl, sym, ap, _∙_}
+use mathlib.Core.Bool.{false}
+use mathlib.Core.List.{List, [], _∷_, _++_, append-nil}
+use lib.ListN.{length, take, getD, replicate, length-replicate}
 use lib.Seq.{drop-append-seam, take-at, take-all, length-take-le}
 use lib.Dec.{eqb}
-use Rattle.bitstream.specs.Bits.{digits, flat, cut, bitsOf, bytesOf, halvesOf, stream, wordsFor}
-use Rattle.bitstream.specs.Bits.Laws.{Below, below-nil, below-append, below-take, below-digits, below-flat, length-flat, length-cut, flat-take, flat-cut, cut-flat, pad}
+use Rattle.bitstream.specs.Bits.{digits, flat, cut, bitsOf, bytesOf, halvesOf, wordsFor}
+use Rattle.bitstream.specs.Bits.Laws.{Below, below-nil, below-append, below-take, below-digits, below-flat, length-flat, length-cut, flat-take, flat-cut, cut-flat}
 use Rattle.row_format.specs.Lists.{any}
 use Rattle.row_format.specs.BitLaws.{pad-within, bytesOf-bitsOf}
 use Rattle.row_format.specs.Table.{lowLimit, codeword, codewordAt}

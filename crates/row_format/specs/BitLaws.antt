@@ -64,7 +64,7 @@ begins-both (x ∷ a) (y ∷ b) (c ∷ r) p q =
     let xc : x ≡ c = eqb-true x c (and-true-left (eqb x c) (begins a r) p) in
     let yc : y ≡ c = eqb-true y c (and-true-left (eqb y c) (begins b r) q) in
     rw (eq-eqb x y (xc ∙ sym yc), eq-eqb y x (yc ∙ sym xc))
-       (begins-both a b r (and-true-right (eqb x c) (begins a r) p) (and-true-right (eqb y c) (begins b r) q))
+    (begins-both a b r (and-true-right (eqb x c) (begins a r) p) (and-true-right (eqb y c) (begins b r) q))
 
 pub begins-length : (a r : List ℕ) → begins a r ≡ true → length a ≤ length r
 unfolding begins
@@ -80,7 +80,7 @@ begins-swap [] (c ∷ r) h p = absurd (omega arith)
 begins-swap (x ∷ a) [] h p = refl
 begins-swap (x ∷ a) (c ∷ r) h p =
     rw (eq-eqb c x (sym (eqb-true x c (and-true-left (eqb x c) (begins a r) p))))
-       (begins-swap a r (omega arith) (and-true-right (eqb x c) (begins a r) p))
+    (begins-swap a r (omega arith) (and-true-right (eqb x c) (begins a r) p))
 
 -- only as many bits are looked at as the string has
 pub begins-take : (a r : List ℕ) (k : ℕ) → length a ≤ k → begins a (take k r) ≡ begins a r

@@ -92,7 +92,7 @@ items-pixels t ps = pixelsOf-itemsFor t fresh ps zero-le
 module _ (tb pb m : List ℕ) (bytes : Below 256 pb) (packs : packed tb pb m .answer .number ≡ 0) where
   pub round-trip : (rest m′ : List ℕ) → length (halvesOf pb) ≤ length m′ / 2
       → unpacked tb (take (4 * wordsFor (packed tb pb m .answer .count)) (packed tb pb m .memory) ++ rest) (length (halvesOf pb)) m′
-        ≡ wrote (packed tb pb m .answer .count) (take (2 * length (halvesOf pb)) pb) m′
+      ≡ wrote (packed tb pb m .answer .count) (take (2 * length (halvesOf pb)) pb) m′
   round-trip rest m′ room =
       let e = sym (packed-number tb pb m) ∙ packs in
       rw (packed-front tb pb m e, packed-done tb pb m e)
@@ -101,7 +101,7 @@ module _ (tb pb m : List ℕ) (bytes : Below 256 pb) (packs : packed tb pb m .an
   -- the same from the very memory that packing leaves
   pub round-trip-memory : (m′ : List ℕ) → length (halvesOf pb) ≤ length m′ / 2
       → unpacked tb (packed tb pb m .memory) (length (halvesOf pb)) m′
-        ≡ wrote (packed tb pb m .answer .count) (take (2 * length (halvesOf pb)) pb) m′
+      ≡ wrote (packed tb pb m .answer .count) (take (2 * length (halvesOf pb)) pb) m′
   round-trip-memory m′ room = unpacked-packed tb pb m m′ bytes (sym (packed-number tb pb m) ∙ packs) room
 
 -- "The used words of an accepted reading are the very words packing would write exactly when no raw item was needless"
@@ -113,9 +113,9 @@ used-words-own t ok = own-words t (accepted t ok)
 -- the same of a done unpacking, and of a packing, with room enough, of the pixels that it left
 pub unpacked-words-own : (tb wb : List ℕ) (n : ℕ) (m : List ℕ) → Below 256 wb → (h : unpacked tb wb n m .answer .number ≡ 0) (mw : List ℕ)
     → let pb = take (2 * n) (unpacked tb wb n m .memory) in
-      packed tb pb mw .answer .number ≡ 0
+    packed tb pb mw .answer .number ≡ 0
     → (take (4 * wordsFor (unpacked tb wb n m .answer .count)) wb ≡ take (4 * wordsFor (packed tb pb mw .answer .count)) (packed tb pb mw .memory))
-      ↔ (anyNeedless (wordsOf tb) fresh (unpacked-accepts tb wb n m h .items) ≡ false)
+    ↔ (anyNeedless (wordsOf tb) fresh (unpacked-accepts tb wb n m h .items) ≡ false)
 unpacked-words-own tb wb n m bytes h mw e =
     let pb = take (2 * n) (unpacked tb wb n m .memory) in
     own-words-packed tb wb n m bytes (unpacked-accepts tb wb n m h) mw (sym (packed-number tb pb mw) ∙ e)
@@ -150,7 +150,7 @@ item-bits = readItem-uses
 -- pixels are unpacked from them"; under any table
 pub words-alike : (tb wb wb′ : List ℕ) (n : ℕ) (m : List ℕ)
     → let k = wordsFor (n * maxItemBits (wordsOf tb)) in
-      4 * k ≤ length wb → 4 * k ≤ length wb′ → take (4 * k) wb ≡ take (4 * k) wb′ → unpacked tb wb n m ≡ unpacked tb wb′ n m
+    4 * k ≤ length wb → 4 * k ≤ length wb′ → take (4 * k) wb ≡ take (4 * k) wb′ → unpacked tb wb n m ≡ unpacked tb wb′ n m
 words-alike = unpacked-alike
 
 -- "If the table has neither -4093 nor +4093 as a step, and no string is longer than the raw string's length plus 12, then for

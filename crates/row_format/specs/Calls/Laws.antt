@@ -53,7 +53,8 @@ packable tb ps roomWords e =
     record {
       table = orElse-zero-left (tableNumber tb) (tooMany (length ps) orElse rest) e;
       few = ltb-false 4096 (length ps) (cond-zero-test (ltb 4096 (length ps)) 10 0 (orElse-zero-left (tooMany (length ps)) rest after-table));
-      pixels = cond-zero-test (any (ltb 4095) ps) 3 0 (orElse-zero-left (refuseIf (any (ltb 4095) ps) 4) full after-few) }
+      pixels = cond-zero-test (any (ltb 4095) ps) 3 0 (orElse-zero-left (refuseIf (any (ltb 4095) ps) 4) full after-few);
+    }
 
 pub packNumber-zero-room : (tb ps : List ℕ) (roomWords : ℕ) → packNumber tb ps roomWords ≡ 0 → wordsFor (length (rowBits (wordsOf tb) ps)) ≤ roomWords
 packNumber-zero-room tb ps roomWords e =
@@ -104,4 +105,5 @@ unpackable tb n roomPixels e =
     record {
       table = orElse-zero-left (tableNumber tb) (tooMany n orElse full) e;
       few = ltb-false 4096 n (cond-zero-test (ltb 4096 n) 10 0 (orElse-zero-left (tooMany n) full after-table));
-      room = ltb-false roomPixels n (cond-zero-test (ltb roomPixels n) 4 0 (orElse-zero-right (tooMany n) full after-table)) }
+      room = ltb-false roomPixels n (cond-zero-test (ltb roomPixels n) 4 0 (orElse-zero-right (tooMany n) full after-table));
+    }

@@ -40,11 +40,11 @@ unfolding unmatched
 unmatched-uses ss r e =
     let passes : ℕ → Bool = λ k. not (any (begins (take k r)) ss) in
     by-test (any (begins r) ss)
-      (λ p. rw p (any-begins-length ss r p))
-      (λ p. rw p (by-test (ltb (length r) (longest ss))
-        (λ short. omega (arith, least-within passes (length r), ltb-true (length r) (longest ss) short))
-        (λ long. least-most passes (length r) (longest ss)
-          (ap not (any-begins-none-take ss r (longest ss) (omega arith) (ltb-false (length r) (longest ss) long) e)))))
+    (λ p. rw p (any-begins-length ss r p))
+    (λ p. rw p (by-test (ltb (length r) (longest ss))
+    (λ short. omega (arith, least-within passes (length r), ltb-true (length r) (longest ss) short))
+    (λ long. least-most passes (length r) (longest ss)
+    (ap not (any-begins-none-take ss r (longest ss) (omega arith) (ltb-false (length r) (longest ss) long) e)))))
 
 rawHeight-uses : (n : ℕ) (r : List ℕ) → bitsOfReading (rawHeight n r) ≤ n + 12
 unfolding rawHeight

@@ -37,4 +37,4 @@ module _ (tb wb : List ℕ) (n : ℕ) (m : List ℕ) where
   unfolding unpacked
   unpacked-accepts h =
       by-run (unpackNumber tb n (length m / 2)) refl (readItems (wordsOf tb) n (stream wb)) refl
-        (readItems-in (λ k. k ≡ 0 → ⊥) (λ e. omega arith) (λ e. omega arith) (λ e. omega arith) (λ e. omega arith) (wordsOf tb) n (stream wb)) h
+      (readItems-in (λ k. k ≡ 0 → ⊥) (λ e. omega arith) (λ e. omega arith) (λ e. omega arith) (λ e. omega arith) (wordsOf tb) n (stream wb)) h

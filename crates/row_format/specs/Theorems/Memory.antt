@@ -51,7 +51,8 @@ refused-within e k m = record { size = refl; rest = refl }
 wrote-within : (c k : ℕ) (b m : List ℕ) → length b ≡ k → k ≤ length m → Within k m (wrote c b m)
 wrote-within c k b m e h = record {
   size = omega (arith, length-append b (drop (length b) m), length-drop (length b) m);
-  rest = rw (← e) (drop-append-seam b (drop (length b) m)) }
+  rest = rw (← e) (drop-append-seam b (drop (length b) m));
+}
 
 unless-within : (e k : ℕ) (m : List ℕ) (o : Outcome) → (e ≡ 0 → Within k m o) → Within k m (unless e m o)
 unless-within zero k m o h = h refl
@@ -65,7 +66,7 @@ packed-within tb pb m = by-number (packNumber tb (halvesOf pb) (length m / 4)) r
         let b = rowBits (wordsOf tb) (halvesOf pb) in
         rw (packed-done tb pb m e)
         (wrote-within (length b) (4 * wordsFor (length b)) (rowBytes (wordsOf tb) (halvesOf pb)) m (length-cut 8 (4 * wordsFor (length b)) b)
-          (omega (arith, packNumber-zero-room tb (halvesOf pb) (length m / 4) e)))
+        (omega (arith, packNumber-zero-room tb (halvesOf pb) (length m / 4) e)))
     by-number (suc k) e = rw (packed-refused tb pb m k e) (refused-within (suc k) 0 m)
 
 afterRun-within : (r : List ℕ) (n : ℕ) (m : List ℕ) (x : Run) → 2 * n ≤ length m → Within (2 * n) m (afterRun r n m x)
@@ -78,4 +79,4 @@ pub unpacked-within : (tb wb : List ℕ) (n : ℕ) (m : List ℕ) → Within (2 
 unfolding unpacked
 unpacked-within tb wb n m = unless-within (unpackNumber tb n (length m / 2)) (2 * n) m _
     (λ e. let ok = unpackable tb n (length m / 2) e in
-      afterRun-within (stream wb) n m (readItems (wordsOf tb) n (stream wb)) (omega (arith, ok .room)))
+    afterRun-within (stream wb) n m (readItems (wordsOf tb) n (stream wb)) (omega (arith, ok .room)))

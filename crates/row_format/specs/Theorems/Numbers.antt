@@ -33,7 +33,7 @@ module _ (P : ℕ → Type 0) where
       let t = wordsOf b in
       by-test (eqb (length b % 4) 0)
       (λ e. rw e (by-test (wrongSize t) (λ d. rw d p1)
-        (λ d. rw d (by-test (wrongCodeword t) (λ c. rw c p2) (λ c. rw c (refuseIf-in (clash (codewords t)) 3 p0 p3))))))
+      (λ d. rw d (by-test (wrongCodeword t) (λ c. rw c p2) (λ c. rw c (refuseIf-in (clash (codewords t)) 3 p0 p3))))))
       (λ e. rw e p1)
 
   pub packNumber-in : (tb ps : List ℕ) (roomWords : ℕ) → P 0 → P 1 → P 2 → P 3 → P 11 → P 4 → P 5 → P (packNumber tb ps roomWords)
@@ -98,5 +98,5 @@ module _ (P : ℕ → Type 0) where
     unpacked-in tb wb n m p0 p1 p2 p3 p11 p5 p10 =
         unless-in (unpackNumber tb n (length m / 2)) m _
         (orElse-in (tableNumber tb) _ (tableNumber-in tb p0 p1 p2 p3)
-          (orElse-in (tooMany n) _ (refuseIf-in (ltb 4096 n) 11 p0 p11) (refuseIf-in (ltb (length m / 2) n) 5 p0 p5)))
+        (orElse-in (tooMany n) _ (refuseIf-in (ltb 4096 n) 11 p0 p11) (refuseIf-in (ltb (length m / 2) n) 5 p0 p5)))
         (afterRun-in (stream wb) n m (readItems (wordsOf tb) n (stream wb)) p0 p10 (readItems-in (wordsOf tb) n (stream wb)))

@@ -24,9 +24,10 @@ refuseIf-given false e h = absurd (omega arith)
 pub packNumber-five : (tb ps : List ℕ) (roomWords : ℕ) → Packable tb ps
     → (packNumber tb ps roomWords ≡ 5) ↔ (roomWords < wordsFor (length (rowBits (wordsOf tb) ps)))
 packNumber-five tb ps roomWords ok =
-    let need = wordsFor (length (rowBits (wordsOf tb) ps)) in
-    (λ e. ltb-true roomWords need (refuseIf-given (ltb roomWords need) 4 (sym (packNumber-packable tb ps roomWords ok) ∙ e)),
-     λ h. packNumber-packable tb ps roomWords ok ∙ rw (lt-ltb roomWords need h))
+    let need = wordsFor (length (rowBits (wordsOf tb) ps)) in (
+      λ e. ltb-true roomWords need (refuseIf-given (ltb roomWords need) 4 (sym (packNumber-packable tb ps roomWords ok) ∙ e)),
+      λ h. packNumber-packable tb ps roomWords ok ∙ rw (lt-ltb roomWords need h),
+    )
 
 pub packNumber-done : (tb ps : List ℕ) (roomWords : ℕ) → Packable tb ps
     → wordsFor (length (rowBits (wordsOf tb) ps)) ≤ roomWords → packNumber tb ps roomWords ≡ 0

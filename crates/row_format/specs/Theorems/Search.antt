@@ -31,8 +31,8 @@ find-found [] r = refl
 find-found (s ∷ ss) r =
     let rest = find-found ss r in
     by-test (begins s r)
-      (λ e. rw e (omega arith, e))
-      (λ e. rw e (later-found s ss r (find ss r) e rest))
+    (λ e. rw e (omega arith, e))
+    (λ e. rw e (later-found s ss r (find ss r) e rest))
 
 -- ---- how far the search looks
 pub find-take : (ss : List (List ℕ)) (r : List ℕ) (k : ℕ) → longest ss ≤ k → find ss (take k r) ≡ find ss r
@@ -47,8 +47,8 @@ any-begins-none [] r h e = refl
 any-begins-none (s ∷ ss) r h e =
     let rest = any-begins-none ss r (omega arith) (or-false-right (begins s r) (any (λ u. begins u r) ss) e) in
     by-test (begins r s)
-      (λ p. true-false (begins-swap r s (omega arith) p) (or-false-left (begins s r) (any (λ u. begins u r) ss) e))
-      (λ p. rw p rest)
+    (λ p. true-false (begins-swap r s (omega arith) p) (or-false-left (begins s r) (any (λ u. begins u r) ss) e))
+    (λ p. rw p rest)
 
 any-begins-take : (ss : List (List ℕ)) (r : List ℕ) (k : ℕ) → longest ss ≤ k → any (λ s. begins s (take k r)) ss ≡ any (λ s. begins s r) ss
 unfolding any longest

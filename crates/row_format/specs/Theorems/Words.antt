@@ -56,10 +56,10 @@ bytesOf-halvesOf pb bytes =
     let place : 16 * (length pb / 2) ≡ 8 * (2 * (length pb / 2)) = omega arith in
     let within : 16 * (length pb / 2) ≤ length (bitsOf pb) = rw (length-flat 8 pb) (omega arith) in
     let halves : flat 16 (halvesOf pb) ≡ bitsOf (take (2 * n) pb) =
-          flat-cut 16 n (bitsOf pb) (below-flat 8 pb)
-          ∙ pad-within (16 * n) (bitsOf pb) within
-          ∙ ap (λ (k : ℕ). take k (bitsOf pb)) place
-          ∙ sym (flat-take 8 (2 * n) pb) in
+    flat-cut 16 n (bitsOf pb) (below-flat 8 pb)
+    ∙ pad-within (16 * n) (bitsOf pb) within
+    ∙ ap (λ (k : ℕ). take k (bitsOf pb)) place
+    ∙ sym (flat-take 8 (2 * n) pb) in
     let size : length (take (2 * n) pb) ≡ 2 * n = length-take-le (2 * n) pb (omega arith) in
     rw (length-cut 16 n (bitsOf pb), halves) (bytesOf-bitsOf (2 * n) (take (2 * n) pb) (below-take (2 * n) pb bytes) size)
 
@@ -70,7 +70,7 @@ halvesOf-bytesOf n ps size low =
     let place : 8 * (2 * n) ≡ 16 * n = omega arith in
     let count : 2 * n / 2 ≡ n = omega arith in
     let same : bitsOf (bytesOf (2 * n) (flat 16 ps)) ≡ flat 16 ps =
-          flat-cut 8 (2 * n) (flat 16 ps) (below-flat 16 ps)
-          ∙ rw place (pad-within (16 * n) (flat 16 ps) (omega arith) ∙ take-all (16 * n) (flat 16 ps) (omega arith)) in
+    flat-cut 8 (2 * n) (flat 16 ps) (below-flat 16 ps)
+    ∙ rw place (pad-within (16 * n) (flat 16 ps) (omega arith) ∙ take-all (16 * n) (flat 16 ps) (omega arith)) in
     rw (length-cut 8 (2 * n) (flat 16 ps), count, same)
     (ap (λ (k : ℕ). cut 16 k (flat 16 ps)) (sym size) ∙ ap (cut 16 (length ps)) (sym (append-nil (flat 16 ps))) ∙ cut-flat 16 ps [] low)

@@ -1,8 +1,7 @@
-// Bits in byte slices, the lowest bit of byte 0 first.
-ghost use mathlib.Core.Path.{_≡_};
-
-pub fn one() -> u8
-    ensures { λ r. ⌜ r ≡ 1 ⌝ }
-{
-    1
-}
+// Bits in byte slices, the lowest bit of byte 0 first: little-endian numbers, single bits, fields of bits, and a writer of
+// bit strings. The definitions are in specs/Bits.antt.
+pub mod bit;
+pub mod byte;
+pub mod field;
+pub mod number;
+pub mod writer;

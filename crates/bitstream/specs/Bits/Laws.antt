@@ -1,6 +1,6 @@
 -- The laws of bits in bytes. Assumes nothing.
 use Prim.Native.Nat.{ℕ, zero, suc, _+_, _-_, _*_, _/_, _%_, _^_, _≤_, _<_, zero-le}
-use native.Mathlib.Nat.{zero-mod, zero-div, add-zero, zero-add, add-comm, add-assoc, mod-lt, mod-one, div-one, suc-add, zero-mul, mul-zero, mul-suc, mul-one, mul-assoc, mul-comm, mul-right-comm, add-mul, pow-suc, pow-zero, mod-eq-of-lt, div-eq-of-lt, add-div-left, add-mod-left, not-suc-le-zero, le-of-suc-le-suc, lt-of-lt-of-le, add-suc}
+use native.Mathlib.Nat.{zero-mod, zero-div, add-zero, zero-add, add-comm, add-assoc, mod-lt, mod-one, div-one, suc-add, zero-mul, mul-zero, mul-suc, mul-one, mul-assoc, mul-comm, mul-right-comm, add-mul, pow-suc, pow-zero, mod-eq-of-lt, div-eq-of-lt, div-lt-iff-lt-mul, add-div-left, add-mod-left, not-suc-le-zero, le-of-suc-le-suc, lt-of-lt-of-le, add-suc}
 use native.Mathlib.Numerals.{add-one}
 use native.Mathlib.Decide.{decLt}
 use native.Mathlib.Omega.{arith}
@@ -9,7 +9,8 @@ use mathlib.Core.Logic.{by-cases}
 use mathlib.Core.List.{List, [], _∷_, _++_, append-assoc}
 use lib.ListN.{length, take, drop, getD, replicate, length-append, List·getD-append}
 use lib.Seq.{take-nil, drop-nil, take-append-add, drop-append-add, take-at, drop-at, getD-append-add}
-use lib.Arith.{digits-lt, digits-div, digits-mod, mod-mul}
+use lib.Arith.{digits-lt, digits-div, mod-mul}
+use lib.Bits.{block-half, block-odd}
 use lib.Pow.{pow-add, shr-shr, pow-pos, high, low}
 use Rattle.bitstream.specs.Bits.{digits, numOf, flat, cut}
 
@@ -66,6 +67,24 @@ unfolding digits
 digits-split zero n v = rw (zero-add n, div-one v)
 digits-split (suc m) n v = rw (suc-add m n) (ap (λ (l : List ℕ). v % 2 ∷ l) (digits-split m n (v / 2) ∙ ap (λ (k : ℕ). digits m (v / 2) ++ digits n k) (halves m v)))
 
+pub digits-join : (n m q r : ℕ) → r < 2 ^ n → digits n r ++ digits m q ≡ digits (n + m) (q * 2 ^ n + r)
+unfolding digits
+digits-join zero m q r h =
+    let e : q * 1 + r ≡ q = omega arith in
+    rw (zero-add m, e)
+digits-join (suc n) m q r h =
+    let h′ : r / 2 < 2 ^ n = div-lt-iff-lt-mul {k = 2} (omega arith) .1 (rw (← pow-suc 2 n) h) in
+    rw (suc-add n m, block-odd q n r, block-half q n r) (ap (r % 2 ∷_) (digits-join n m q (r / 2) h′))
+
+pub digits-mod : (w v : ℕ) → digits w (v % 2 ^ w) ≡ digits w v
+unfolding digits
+digits-mod zero v = refl
+digits-mod (suc w) v =
+    let e : v % 2 ^ suc w ≡ v / 2 % 2 ^ w * 2 + v % 2 = ap (v %_) (pow-suc 2 w) ∙ mod-mul v (pow-pos w) (omega arith) in
+    let half : v % 2 ^ suc w / 2 ≡ v / 2 % 2 ^ w = ap (_/ 2) e ∙ lib.Arith.digits-div (v / 2 % 2 ^ w) (mod-lt v (omega arith)) in
+    let odd : v % 2 ^ suc w % 2 ≡ v % 2 = ap (_% 2) e ∙ lib.Arith.digits-mod (v / 2 % 2 ^ w) (mod-lt v (omega arith)) in
+    rw (half, odd) (ap (v % 2 ∷_) (digits-mod w (v / 2)))
+
 pub numOf-digits : (w v : ℕ) → numOf (digits w v) ≡ v % 2 ^ w
 unfolding digits numOf
 numOf-digits zero v = sym (mod-one v)
@@ -88,7 +107,7 @@ numOf-lt (x ∷ b) h = rw (pow-suc 2 (length b)) (digits-lt (numOf-lt b (below-t
 pub digits-numOf : (b : List ℕ) → Below 2 b → digits (length b) (numOf b) ≡ b
 unfolding digits numOf
 digits-numOf [] h = refl
-digits-numOf (x ∷ b) h = rw (digits-div (numOf b) (below-head h), digits-mod (numOf b) (below-head h), digits-numOf b (below-tail h))
+digits-numOf (x ∷ b) h = rw (digits-div (numOf b) (below-head h), lib.Arith.digits-mod (numOf b) (below-head h), digits-numOf b (below-tail h))
 
 pub numOf-inj : (a b : List ℕ) → Below 2 a → Below 2 b → length a ≡ length b → numOf a ≡ numOf b → a ≡ b
 numOf-inj a b ha hb l e =
@@ -101,7 +120,7 @@ numOf-take zero b h = sym (mod-one (numOf b))
 numOf-take (suc n) [] h = sym (zero-mod (2 ^ suc n))
 numOf-take (suc n) (x ∷ b) h =
     let two : 0 < 2 = omega arith in
-    rw (numOf-take n b (below-tail h), pow-suc 2 n, mod-mul (numOf b * 2 + x) (pow-pos n) two, digits-div (numOf b) (below-head h), digits-mod (numOf b) (below-head h))
+    rw (numOf-take n b (below-tail h), pow-suc 2 n, mod-mul (numOf b * 2 + x) (pow-pos n) two, digits-div (numOf b) (below-head h), lib.Arith.digits-mod (numOf b) (below-head h))
 
 pub numOf-drop : (n : ℕ) (b : List ℕ) → Below 2 b → numOf (drop n b) ≡ numOf b / 2 ^ n
 unfolding numOf
@@ -203,7 +222,7 @@ pub digits-pad : (w : ℕ) (b : List ℕ) → Below 2 b → digits w (numOf b) �
 unfolding digits numOf
 digits-pad zero b h = refl
 digits-pad (suc w) [] h = ap (0 ∷_) (digits-pad w [] h)
-digits-pad (suc w) (x ∷ b) h = rw (digits-div (numOf b) (below-head h), digits-mod (numOf b) (below-head h), digits-pad w b (below-tail h))
+digits-pad (suc w) (x ∷ b) h = rw (digits-div (numOf b) (below-head h), lib.Arith.digits-mod (numOf b) (below-head h), digits-pad w b (below-tail h))
 
 -- a stream taken apart and put together again
 pub flat-cut : (w n : ℕ) (b : List ℕ) → Below 2 b → flat w (cut w n b) ≡ pad (w * n) b

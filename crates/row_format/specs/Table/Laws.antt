@@ -122,7 +122,7 @@ pub record Accepted (t : List ℕ) : Type 0 where
   pub word : (j : ℕ) → j < 3 + tableSize t → RightWord (getD t (3 + j) 0)
   pub apart : clash (codewords t) ≡ false
 
-right-word : (w : ℕ) → wrongWord w ≡ false → RightWord w
+pub right-word : (w : ℕ) → wrongWord w ≡ false → RightWord w
 unfolding wrongWord
 right-word w e =
     let parts = and-true-all (leb 1 (w % 32)) (leb (w % 32) 27) (ltb (w / 32) (2 ^ (w % 32))) (not-false _ e) in
@@ -133,12 +133,12 @@ right-word w e =
     }
 
 -- the sizes of an accepted table's header
-record Sized (t : List ℕ) : Type 0 where
+pub record Sized (t : List ℕ) : Type 0 where
   pub least : 1 ≤ tableSize t
   pub most : lowLimit t + tableSize t ≤ 8187
   pub words : length t ≡ 6 + tableSize t
 
-sized : (t : List ℕ) → wrongSize t ≡ false → Sized t
+pub sized : (t : List ℕ) → wrongSize t ≡ false → Sized t
 unfolding wrongSize
 sized t e =
     let parts = and-true-all (leb 1 (tableSize t)) (leb (lowLimit t + tableSize t) 8187) (eqb (length t) (6 + tableSize t)) (not-false _ e) in

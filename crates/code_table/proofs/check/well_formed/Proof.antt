@@ -1,0 +1,26 @@
+use native.Mathlib.Omega.{arith}
+use Rattle.code_table.specs.Check.Laws.{formed-empty, formed-long, formed-last}
+use borrow.Author.Needs.{needs}
+use Rattle.code_table.proofs.check.well_formed.Statement.{statement}
+use Rattle.code_table.proofs.check.well_formed.Tie as tie
+use Rattle.code_table.proofs.check.well_formed.Reads as reads
+use Rattle.code_table.proofs.check.well_formed.Lts as lts
+
+-- src/check.rt:42:9
+returns : tie.Need-returns
+returns c = formed-empty (c .before .args .w) (c .if1 .taken)
+
+-- src/check.rt:45:9
+returns-2 : tie.Need-returns-2
+returns-2 c = formed-long (c .before .before .args .w) (omega arith) (c .if2 .taken)
+
+-- src/check.rt:47:5
+shr-result : tie.Need-shr-result
+shr-result c = search needs
+
+-- src/check.rt:37:1
+returns-3 : tie.Need-returns-3
+returns-3 c = formed-last (c .before .before .args .w) (omega arith) (omega arith)
+
+pub well-formed-spec : {M : Type 1} → statement M
+well-formed-spec = tie.close (tie.spec returns returns-2 shr-result returns-3)

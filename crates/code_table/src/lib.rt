@@ -1,0 +1,4 @@
+// A table's bytes: its header and codewords, the check that every call makes, and the plain table.
+pub mod check;
+pub mod entry;
+pub mod header;

@@ -1,9 +1,8 @@
 -- Laws of bits that tables and rows need. Assumes nothing.
-use Prim.Native.Nat.{ℕ, zero, suc, _+_, _-_, _*_, _/_, _%_, _^_, _≤_, _<_}
-use native.Mathlib.Nat.{le-of-suc-le-suc, not-suc-le-zero}
+use Prim.Native.Nat.{ℕ, zero, suc, _+_, _-_, _*_, _/_, _≤_}
 use native.Mathlib.Omega.{arith}
 use mathlib.Core.Path.{_≡_, refl, sym, ap, _∙_}
-use mathlib.Core.Bool.{Bool, true, false, _&&_, _||_}
+use mathlib.Core.Bool.{Bool, true, _&&_, _||_}
 use mathlib.Core.List.{List, [], _∷_, _++_, append-assoc, append-nil}
 use lib.ListN.{length, take, drop, replicate, length-append}
 use lib.Seq.{take-append-add, take-take, length-take-le}
@@ -11,7 +10,7 @@ use lib.Dec.{eqb}
 use borrow.Author.Tests.{eq-eqb, eqb-true}
 use Rattle.bitstream.specs.Bits.{flat, cut, bitsOf, bytesOf, stream, wordsFor, begins}
 use Rattle.bitstream.specs.Bits.Laws.{Below, pad, pad-all, length-cut, length-flat, flat-append, flat-take, flat-cut, cut-flat}
-use Rattle.row_format.specs.Lists.Laws.{by-test, true-false, and-true-left, and-true-right}
+use Rattle.row_format.specs.Lists.Laws.{true-false, and-true-left, and-true-right}
 
 -- ---- pad
 pub pad-within : (k : ℕ) (b : List ℕ) → k ≤ length b → pad k b ≡ take k b
@@ -65,7 +64,7 @@ begins-both (x ∷ a) (y ∷ b) (c ∷ r) p q =
     let xc : x ≡ c = eqb-true x c (and-true-left (eqb x c) (begins a r) p) in
     let yc : y ≡ c = eqb-true y c (and-true-left (eqb y c) (begins b r) q) in
     rw (eq-eqb x y (xc ∙ sym yc), eq-eqb y x (yc ∙ sym xc))
-       (begins-both a b r (and-true-right (eqb x c) (begins a r) p) (and-true-right (eqb y c) (begins b r) q))
+    (begins-both a b r (and-true-right (eqb x c) (begins a r) p) (and-true-right (eqb y c) (begins b r) q))
 
 pub begins-length : (a r : List ℕ) → begins a r ≡ true → length a ≤ length r
 unfolding begins
@@ -81,7 +80,7 @@ begins-swap [] (c ∷ r) h p = absurd (omega arith)
 begins-swap (x ∷ a) [] h p = refl
 begins-swap (x ∷ a) (c ∷ r) h p =
     rw (eq-eqb c x (sym (eqb-true x c (and-true-left (eqb x c) (begins a r) p))))
-       (begins-swap a r (omega arith) (and-true-right (eqb x c) (begins a r) p))
+    (begins-swap a r (omega arith) (and-true-right (eqb x c) (begins a r) p))
 
 -- only as many bits are looked at as the string has
 pub begins-take : (a r : List ℕ) (k : ℕ) → length a ≤ k → begins a (take k r) ≡ begins a r

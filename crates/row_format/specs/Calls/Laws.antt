@@ -1,19 +1,18 @@
 -- The laws of the calls' numbers: when each refusal is given. Assumes nothing.
-use Prim.Native.Nat.{ℕ, zero, suc, _+_, _*_, _/_, _≤_, _<_}
+use Prim.Native.Nat.{ℕ, zero, suc, _*_, _/_, _≤_}
 use native.Mathlib.Omega.{arith}
-use mathlib.Core.Path.{_≡_, refl, sym, ap, _∙_}
-use mathlib.Core.Bool.{Bool, true, false, cond}
-use mathlib.Core.List.{List, [], _∷_, _++_}
-use mathlib.Core.Logic.{_↔_}
+use mathlib.Core.Path.{_≡_, refl, sym, _∙_}
+use mathlib.Core.Bool.{false}
+use mathlib.Core.List.{List}
 use lib.ListN.{length, take, drop}
 use lib.Seq.{take-at}
 use lib.Dec.{ltb}
-use borrow.Author.Tests.{ltb-true, ltb-false, lt-ltb, le-ltb}
+use borrow.Author.Tests.{ltb-false, le-ltb}
 use Rattle.bitstream.specs.Bits.{wordsOf, halvesOf, bytesOf, wordsFor}
 use Rattle.bitstream.specs.Bits.Laws.{length-cut}
 use Rattle.answer.specs.Outcome.{Outcome, _orElse_, refuseIf, refused, wrote, unless}
 use Rattle.row_format.specs.Lists.{any}
-use Rattle.row_format.specs.Lists.Laws.{by-test, cond-zero-test}
+use Rattle.row_format.specs.Lists.Laws.{cond-zero-test}
 use Rattle.row_format.specs.Table.{tableNumber}
 use Rattle.row_format.specs.Row.{rowBits}
 use Rattle.row_format.specs.Calls.{tooMany, packNumber, packedRow, packed, unpackNumber}
@@ -54,7 +53,8 @@ packable tb ps roomWords e =
     record {
       table = orElse-zero-left (tableNumber tb) (tooMany (length ps) orElse rest) e;
       few = ltb-false 4096 (length ps) (cond-zero-test (ltb 4096 (length ps)) 10 0 (orElse-zero-left (tooMany (length ps)) rest after-table));
-      pixels = cond-zero-test (any (ltb 4095) ps) 3 0 (orElse-zero-left (refuseIf (any (ltb 4095) ps) 4) full after-few) }
+      pixels = cond-zero-test (any (ltb 4095) ps) 3 0 (orElse-zero-left (refuseIf (any (ltb 4095) ps) 4) full after-few);
+    }
 
 pub packNumber-zero-room : (tb ps : List ℕ) (roomWords : ℕ) → packNumber tb ps roomWords ≡ 0 → wordsFor (length (rowBits (wordsOf tb) ps)) ≤ roomWords
 packNumber-zero-room tb ps roomWords e =
@@ -105,4 +105,5 @@ unpackable tb n roomPixels e =
     record {
       table = orElse-zero-left (tableNumber tb) (tooMany n orElse full) e;
       few = ltb-false 4096 n (cond-zero-test (ltb 4096 n) 10 0 (orElse-zero-left (tooMany n) full after-table));
-      room = ltb-false roomPixels n (cond-zero-test (ltb roomPixels n) 4 0 (orElse-zero-right (tooMany n) full after-table)) }
+      room = ltb-false roomPixels n (cond-zero-test (ltb roomPixels n) 4 0 (orElse-zero-right (tooMany n) full after-table));
+    }

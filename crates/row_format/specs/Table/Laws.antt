@@ -1,14 +1,13 @@
 -- The laws of tables: what is true of an accepted one. Assumes nothing.
-use Prim.Native.Nat.{ℕ, zero, suc, _+_, _-_, _*_, _/_, _%_, _^_, _≤_, _<_, max}
-use native.Mathlib.Nat.{le-max-left, le-max-right, max-le, le-refl, eq-or-lt-of-le, le-of-suc-le-suc}
-use native.Mathlib.Decide.{decLt}
+use Prim.Native.Nat.{ℕ, zero, suc, _+_, _-_, _/_, _%_, _^_, _≤_, _<_}
+use native.Mathlib.Nat.{le-max-left, le-max-right, max-le}
 use native.Mathlib.Omega.{arith}
-use mathlib.Core.Path.{_≡_, refl, sym, ap, _∙_}
-use mathlib.Core.Bool.{Bool, true, false, cond, not, _&&_, _||_}
-use mathlib.Core.List.{List, [], _∷_, map}
-use lib.ListN.{length, drop, getD, length-map, length-drop, List·getD-map, List·getD-eq-default}
+use mathlib.Core.Path.{_≡_, ap, _∙_}
+use mathlib.Core.Bool.{true, false, cond, _||_}
+use mathlib.Core.List.{List, [], _∷_}
+use lib.ListN.{length, drop, getD, length-map, length-drop, List·getD-map}
 use lib.Seq.{getD-drop}
-use lib.IntN.{ℤ, pos, negsuc, _-ℤ_}
+use lib.IntN.{pos, negsuc, _-ℤ_}
 use lib.Signed.{_≤ℤ_}
 use lib.Dec.{leb, ltb, eqb, le→leb}
 use borrow.Author.Tests.{leb-true, ltb-true, ltb-false, eqb-true, not-false, le-leb, lt-ltb, le-ltb, eq-eqb}
@@ -17,7 +16,7 @@ use Rattle.bitstream.specs.Bits.Laws.{length-digits}
 use Rattle.row_format.specs.Lists.{any}
 use Rattle.row_format.specs.Lists.Laws.{by-test, true-false, and-true-all, or-false-left, or-false-right, cond-zero-test, cond-zero-rest, any-false-at, any-false}
 use Rattle.row_format.specs.BitLaws.{begins-both}
-use Rattle.row_format.specs.Table.{lowLimit, tableSize, codeword, codewords, codewordAt, escapeLength, signed, entryDifference, hasDifference, wrongSize, wrongWord, wrongCodeword, clash, verdict, tableNumber, longest, maxItemBits}
+use Rattle.row_format.specs.Table.{lowLimit, tableSize, codeword, codewords, codewordAt, escapeLength, signed, entryDifference, wrongSize, wrongWord, wrongCodeword, clash, verdict, tableNumber, longest, maxItemBits}
 
 -- ---- codewords
 pub length-codeword : (w : ℕ) → length (codeword w) ≡ w % 32
@@ -99,13 +98,13 @@ signed-differenceTo p (suc q) h =
     let k = p + 4093 - suc q in
     by-test (ltb p (suc q))
     (λ e.
-      let less = ltb-true p (suc q) e in
-      let value : 4093 - suc (p + 4093 - suc q) ≡ suc q - suc p = omega arith in
-      rw (e, lt-ltb k 4093 (omega arith)) (ap negsuc value))
+    let less = ltb-true p (suc q) e in
+    let value : 4093 - suc (p + 4093 - suc q) ≡ suc q - suc p = omega arith in
+    rw (e, lt-ltb k 4093 (omega arith)) (ap negsuc value))
     (λ e.
-      let more = ltb-false p (suc q) e in
-      let value : p + 4093 - suc q - 4093 ≡ p - suc q = omega arith in
-      rw (e, le-ltb k 4093 (omega arith)) (ap pos value))
+    let more = ltb-false p (suc q) e in
+    let value : p + 4093 - suc q - 4093 ≡ p - suc q = omega arith in
+    rw (e, le-ltb k 4093 (omega arith)) (ap pos value))
 
 -- ---- accepted tables
 -- a codeword's word: "Lengths are 1 to 27 .. No bit is set above the string"
@@ -130,7 +129,8 @@ right-word w e =
     record {
       least = leb-true 1 (w % 32) (parts .0);
       most = leb-true (w % 32) 27 (parts .1);
-      above = ltb-true (w / 32) (2 ^ (w % 32)) (parts .2) }
+      above = ltb-true (w / 32) (2 ^ (w % 32)) (parts .2);
+    }
 
 -- the sizes of an accepted table's header
 pub record Sized (t : List ℕ) : Type 0 where
@@ -145,7 +145,8 @@ sized t e =
     record {
       least = leb-true 1 (tableSize t) (parts .0);
       most = leb-true (lowLimit t + tableSize t) 8187 (parts .1);
-      words = eqb-true (length t) (6 + tableSize t) (parts .2) }
+      words = eqb-true (length t) (6 + tableSize t) (parts .2);
+    }
 
 pub accepted : (t : List ℕ) → verdict t ≡ 0 → Accepted t
 unfolding verdict wrongCodeword
@@ -161,10 +162,11 @@ accepted t e =
       words = size .words;
       escape-most = ltb-false 15 (escapeLength t) (or-false-left (ltb 15 (escapeLength t)) (any wrongWord (drop 3 t)) right);
       word = λ j h.
-        let inside : j < length (drop 3 t) = omega (arith, length-drop 3 t, size .words) in
-        right-word (getD t (3 + j) 0) (rw (getD-drop 3 t j 0) at
+          let inside : j < length (drop 3 t) = omega (arith, length-drop 3 t, size .words) in
+          right-word (getD t (3 + j) 0) (rw (getD-drop 3 t j 0) at
           (any-false-at wrongWord (drop 3 t) j 0 (or-false-right (ltb 15 (escapeLength t)) (any wrongWord (drop 3 t)) right) inside));
-      apart = cond-zero-test (clash (codewords t)) 2 0 free }
+      apart = cond-zero-test (clash (codewords t)) 2 0 free;
+    }
 
 -- and a table of which all that is true is accepted
 wrongWord-right : (w : ℕ) → RightWord w → wrongWord w ≡ false
@@ -175,9 +177,15 @@ pub verdict-accepted : (t : List ℕ) → Accepted t → verdict t ≡ 0
 unfolding verdict wrongSize wrongCodeword
 verdict-accepted t ok =
     let words : any wrongWord (drop 3 t) ≡ false = any-false wrongWord (drop 3 t) 0
-          (λ j h. rw (getD-drop 3 t j 0) (wrongWord-right (getD t (3 + j) 0) (ok .word j (omega (arith, length-drop 3 t, ok .words))))) in
-    rw (le-leb 1 (tableSize t) (ok .size-least), le-leb (lowLimit t + tableSize t) 8187 (ok .sum-most), eq-eqb (length t) (6 + tableSize t) (ok .words),
-        le-ltb 15 (escapeLength t) (ok .escape-most), words, ok .apart)
+    (λ j h. rw (getD-drop 3 t j 0) (wrongWord-right (getD t (3 + j) 0) (ok .word j (omega (arith, length-drop 3 t, ok .words))))) in
+    rw (
+      le-leb 1 (tableSize t) (ok .size-least),
+      le-leb (lowLimit t + tableSize t) 8187 (ok .sum-most),
+      eq-eqb (length t) (6 + tableSize t) (ok .words),
+      le-ltb 15 (escapeLength t) (ok .escape-most),
+      words,
+      ok .apart,
+    )
 
 -- of a table's bytes
 pub tableNumber-whole : (b : List ℕ) → tableNumber b ≡ 0 → length b % 4 ≡ 0
@@ -208,8 +216,8 @@ module _ (t : List ℕ) (ok : Accepted t) where
       → begins (codewordAt t i) r ≡ true → begins (codewordAt t j) r ≡ true → ⊥
   codewordAt-below i j r below h p q =
       true-false (begins-both (codewordAt t i) (codewordAt t j) r p q)
-        (rw (getD-codewords t i, getD-codewords t j) at
-          (clash-false-at (codewords t) i j (ok .apart) below (omega (arith, length-codewords-size))))
+      (rw (getD-codewords t i, getD-codewords t j) at
+      (clash-false-at (codewords t) i j (ok .apart) below (omega (arith, length-codewords-size))))
 
   pub codewordAt-only : (i j : ℕ) (r : List ℕ) → i < 3 + tableSize t → j < 3 + tableSize t
       → begins (codewordAt t i) r ≡ true → begins (codewordAt t j) r ≡ true → i ≡ j
@@ -223,7 +231,7 @@ module _ (t : List ℕ) (ok : Accepted t) where
   unfolding maxItemBits
   maxItemBits-most =
       let each : longest (codewords t) ≤ 27 = longest-most (codewords t) 27
-            (λ j h. rw (getD-codewords t j) (codewordAt-most j (omega (arith, length-codewords-size)))) in
+      (λ j h. rw (getD-codewords t j) (codewordAt-most j (omega (arith, length-codewords-size)))) in
       omega (arith, ok .escape-most)
 
   -- "So steps lie within -4093 to 4093"

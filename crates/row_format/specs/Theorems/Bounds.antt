@@ -1,19 +1,18 @@
 -- Demand 3: the bits that a reading uses and the bits that a row takes are at most n times M. Of a reading this holds under
 -- every table, accepted or not. Assumes nothing.
-use Prim.Native.Nat.{ℕ, zero, suc, _+_, _-_, _*_, _/_, _≤_, _<_}
-use native.Mathlib.Nat.{suc-mul, le-trans, le-refl}
+use Prim.Native.Nat.{ℕ, zero, suc, _+_, _-_, _*_, _/_, _≤_}
+use native.Mathlib.Nat.{suc-mul}
 use native.Mathlib.Omega.{arith}
-use mathlib.Core.Path.{_≡_, refl, sym, ap, _∙_}
-use mathlib.Core.Bool.{Bool, true, false, cond, not}
-use mathlib.Core.List.{List, [], _∷_, _++_}
-use lib.ListN.{length, take, drop, getD, length-append}
-use lib.Seq.{length-take-le}
+use mathlib.Core.Path.{_≡_, refl, ap, _∙_}
+use mathlib.Core.Bool.{Bool, true, false, not}
+use mathlib.Core.List.{List, [], _∷_}
+use lib.ListN.{length, take, drop, length-append}
 use lib.Dec.{ltb}
 use borrow.Author.Tests.{ltb-true, ltb-false}
 use Rattle.bitstream.specs.Bits.{digits, numOf, begins, wordsOf, stream}
 use Rattle.bitstream.specs.Bits.Laws.{length-digits}
-use Rattle.row_format.specs.Lists.{any, least}
-use Rattle.row_format.specs.Lists.Laws.{by-test, true-false, or-false-left, or-false-right, least-within, least-most}
+use Rattle.row_format.specs.Lists.{any}
+use Rattle.row_format.specs.Lists.Laws.{by-test, true-false, least-within, least-most}
 use Rattle.row_format.specs.BitLaws.{begins-length}
 use Rattle.row_format.specs.Table.{lowLimit, codewords, codewordAt, longest, maxItemBits, escapeLength}
 use Rattle.row_format.specs.Table.Laws.{length-codewordAt, length-codewordAt-most, escapeLength-most, longest-maxItemBits}
@@ -41,11 +40,11 @@ unfolding unmatched
 unmatched-uses ss r e =
     let passes : ℕ → Bool = λ k. not (any (begins (take k r)) ss) in
     by-test (any (begins r) ss)
-      (λ p. rw p (any-begins-length ss r p))
-      (λ p. rw p (by-test (ltb (length r) (longest ss))
-        (λ short. omega (arith, least-within passes (length r), ltb-true (length r) (longest ss) short))
-        (λ long. least-most passes (length r) (longest ss)
-          (ap not (any-begins-none-take ss r (longest ss) (omega arith) (ltb-false (length r) (longest ss) long) e)))))
+    (λ p. rw p (any-begins-length ss r p))
+    (λ p. rw p (by-test (ltb (length r) (longest ss))
+    (λ short. omega (arith, least-within passes (length r), ltb-true (length r) (longest ss) short))
+    (λ long. least-most passes (length r) (longest ss)
+    (ap not (any-begins-none-take ss r (longest ss) (omega arith) (ltb-false (length r) (longest ss) long) e)))))
 
 rawHeight-uses : (n : ℕ) (r : List ℕ) → bitsOfReading (rawHeight n r) ≤ n + 12
 unfolding rawHeight

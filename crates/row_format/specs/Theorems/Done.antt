@@ -1,12 +1,12 @@
 -- What a done unpacking has read. Assumes nothing.
-use Prim.Native.Nat.{ℕ, zero, suc, _+_, _*_, _/_, _≤_, _<_}
+use Prim.Native.Nat.{ℕ, zero, suc, _*_, _/_}
 use native.Mathlib.Omega.{arith}
-use mathlib.Core.Path.{_≡_, refl, sym, ap, _∙_}
-use mathlib.Core.Bool.{Bool, true, false}
-use mathlib.Core.List.{List, [], _∷_, _++_}
+use mathlib.Core.Path.{_≡_, refl}
+use mathlib.Core.Bool.{false}
+use mathlib.Core.List.{List}
 use lib.ListN.{length}
 use Rattle.bitstream.specs.Bits.{flat, bytesOf, wordsOf, stream}
-use Rattle.answer.specs.Outcome.{Outcome, wrote, refuseIf, unless}
+use Rattle.answer.specs.Outcome.{wrote, unless}
 use Rattle.row_format.specs.Lists.Laws.{by-test}
 use Rattle.row_format.specs.Row.{Item, fresh, pixelsOf}
 use Rattle.row_format.specs.Reading.{Run, done, stop, readItems, stray}
@@ -37,4 +37,4 @@ module _ (tb wb : List ℕ) (n : ℕ) (m : List ℕ) where
   unfolding unpacked
   unpacked-accepts h =
       by-run (unpackNumber tb n (length m / 2)) refl (readItems (wordsOf tb) n (stream wb)) refl
-        (readItems-in (λ k. k ≡ 0 → ⊥) (λ e. omega arith) (λ e. omega arith) (λ e. omega arith) (λ e. omega arith) (wordsOf tb) n (stream wb)) h
+      (readItems-in (λ k. k ≡ 0 → ⊥) (λ e. omega arith) (λ e. omega arith) (λ e. omega arith) (λ e. omega arith) (wordsOf tb) n (stream wb)) h

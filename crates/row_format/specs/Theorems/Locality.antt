@@ -1,24 +1,23 @@
 -- Demand 3: runs of words that are alike in their first n times M bits, rounded up to whole words, are unpacked alike. This
 -- holds under every table, accepted or not. Assumes nothing.
-use Prim.Native.Nat.{ℕ, zero, suc, _+_, _-_, _*_, _/_, _%_, _≤_, _<_}
+use Prim.Native.Nat.{ℕ, zero, suc, _+_, _-_, _*_, _≤_}
 use native.Mathlib.Nat.{suc-mul, sub-zero, zero-sub, suc-sub-suc}
 use native.Mathlib.Omega.{arith}
 use mathlib.Core.Path.{_≡_, refl, sym, ap, _∙_}
-use mathlib.Core.Bool.{Bool, true, false, cond, not}
-use mathlib.Core.List.{List, [], _∷_, _++_}
+use mathlib.Core.Bool.{false, not}
+use mathlib.Core.List.{List, [], _∷_}
 use lib.ListN.{length, take, drop, length-drop}
 use lib.Seq.{length-take-le, take-take, take-nil}
-use lib.Dec.{ltb}
 use borrow.Author.Tests.{le-ltb}
-use Rattle.bitstream.specs.Bits.{numOf, flat, begins, bitsOf, wordsOf, stream, wordsFor}
-use Rattle.row_format.specs.Lists.{any, least}
+use Rattle.bitstream.specs.Bits.{flat, begins, wordsOf, stream, wordsFor}
+use Rattle.row_format.specs.Lists.{any}
 use Rattle.row_format.specs.Lists.Laws.{least-same}
 use Rattle.row_format.specs.BitLaws.{stream-take, length-stream}
-use Rattle.row_format.specs.Table.{lowLimit, codewords, codewordAt, longest, escapeLength, maxItemBits}
+use Rattle.row_format.specs.Table.{codewords, codewordAt, longest, maxItemBits}
 use Rattle.row_format.specs.Table.Laws.{length-codewordAt, longest-maxItemBits, escapeLength-most}
 use Rattle.row_format.specs.Row.{Item, State, fresh, after}
 use Rattle.row_format.specs.Reading.{Match, none, found, find, Reading, item, fault, unmatched, rawHeight, matched, taken, readItem, Run, done, stop, follow, readBy, readItems, stray}
-use Rattle.row_format.specs.Calls.{usedByRun, afterRun, unpackNumber, unpacked}
+use Rattle.row_format.specs.Calls.{usedByRun, afterRun, unpacked}
 use Rattle.row_format.specs.Theorems.Search.{Found, find-found, find-take, any-begins-none, any-begins-none-take}
 use Rattle.row_format.specs.Theorems.Bounds.{bitsOfReading, readItem-uses, readItems-uses}
 
@@ -39,10 +38,10 @@ unfolding unmatched
 unmatched-take ss r k h within e =
     let size = length-take-le k r within in
     let same : (j : ℕ) → j ≤ longest ss → not (any (begins (take j (take k r))) ss) ≡ not (any (begins (take j r)) ss) =
-          λ j low. rw (take-take j k r (omega arith)) in
+    λ j low. rw (take-take j k r (omega arith)) in
     rw (any-begins-none-take ss r k h within e, any-begins-none ss r (omega arith) e, size)
     (ap (fault 7) (least-same (λ j. not (any (begins (take j (take k r))) ss)) (λ j. not (any (begins (take j r)) ss)) k (length r) (longest ss) h (omega arith) same
-      (same (longest ss) (omega arith) ∙ ap not (any-begins-none-take ss r (longest ss) (omega arith) (omega arith) e))))
+    (same (longest ss) (omega arith) ∙ ap not (any-begins-none-take ss r (longest ss) (omega arith) (omega arith) e))))
 
 rawHeight-take : (n : ℕ) (r : List ℕ) (k : ℕ) → n + 12 ≤ k → k ≤ length r → rawHeight n (take k r) ≡ rawHeight n r
 unfolding rawHeight
@@ -83,8 +82,8 @@ module _ (f : State → List ℕ → Reading) (m : ℕ) (uses : (s : State) (r :
       let room : n * m + m ≤ k = rw (suc-mul n m) at enough in
       rw (local s r k (omega arith) within)
       (follow-same (f s r) (λ i u. readBy f (after s i) n (drop u (take k r))) (λ i u. readBy f (after s i) n (drop u r)) m (uses s r)
-        (λ i u h. rw (drop-take u k r)
-          (readBy-take (after s i) n (drop u r) (k - u) (omega arith) (omega (arith, length-drop u r)))))
+      (λ i u h. rw (drop-take u k r)
+      (readBy-take (after s i) n (drop u r) (k - u) (omega arith) (omega (arith, length-drop u r)))))
 
 pub readItems-take : (t : List ℕ) (n : ℕ) (r : List ℕ) (k : ℕ) → n * maxItemBits t ≤ k → k ≤ length r → readItems t n (take k r) ≡ readItems t n r
 unfolding readItems
@@ -109,14 +108,14 @@ front t n r m w enough within =
 
 pub unpacked-alike : (tb wb wb′ : List ℕ) (n : ℕ) (m : List ℕ)
     → let k = wordsFor (n * maxItemBits (wordsOf tb)) in
-      4 * k ≤ length wb → 4 * k ≤ length wb′ → take (4 * k) wb ≡ take (4 * k) wb′ → unpacked tb wb n m ≡ unpacked tb wb′ n m
+    4 * k ≤ length wb → 4 * k ≤ length wb′ → take (4 * k) wb ≡ take (4 * k) wb′ → unpacked tb wb n m ≡ unpacked tb wb′ n m
 unfolding unpacked
 unpacked-alike tb wb wb′ n m h h′ e =
     let t = wordsOf tb in
     let k = wordsFor (n * maxItemBits t) in
     let same : take (32 * k) (stream wb) ≡ take (32 * k) (stream wb′) = stream-take wb k h ∙ ap (flat 8) e ∙ sym (stream-take wb′ k h′) in
     let runs : afterRun (stream wb) n m (readItems t n (stream wb)) ≡ afterRun (stream wb′) n m (readItems t n (stream wb′)) =
-          sym (front t n (stream wb) m k (omega arith) (omega (arith, length-stream wb)))
-          ∙ ap (λ (r : List ℕ). afterRun r n m (readItems t n r)) same
-          ∙ front t n (stream wb′) m k (omega arith) (omega (arith, length-stream wb′)) in
+    sym (front t n (stream wb) m k (omega arith) (omega (arith, length-stream wb)))
+    ∙ ap (λ (r : List ℕ). afterRun r n m (readItems t n r)) same
+    ∙ front t n (stream wb′) m k (omega arith) (omega (arith, length-stream wb′)) in
     rw runs

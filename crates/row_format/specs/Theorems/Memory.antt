@@ -1,19 +1,18 @@
 -- Demand 1 of packing and unpacking: a refused call leaves the lent memory as found, and a done one writes only the words or
 -- pixels that it counts. Assumes nothing.
-use Prim.Native.Nat.{ℕ, zero, suc, _+_, _*_, _/_, _≤_, _<_}
+use Prim.Native.Nat.{ℕ, zero, suc, _*_, _/_, _≤_}
 use native.Mathlib.Omega.{arith}
-use mathlib.Core.Path.{_≡_, refl, sym, ap, _∙_}
-use mathlib.Core.Bool.{Bool, true, false}
-use mathlib.Core.List.{List, [], _∷_, _++_}
-use lib.ListN.{length, take, drop, length-append, length-drop}
+use mathlib.Core.Path.{_≡_, refl}
+use mathlib.Core.List.{List}
+use lib.ListN.{length, drop, length-append, length-drop}
 use lib.Seq.{drop-append-seam}
 use Rattle.bitstream.specs.Bits.{flat, bytesOf, halvesOf, wordsOf, stream, wordsFor}
 use Rattle.bitstream.specs.Bits.Laws.{length-cut}
-use Rattle.answer.specs.Outcome.{Outcome, outcome, refused, wrote, refuseIf, unless}
+use Rattle.answer.specs.Outcome.{Outcome, refused, wrote, refuseIf, unless}
 use Rattle.row_format.specs.Row.{fresh, pixelsOf, rowBits}
 use Rattle.row_format.specs.Reading.{Run, done, stop, readItems, stray}
 use Rattle.row_format.specs.Calls.{packNumber, packedRow, packed, afterRun, unpackNumber, unpacked}
-use Rattle.row_format.specs.Calls.Laws.{rowBytes, packNumber-zero-room, packed-done, packed-refused, Unpackable, unpackable}
+use Rattle.row_format.specs.Calls.Laws.{rowBytes, packNumber-zero-room, packed-done, packed-refused, unpackable}
 
 -- ---- refused: no count, and the memory m as found
 pub record Kept (m : List ℕ) (o : Outcome) : Type 0 where
@@ -52,7 +51,8 @@ refused-within e k m = record { size = refl; rest = refl }
 wrote-within : (c k : ℕ) (b m : List ℕ) → length b ≡ k → k ≤ length m → Within k m (wrote c b m)
 wrote-within c k b m e h = record {
   size = omega (arith, length-append b (drop (length b) m), length-drop (length b) m);
-  rest = rw (← e) (drop-append-seam b (drop (length b) m)) }
+  rest = rw (← e) (drop-append-seam b (drop (length b) m));
+}
 
 unless-within : (e k : ℕ) (m : List ℕ) (o : Outcome) → (e ≡ 0 → Within k m o) → Within k m (unless e m o)
 unless-within zero k m o h = h refl
@@ -66,7 +66,7 @@ packed-within tb pb m = by-number (packNumber tb (halvesOf pb) (length m / 4)) r
         let b = rowBits (wordsOf tb) (halvesOf pb) in
         rw (packed-done tb pb m e)
         (wrote-within (length b) (4 * wordsFor (length b)) (rowBytes (wordsOf tb) (halvesOf pb)) m (length-cut 8 (4 * wordsFor (length b)) b)
-          (omega (arith, packNumber-zero-room tb (halvesOf pb) (length m / 4) e)))
+        (omega (arith, packNumber-zero-room tb (halvesOf pb) (length m / 4) e)))
     by-number (suc k) e = rw (packed-refused tb pb m k e) (refused-within (suc k) 0 m)
 
 afterRun-within : (r : List ℕ) (n : ℕ) (m : List ℕ) (x : Run) → 2 * n ≤ length m → Within (2 * n) m (afterRun r n m x)
@@ -79,4 +79,4 @@ pub unpacked-within : (tb wb : List ℕ) (n : ℕ) (m : List ℕ) → Within (2 
 unfolding unpacked
 unpacked-within tb wb n m = unless-within (unpackNumber tb n (length m / 2)) (2 * n) m _
     (λ e. let ok = unpackable tb n (length m / 2) e in
-      afterRun-within (stream wb) n m (readItems (wordsOf tb) n (stream wb)) (omega (arith, ok .room)))
+    afterRun-within (stream wb) n m (readItems (wordsOf tb) n (stream wb)) (omega (arith, ok .room)))

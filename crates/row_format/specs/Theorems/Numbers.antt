@@ -1,20 +1,18 @@
 -- Demand 1: packing and unpacking answer a number from document 01, and only those that it lists for the call. Each law is
 -- over any property P that these numbers have. Assumes nothing.
-use Prim.Native.Nat.{ℕ, zero, suc, _+_, _*_, _/_, _%_, _≤_, _<_}
-use native.Mathlib.Omega.{arith}
-use mathlib.Core.Path.{_≡_, refl}
-use mathlib.Core.Bool.{Bool, true, false, cond}
-use mathlib.Core.List.{List, [], _∷_}
+use Prim.Native.Nat.{ℕ, zero, suc, _+_, _/_, _%_}
+use mathlib.Core.Bool.{Bool, true, false}
+use mathlib.Core.List.{List}
 use lib.ListN.{length, take, drop}
 use lib.Dec.{ltb, eqb}
-use Rattle.bitstream.specs.Bits.{numOf, begins, wordsOf, halvesOf, stream, wordsFor}
+use Rattle.bitstream.specs.Bits.{numOf, begins, wordsOf, stream, wordsFor}
 use Rattle.answer.specs.Outcome.{Outcome, _orElse_, refuseIf, unless}
 use Rattle.row_format.specs.Lists.{any}
 use Rattle.row_format.specs.Lists.Laws.{by-test}
 use Rattle.row_format.specs.Table.{lowLimit, wrongSize, wrongCodeword, clash, codewords, codewordAt, verdict, tableNumber}
 use Rattle.row_format.specs.Row.{Item, State, fresh, after, rowBits}
 use Rattle.row_format.specs.Reading.{Match, none, found, find, Reading, item, fault, unmatched, rawHeight, inside, matched, taken, readItem, Run, done, stop, prepend, follow, readBy, readItems, stray}
-use Rattle.row_format.specs.Calls.{tooMany, packNumber, packed, unpackNumber, afterRun, unpacked}
+use Rattle.row_format.specs.Calls.{tooMany, packNumber, unpackNumber, afterRun, unpacked}
 
 module _ (P : ℕ → Type 0) where
   refuseIf-in : (b : Bool) (e : ℕ) → P 0 → P e → P (refuseIf b e)
@@ -35,7 +33,7 @@ module _ (P : ℕ → Type 0) where
       let t = wordsOf b in
       by-test (eqb (length b % 4) 0)
       (λ e. rw e (by-test (wrongSize t) (λ d. rw d p1)
-        (λ d. rw d (by-test (wrongCodeword t) (λ c. rw c p2) (λ c. rw c (refuseIf-in (clash (codewords t)) 3 p0 p3))))))
+      (λ d. rw d (by-test (wrongCodeword t) (λ c. rw c p2) (λ c. rw c (refuseIf-in (clash (codewords t)) 3 p0 p3))))))
       (λ e. rw e p1)
 
   pub packNumber-in : (tb ps : List ℕ) (roomWords : ℕ) → P 0 → P 1 → P 2 → P 3 → P 11 → P 4 → P 5 → P (packNumber tb ps roomWords)
@@ -100,5 +98,5 @@ module _ (P : ℕ → Type 0) where
     unpacked-in tb wb n m p0 p1 p2 p3 p11 p5 p10 =
         unless-in (unpackNumber tb n (length m / 2)) m _
         (orElse-in (tableNumber tb) _ (tableNumber-in tb p0 p1 p2 p3)
-          (orElse-in (tooMany n) _ (refuseIf-in (ltb 4096 n) 11 p0 p11) (refuseIf-in (ltb (length m / 2) n) 5 p0 p5)))
+        (orElse-in (tooMany n) _ (refuseIf-in (ltb 4096 n) 11 p0 p11) (refuseIf-in (ltb (length m / 2) n) 5 p0 p5)))
         (afterRun-in (stream wb) n m (readItems (wordsOf tb) n (stream wb)) p0 p10 (readItems-in (wordsOf tb) n (stream wb)))

@@ -1,24 +1,23 @@
 -- Document 01: "The used words of an accepted reading are the very words packing would write exactly when no raw item was
 -- needless". Assumes nothing.
-use Prim.Native.Nat.{ℕ, zero, suc, _+_, _-_, _*_, _/_, _≤_, _<_}
+use Prim.Native.Nat.{ℕ, suc, _+_, _-_, _*_, _/_, _≤_}
 use native.Mathlib.Omega.{arith}
-use mathlib.Core.Path.{_≡_, refl, sym, ap, _∙_, subst}
-use mathlib.Core.Bool.{Bool, true, false, cond, _&&_, _||_}
+use mathlib.Core.Path.{_≡_, refl, sym, ap, _∙_}
+use mathlib.Core.Bool.{true, false}
 use mathlib.Core.List.{List, [], _∷_, _++_}
 use mathlib.Core.Logic.{_↔_}
 use lib.ListN.{length, take, drop, replicate, length-drop, length-append}
 use lib.Seq.{length-take-le, take-append-add, take-at}
 use lib.Dec.{leb, ltb, eqb}
-use borrow.Author.Tests.{leb-true, le-ltb, ltb-false, eqb-true, eqb-false, ne-eqb}
+use borrow.Author.Tests.{leb-true, le-ltb, ltb-false, eqb-false, ne-eqb}
 use Rattle.bitstream.specs.Bits.{flat, bitsOf, bytesOf, wordsOf, halvesOf, stream, wordsFor}
 use Rattle.bitstream.specs.Bits.Laws.{Below, below-nil, below-cons, below-head, below-tail, below-take, below-drop, below-flat, below-cut, length-cut, flat-cut, pad-all}
 use Rattle.row_format.specs.Lists.{any}
-use Rattle.row_format.specs.Lists.Laws.{by-test, true-false, and-true-left, and-true-right, or-false-left, or-false-right}
+use Rattle.row_format.specs.Lists.Laws.{by-test, and-true-left, and-true-right, or-false-left, or-false-right}
 use Rattle.row_format.specs.BitLaws.{bitsOf-inj, stream-take, length-stream}
-use Rattle.row_format.specs.Table.{lowLimit, tableSize, hasDifference}
 use Rattle.row_format.specs.Table.Laws.{Accepted, accepted, tableNumber-verdict}
-use Rattle.row_format.specs.Row.{Item, difference, badPixel, badBias, escape, State, fresh, past, previous, differenceTo, byDifference, itemFor, pixelOf, after, itemsFor, pixelsOf, bits, rowBits}
-use Rattle.row_format.specs.Reading.{inside, Run, done, stop, readItem, readBy, readItems, stray, needless, anyNeedless}
+use Rattle.row_format.specs.Row.{Item, difference, badPixel, badBias, escape, State, fresh, previous, differenceTo, byDifference, itemFor, pixelOf, after, itemsFor, pixelsOf, bits, rowBits}
+use Rattle.row_format.specs.Reading.{inside, done, readItems, stray, needless, anyNeedless}
 use Rattle.row_format.specs.Calls.{packNumber, packed, unpacked}
 use Rattle.row_format.specs.Calls.Laws.{rowBytes, packed-front}
 use Rattle.row_format.specs.Theorems.Done.{Accepts}
@@ -35,7 +34,8 @@ record Reached (s : State) (k : ℕ) : Type 0 where
 reached : (s : State) (k : ℕ) → inside s k ≡ true → Reached s k
 reached s k e = record {
   least = leb-true 4093 (previous s + k) (and-true-left (leb 4093 (previous s + k)) (leb (previous s + k) 8186) e);
-  most = leb-true (previous s + k) 8186 (and-true-right (leb 4093 (previous s + k)) (leb (previous s + k) 8186) e) }
+  most = leb-true (previous s + k) 8186 (and-true-right (leb 4093 (previous s + k)) (leb (previous s + k) 8186) e);
+}
 
 itemFor-pixelOf : (t : List ℕ) (s : State) (i : Item) → previous s ≤ 4093 → Fits t s i → needless t s i ≡ false → itemFor t s (pixelOf s i) ≡ i
 unfolding itemFor byDifference
@@ -53,8 +53,10 @@ itemsFor-pixelsOf : (t : List ℕ) (s : State) (is : List Item) → previous s �
 unfolding itemsFor pixelsOf anyNeedless
 itemsFor-pixelsOf t s [] height fits e = refl
 itemsFor-pixelsOf t s (i ∷ is) height fits e =
-    rw (itemFor-pixelOf t s i height (fits .0) (or-false-left (needless t s i) (anyNeedless t (after s i) is) e),
-        itemsFor-pixelsOf t (after s i) is (after-height t s i height (fits .0)) (fits .1) (or-false-right (needless t s i) (anyNeedless t (after s i) is) e))
+    rw (
+      itemFor-pixelOf t s i height (fits .0) (or-false-left (needless t s i) (anyNeedless t (after s i) is) e),
+      itemsFor-pixelsOf t (after s i) is (after-height t s i height (fits .0)) (fits .1) (or-false-right (needless t s i) (anyNeedless t (after s i) is) e),
+    )
 
 -- and packing gives no needless item
 needless-itemFor : (t : List ℕ) (s : State) (p : ℕ) → needless t s (itemFor t s p) ≡ false
@@ -117,8 +119,8 @@ module _ (b wb : List ℕ) (u : ℕ) (size : u ≡ length b) (there : stream wb 
       let room : 32 * wordsFor u - u ≤ length (drop u (stream wb)) = omega (arith, length-used, length-drop u (stream wb), length-stream wb) in
       let whole : 32 * wordsFor u ≡ length b + (32 * wordsFor u - u) = omega arith in
       let zeros : take k rest ≡ replicate k 0 =
-            any-false-zeros (take k rest) (below-take k rest (below-drop u (stream wb) (below-flat 8 _))) e
-            ∙ ap (λ (n : ℕ). replicate n 0) (length-take-le k rest room) in
+      any-false-zeros (take k rest) (below-take k rest (below-drop u (stream wb) (below-flat 8 _))) e
+      ∙ ap (λ (n : ℕ). replicate n 0) (length-take-le k rest room) in
       sym (stream-take wb (wordsFor u) length-used)
       ∙ ap (λ (n : ℕ). take n (stream wb)) whole
       ∙ ap (take (length b + k)) there
@@ -150,8 +152,8 @@ module _ (t : List ℕ) (ok : Accepted t) (wb : List ℕ) (bytes : Below 256 wb)
       let items : itemsFor t fresh (pixelsOf fresh is) ≡ is = itemsFor-pixelsOf t fresh is (omega arith) (stands .fits) e in
       rw (items, ← (stands .front .size))
       (bitsOf-inj n (take n wb) (bytesOf n b) (below-take n wb bytes) (below-cut 8 n b (below-bits t is))
-        (length-take-le n wb (length-used b wb u (stands .front .size) (stands .front .there))) (length-cut 8 n b)
-        (used-bits ∙ sym (written-words b u (stands .front .size) (below-bits t is))))
+      (length-take-le n wb (length-used b wb u (stands .front .size) (stands .front .there))) (length-cut 8 n b)
+      (used-bits ∙ sym (written-words b u (stands .front .size) (below-bits t is))))
 
   -- own words: they are read both as the items and as those that packing gives
   none-needless : take (4 * wordsFor u) wb ≡ rowBytes t (pixelsOf fresh is) → anyNeedless t fresh is ≡ false
@@ -162,7 +164,7 @@ module _ (t : List ℕ) (ok : Accepted t) (wb : List ℕ) (bytes : Below 256 wb)
       let zeros : List ℕ = replicate (32 * wordsFor u - u) 0 in
       let zeros′ : List ℕ = replicate (32 * wordsFor (length b′) - length b′) 0 in
       let same : bits t is ++ zeros ≡ b′ ++ zeros′ =
-            sym used-bits ∙ ap (flat 8) e ∙ written-words b′ (length b′) refl (below-rowBits t ps) in
+      sym used-bits ∙ ap (flat 8) e ∙ written-words b′ (length b′) refl (below-rowBits t ps) in
       let read-items = readBy-own t ok fresh is zeros (stands .fits) in
       let read-own = rw (length-pixelsOf fresh is) at (readItems-rowBits t ok ps zeros′ (any-pixelsOf t fresh is (stands .fits))) in
       let items : is ≡ itemsFor t fresh ps = cc in
@@ -186,9 +188,9 @@ module _ (tb wb : List ℕ) (n : ℕ) (m : List ℕ) (bytes : Below 256 wb) (got
 
   pub own-words-packed : (mw : List ℕ)
       → let pb = take (2 * n) (unpacked tb wb n m .memory) in
-        packNumber tb (halvesOf pb) (length mw / 4) ≡ 0
+      packNumber tb (halvesOf pb) (length mw / 4) ≡ 0
       → (take (4 * wordsFor (unpacked tb wb n m .answer .count)) wb ≡ take (4 * wordsFor (packed tb pb mw .answer .count)) (packed tb pb mw .memory))
-        ↔ (anyNeedless (wordsOf tb) fresh (got .items) ≡ false)
+      ↔ (anyNeedless (wordsOf tb) fresh (got .items) ≡ false)
   own-words-packed mw e =
       rw (packed-front tb (take (2 * n) (unpacked tb wb n m .memory)) mw e, pixels-left, got .left)
       (own-words (wordsOf tb) accepted-table wb bytes n (got .items) (got .used) (got .read) (got .clean))

@@ -1,20 +1,18 @@
 -- Demand 3: when a packing is refused for room, and that the room question's answer is always enough. Assumes nothing.
-use Prim.Native.Nat.{ℕ, zero, suc, _+_, _*_, _/_, _≤_, _<_}
+use Prim.Native.Nat.{ℕ, suc, _*_, _≤_, _<_}
 use native.Mathlib.Omega.{arith}
-use mathlib.Core.Path.{_≡_, refl, sym, ap, _∙_}
-use mathlib.Core.Bool.{Bool, true, false, cond}
+use mathlib.Core.Path.{_≡_, refl, sym, _∙_}
+use mathlib.Core.Bool.{Bool, true, false}
 use mathlib.Core.List.{List}
 use mathlib.Core.Logic.{_↔_}
 use lib.ListN.{length}
 use lib.Dec.{ltb}
 use borrow.Author.Tests.{ltb-true, lt-ltb, le-ltb}
 use Rattle.bitstream.specs.Bits.{wordsOf, wordsFor}
-use Rattle.answer.specs.declared.Answer.{Answer}
 use Rattle.answer.specs.Outcome.{answerOf, refuseIf}
-use Rattle.row_format.specs.Lists.Laws.{by-test}
 use Rattle.row_format.specs.Table.{tableNumber, maxItemBits}
 use Rattle.row_format.specs.Row.{rowBits}
-use Rattle.row_format.specs.Calls.{tooMany, packNumber, room}
+use Rattle.row_format.specs.Calls.{packNumber, room}
 use Rattle.row_format.specs.Calls.Laws.{Packable, packNumber-packable}
 use Rattle.row_format.specs.Theorems.Bounds.{length-rowBits}
 
@@ -26,9 +24,10 @@ refuseIf-given false e h = absurd (omega arith)
 pub packNumber-five : (tb ps : List ℕ) (roomWords : ℕ) → Packable tb ps
     → (packNumber tb ps roomWords ≡ 5) ↔ (roomWords < wordsFor (length (rowBits (wordsOf tb) ps)))
 packNumber-five tb ps roomWords ok =
-    let need = wordsFor (length (rowBits (wordsOf tb) ps)) in
-    (λ e. ltb-true roomWords need (refuseIf-given (ltb roomWords need) 4 (sym (packNumber-packable tb ps roomWords ok) ∙ e)),
-     λ h. packNumber-packable tb ps roomWords ok ∙ rw (lt-ltb roomWords need h))
+    let need = wordsFor (length (rowBits (wordsOf tb) ps)) in (
+      λ e. ltb-true roomWords need (refuseIf-given (ltb roomWords need) 4 (sym (packNumber-packable tb ps roomWords ok) ∙ e)),
+      λ h. packNumber-packable tb ps roomWords ok ∙ rw (lt-ltb roomWords need h),
+    )
 
 pub packNumber-done : (tb ps : List ℕ) (roomWords : ℕ) → Packable tb ps
     → wordsFor (length (rowBits (wordsOf tb) ps)) ≤ roomWords → packNumber tb ps roomWords ≡ 0

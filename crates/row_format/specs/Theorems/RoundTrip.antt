@@ -1,24 +1,24 @@
 -- Demand 2: what packing writes is read back, item by item and as a row. Assumes nothing.
-use Prim.Native.Nat.{ℕ, zero, suc, _+_, _-_, _*_, _/_, _%_, _≤_, _<_}
+use Prim.Native.Nat.{ℕ, suc, _+_, _-_, _*_, _/_, _≤_, _<_}
 use native.Mathlib.Nat.{sub-add-cancel, mod-eq-of-lt}
 use native.Mathlib.Omega.{arith}
-use mathlib.Core.Path.{_≡_, refl, sym, ap, _∙_}
-use mathlib.Core.Bool.{Bool, true, false, cond, not, _&&_}
+use mathlib.Core.Path.{_≡_, refl, sym, _∙_}
+use mathlib.Core.Bool.{true, false}
 use mathlib.Core.List.{List, [], _∷_, _++_, append-assoc}
-use lib.ListN.{length, take, drop, getD, replicate, length-append}
-use lib.Seq.{drop-append-seam, take-append-seam, drop-at, take-at}
+use lib.ListN.{length, take, drop, replicate, length-append}
+use lib.Seq.{drop-append-seam, drop-at, take-at}
 use lib.Dec.{leb, ltb, eqb}
 use borrow.Author.Tests.{leb-true, le-leb, ltb-true, ltb-false, lt-ltb, le-ltb, eqb-true, eqb-false, ne-eqb}
-use Rattle.bitstream.specs.Bits.{digits, numOf, flat, begins, bytesOf, wordsOf, halvesOf, stream, wordsFor}
+use Rattle.bitstream.specs.Bits.{digits, numOf, flat, bytesOf, wordsOf, halvesOf, stream, wordsFor}
 use Rattle.bitstream.specs.Bits.Laws.{Below, length-digits, numOf-digits}
-use Rattle.answer.specs.Outcome.{Outcome, wrote}
+use Rattle.answer.specs.Outcome.{wrote}
 use Rattle.row_format.specs.Lists.{any}
-use Rattle.row_format.specs.Lists.Laws.{by-test, true-false, and-true-left, and-true-right, or-false-left, or-false-right}
+use Rattle.row_format.specs.Lists.Laws.{by-test, and-true-left, and-true-right, or-false-left, or-false-right}
 use Rattle.row_format.specs.BitLaws.{begins-append, stream-bytesOf}
-use Rattle.row_format.specs.Table.{lowLimit, tableSize, hasDifference, codewords, codewordAt}
+use Rattle.row_format.specs.Table.{lowLimit, tableSize, hasDifference, codewordAt}
 use Rattle.row_format.specs.Table.Laws.{Accepted, accepted, tableNumber-verdict}
 use Rattle.row_format.specs.Row.{Item, difference, badPixel, badBias, escape, State, fresh, past, previous, differenceTo, byDifference, itemFor, pixelOf, after, itemBits, itemsFor, pixelsOf, bits, rowBits}
-use Rattle.row_format.specs.Reading.{Match, none, found, find, Reading, item, fault, rawHeight, inside, matched, taken, readItem, Run, done, stop, prepend, follow, readBy, readItems}
+use Rattle.row_format.specs.Reading.{item, rawHeight, inside, matched, readItem, done, readBy, readItems}
 use Rattle.row_format.specs.Calls.{afterRun, packNumber, packed, unpacked}
 use Rattle.row_format.specs.Calls.Laws.{Packable, packable, rowBytes, packed-done, unpackNumber-unpackable}
 use Rattle.row_format.specs.Theorems.Search.{find-only}
@@ -48,9 +48,9 @@ pub rawHeight-own : (n h : ℕ) (c r : List ℕ) → length c ≡ n → h < 4094
 unfolding rawHeight
 rawHeight-own n h c r l e =
     let size : length (c ++ digits 12 h ++ r) ≡ n + 12 + length r =
-          simp (length-append, length-digits) (omega arith) in
+    simp (length-append, length-digits) (omega arith) in
     let field : take 12 (drop n (c ++ digits 12 h ++ r)) ≡ digits 12 h =
-          rw (append-assoc c (digits 12 h) r, drop-at c (digits 12 h ++ r) n l, take-at (digits 12 h) r 12 (length-digits 12 h)) in
+    rw (append-assoc c (digits 12 h) r, drop-at c (digits 12 h ++ r) n l, take-at (digits 12 h) r 12 (length-digits 12 h)) in
     let height : numOf (digits 12 h) ≡ h = numOf-digits 12 h ∙ mod-eq-of-lt (omega arith) in
     rw (le-ltb (length (c ++ digits 12 h ++ r)) (n + 12) (omega arith), field, height, lt-ltb h 4094 e)
 
@@ -65,9 +65,12 @@ readItem-own t ok s (difference k) r fits =
 readItem-own t ok s badPixel r fits = rw (find-only t ok 1 (codewordAt t 1 ++ r) (omega arith) (begins-append (codewordAt t 1) r))
 readItem-own t ok s badBias r fits = rw (find-only t ok 2 (codewordAt t 2 ++ r) (omega arith) (begins-append (codewordAt t 2) r))
 readItem-own t ok s (escape h) r fits =
-    rw (find-only t ok 0 (codewordAt t 0 ++ digits 12 h ++ r) (omega arith)
-         (rw (append-assoc (codewordAt t 0) (digits 12 h) r) (begins-append (codewordAt t 0) (digits 12 h ++ r))),
-        length-append (codewordAt t 0) (digits 12 h), length-digits 12 h)
+    rw (
+      find-only t ok 0 (codewordAt t 0 ++ digits 12 h ++ r) (omega arith)
+          (rw (append-assoc (codewordAt t 0) (digits 12 h) r) (begins-append (codewordAt t 0) (digits 12 h ++ r))),
+      length-append (codewordAt t 0) (digits 12 h),
+      length-digits 12 h,
+    )
     (rawHeight-own (length (codewordAt t 0)) h (codewordAt t 0) r refl fits)
 
 -- ---- the items that packing gives
@@ -90,14 +93,15 @@ unfolding itemFor byDifference
 itemFor-right t s p height most = by-test (eqb p 4095)
     (λ e. rw e (record { fits = tt; pixel = sym (eqb-true p 4095 e) }))
     (λ e. rw e (by-test (eqb p 4094)
-      (λ d. rw d (record { fits = tt; pixel = sym (eqb-true p 4094 d) }))
-      (λ d. rw d
-        (let low : p ≤ 4093 = omega (arith, eqb-false p 4095 e, eqb-false p 4094 d) in
-        by-test (hasDifference t (differenceTo s p))
-        (λ has. rw has (record {
-          fits = (has, rw (le-leb 4093 (previous s + differenceTo s p) (omega arith), le-leb (previous s + differenceTo s p) 8186 (omega arith)));
-          pixel = omega arith }))
-        (λ has. rw has (record { fits = omega arith; pixel = refl }))))))
+    (λ d. rw d (record { fits = tt; pixel = sym (eqb-true p 4094 d) }))
+    (λ d. rw d
+    (let low : p ≤ 4093 = omega (arith, eqb-false p 4095 e, eqb-false p 4094 d) in
+    by-test (hasDifference t (differenceTo s p))
+    (λ has. rw has (record {
+      fits = (has, rw (le-leb 4093 (previous s + differenceTo s p) (omega arith), le-leb (previous s + differenceTo s p) 8186 (omega arith)));
+      pixel = omega arith;
+    }))
+    (λ has. rw has (record { fits = omega arith; pixel = refl }))))))
 
 -- a height whose difference the table lacks is written as the height itself
 pub itemFor-escape : (t : List ℕ) (s : State) (p : ℕ) → p ≤ 4093 → byDifference t s p ≡ false → itemFor t s p ≡ escape p
@@ -114,9 +118,13 @@ pub readBy-own : (t : List ℕ) (ok : Accepted t) (s : State) (is : List Item) (
 unfolding readBy bits
 readBy-own t ok s [] r fits = refl
 readBy-own t ok s (i ∷ is) r fits =
-    rw (append-assoc (itemBits t i) (bits t is) r, readItem-own t ok s i (bits t is ++ r) (fits .0),
-        drop-append-seam (itemBits t i) (bits t is ++ r), readBy-own t ok (after s i) is r (fits .1),
-        length-append (itemBits t i) (bits t is))
+    rw (
+      append-assoc (itemBits t i) (bits t is) r,
+      readItem-own t ok s i (bits t is ++ r) (fits .0),
+      drop-append-seam (itemBits t i) (bits t is ++ r),
+      readBy-own t ok (after s i) is r (fits .1),
+      length-append (itemBits t i) (bits t is),
+    )
 
 -- pixels that are no number above 4095
 module _ (t : List ℕ) where
@@ -145,7 +153,7 @@ readItems-rowBits t ok ps r e =
 -- a reading of a row's words, whatever words follow
 pub afterRun-rowBytes : (t : List ℕ) (ok : Accepted t) (ps rest m : List ℕ) → any (ltb 4095) ps ≡ false
     → afterRun (stream (rowBytes t ps ++ rest)) (length ps) m (readItems t (length ps) (stream (rowBytes t ps ++ rest)))
-      ≡ wrote (length (rowBits t ps)) (bytesOf (2 * length ps) (flat 16 ps)) m
+    ≡ wrote (length (rowBits t ps)) (bytesOf (2 * length ps) (flat 16 ps)) m
 afterRun-rowBytes t ok ps rest m e =
     let b = rowBits t ps in
     let padding = replicate (32 * wordsFor (length b) - length b) 0 ++ stream rest in
@@ -154,7 +162,7 @@ afterRun-rowBytes t ok ps rest m e =
 -- what packing wrote is unpacked: the bits are those written, and the pixels' bytes the row's own
 pub unpacked-rowBytes : (tb pb rest m : List ℕ) → Below 256 pb → Packable tb (halvesOf pb) → length (halvesOf pb) ≤ length m / 2
     → unpacked tb (rowBytes (wordsOf tb) (halvesOf pb) ++ rest) (length (halvesOf pb)) m
-      ≡ wrote (length (rowBits (wordsOf tb) (halvesOf pb))) (take (2 * length (halvesOf pb)) pb) m
+    ≡ wrote (length (rowBits (wordsOf tb) (halvesOf pb))) (take (2 * length (halvesOf pb)) pb) m
 unfolding unpacked
 unpacked-rowBytes tb pb rest m bytes ok room =
     let t = wordsOf tb in
@@ -165,7 +173,7 @@ unpacked-rowBytes tb pb rest m bytes ok room =
 -- the same from the very memory that packing leaves
 pub unpacked-packed : (tb pb m m′ : List ℕ) → Below 256 pb → packNumber tb (halvesOf pb) (length m / 4) ≡ 0 → length (halvesOf pb) ≤ length m′ / 2
     → unpacked tb (packed tb pb m .memory) (length (halvesOf pb)) m′
-      ≡ wrote (packed tb pb m .answer .count) (take (2 * length (halvesOf pb)) pb) m′
+    ≡ wrote (packed tb pb m .answer .count) (take (2 * length (halvesOf pb)) pb) m′
 unpacked-packed tb pb m m′ bytes e room =
     let front = rowBytes (wordsOf tb) (halvesOf pb) in
     rw (packed-done tb pb m e)

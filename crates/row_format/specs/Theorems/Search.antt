@@ -1,16 +1,15 @@
 -- The search for the string that begins the rest. Assumes nothing.
-use Prim.Native.Nat.{ℕ, zero, suc, _+_, _≤_, _<_}
-use native.Mathlib.Nat.{le-max-left, le-max-right, le-trans}
+use Prim.Native.Nat.{ℕ, _+_, _≤_, _<_}
 use native.Mathlib.Omega.{arith}
-use mathlib.Core.Path.{_≡_, refl, sym, ap, _∙_}
-use mathlib.Core.Bool.{Bool, true, false, cond, not, _||_}
-use mathlib.Core.List.{List, [], _∷_, _++_}
-use lib.ListN.{length, take, drop, getD}
+use mathlib.Core.Path.{_≡_, refl, ap, _∙_}
+use mathlib.Core.Bool.{true, false}
+use mathlib.Core.List.{List, [], _∷_}
+use lib.ListN.{length, take, getD}
 use lib.Seq.{length-take-le}
 use Rattle.bitstream.specs.Bits.{begins}
 use Rattle.row_format.specs.Lists.{any}
 use Rattle.row_format.specs.Lists.Laws.{by-test, true-false, or-false-left, or-false-right, any-false-at}
-use Rattle.row_format.specs.BitLaws.{begins-length, begins-swap, begins-take}
+use Rattle.row_format.specs.BitLaws.{begins-swap, begins-take}
 use Rattle.row_format.specs.Table.{longest, tableSize, codewords, codewordAt}
 use Rattle.row_format.specs.Table.Laws.{Accepted, getD-codewords, length-codewords-size, codewordAt-only}
 use Rattle.row_format.specs.Reading.{Match, none, found, later, find}
@@ -32,8 +31,8 @@ find-found [] r = refl
 find-found (s ∷ ss) r =
     let rest = find-found ss r in
     by-test (begins s r)
-      (λ e. rw e (omega arith, e))
-      (λ e. rw e (later-found s ss r (find ss r) e rest))
+    (λ e. rw e (omega arith, e))
+    (λ e. rw e (later-found s ss r (find ss r) e rest))
 
 -- ---- how far the search looks
 pub find-take : (ss : List (List ℕ)) (r : List ℕ) (k : ℕ) → longest ss ≤ k → find ss (take k r) ≡ find ss r
@@ -48,8 +47,8 @@ any-begins-none [] r h e = refl
 any-begins-none (s ∷ ss) r h e =
     let rest = any-begins-none ss r (omega arith) (or-false-right (begins s r) (any (λ u. begins u r) ss) e) in
     by-test (begins r s)
-      (λ p. true-false (begins-swap r s (omega arith) p) (or-false-left (begins s r) (any (λ u. begins u r) ss) e))
-      (λ p. rw p rest)
+    (λ p. true-false (begins-swap r s (omega arith) p) (or-false-left (begins s r) (any (λ u. begins u r) ss) e))
+    (λ p. rw p rest)
 
 any-begins-take : (ss : List (List ℕ)) (r : List ℕ) (k : ℕ) → longest ss ≤ k → any (λ s. begins s (take k r)) ss ≡ any (λ s. begins s r) ss
 unfolding any longest

@@ -1,13 +1,12 @@
 -- What is read stands there: under an accepted table the bits that a reading uses are those of its items. Assumes nothing.
-use Prim.Native.Nat.{ℕ, zero, suc, _+_, _-_, _*_, _/_, _%_, _≤_, _<_}
-use native.Mathlib.Nat.{add-sub-cancel}
+use Prim.Native.Nat.{ℕ, zero, suc, _+_, _-_, _≤_, _<_}
 use native.Mathlib.Omega.{arith}
 use mathlib.Core.Path.{_≡_, refl, sym, ap, _∙_, subst}
-use mathlib.Core.Bool.{Bool, true, false, cond, _&&_}
-use mathlib.Core.List.{List, [], _∷_, _++_, append-assoc}
-use lib.ListN.{length, take, drop, getD, length-append, length-drop, take-append-drop}
+use mathlib.Core.Bool.{true}
+use mathlib.Core.List.{List, _++_, append-assoc}
+use lib.ListN.{length, take, drop, length-append, length-drop, take-append-drop}
 use lib.Seq.{drop-drop, length-take-le}
-use lib.Dec.{leb, ltb}
+use lib.Dec.{ltb}
 use borrow.Author.Tests.{ltb-true, ltb-false, lt-ltb, le-leb}
 use Rattle.bitstream.specs.Bits.{digits, numOf, begins}
 use Rattle.bitstream.specs.Bits.Laws.{Below, below-take, below-drop, length-digits, digits-numOf}
@@ -16,7 +15,7 @@ use Rattle.row_format.specs.Lists.Laws.{by-test}
 use Rattle.row_format.specs.BitLaws.{begins-drop}
 use Rattle.row_format.specs.Table.{lowLimit, tableSize, hasDifference, codewords, codewordAt}
 use Rattle.row_format.specs.Table.Laws.{Accepted, getD-codewords, length-codewords-size}
-use Rattle.row_format.specs.Row.{Item, difference, badPixel, badBias, escape, State, fresh, after, itemBits, bits}
+use Rattle.row_format.specs.Row.{Item, difference, State, fresh, after, itemBits, bits}
 use Rattle.row_format.specs.Reading.{Match, none, found, find, Reading, item, fault, rawHeight, inside, unmatched, matched, taken, readItem, Run, done, stop, prepend, follow, readBy, readItems}
 use Rattle.row_format.specs.Theorems.Search.{Found, find-found}
 use Rattle.row_format.specs.Theorems.RoundTrip.{Fits, FitAll}
@@ -41,12 +40,13 @@ field-front c r w bin p within =
     let rest = drop (length c) r in
     let room : w ≤ length (drop (length c) r) = omega (arith, length-drop (length c) r) in
     let field : digits w (numOf (take w rest)) ≡ take w rest =
-          rw (length-take-le w rest room) at (digits-numOf (take w rest) (below-take w rest (below-drop (length c) r bin))) in
+    rw (length-take-le w rest room) at (digits-numOf (take w rest) (below-take w rest (below-drop (length c) r bin))) in
     let parts : rest ≡ digits w (numOf (take w rest)) ++ drop (length c + w) r =
-          sym (take-append-drop w rest) ∙ rw (field, drop-drop w (length c) r) in
+    sym (take-append-drop w rest) ∙ rw (field, drop-drop w (length c) r) in
     record {
       there = begins-drop c r p ∙ ap (c ++_) parts ∙ sym (append-assoc c (digits w (numOf (take w rest))) (drop (length c + w) r));
-      size = sym (length-append c (digits w (numOf (take w rest))) ∙ rw (length-digits w (numOf (take w rest)))) }
+      size = sym (length-append c (digits w (numOf (take w rest))) ∙ rw (length-digits w (numOf (take w rest))));
+    }
 
 rawHeight-stands : (t : List ℕ) (s : State) (r : List ℕ) → Below 2 r → begins (codewordAt t 0) r ≡ true
     → Stands t s r (rawHeight (length (codewordAt t 0)) r)
@@ -57,8 +57,8 @@ rawHeight-stands t s r bin p =
     by-test (ltb (length r) (n + 12))
     (λ e. rw e tt)
     (λ e. rw e (by-test (ltb height 4094)
-      (λ d. rw d (ltb-true height 4094 d, field-front (codewordAt t 0) r 12 bin p (ltb-false (length r) (n + 12) e)))
-      (λ d. rw d tt)))
+    (λ d. rw d (ltb-true height 4094 d, field-front (codewordAt t 0) r 12 bin p (ltb-false (length r) (n + 12) e)))
+    (λ d. rw d tt)))
 
 -- entry i's string, at place 3 + i, is that of its difference
 itemBits-entry : (t : List ℕ) (i : ℕ) → itemBits t (difference (i + lowLimit t)) ≡ codewordAt t (suc (suc (suc i)))
@@ -77,7 +77,7 @@ module _ (t : List ℕ) (ok : Accepted t) where
   taken-stands s r bin (found (suc (suc (suc i)))) q =
       let j = suc (suc (suc i)) in
       let front : Front (itemBits t (difference (i + lowLimit t))) r (length (codewordAt t j)) =
-            rw (itemBits-entry t i) (front-of (codewordAt t j) r (rw (getD-codewords t j) at (q .1))) in
+      rw (itemBits-entry t i) (front-of (codewordAt t j) r (rw (getD-codewords t j) at (q .1))) in
       by-test (inside s (i + lowLimit t))
       (λ e. rw e ((hasDifference-entry t i (omega (arith, q .0, length-codewords-size t ok)), e), front))
       (λ e. rw e tt)
@@ -99,7 +99,8 @@ DoneStands t s n r (stop e at u) = Unit {0}
 front-append : (a b r : List ℕ) (u v : ℕ) → Front a r u → Front b (drop u r) v → Front (a ++ b) r (u + v)
 front-append a b r u v p q = record {
   there = p .there ∙ ap (a ++_) (q .there ∙ rw (drop-drop v u r)) ∙ sym (append-assoc a b (drop (u + v) r));
-  size = omega (arith, length-append a b, p .size, q .size) }
+  size = omega (arith, length-append a b, p .size, q .size);
+}
 
 prepend-stands : (t : List ℕ) (s : State) (n : ℕ) (r : List ℕ) (i : Item) (u : ℕ) (x : Run) → Fits t s i × Front (itemBits t i) r u
     → DoneStands t (after s i) n (drop u r) x → DoneStands t s (suc n) r (prepend i u x)
@@ -107,7 +108,8 @@ unfolding bits
 prepend-stands t s n r i u (done is v) p q = record {
   count = omega (arith, q .count);
   fits = (p .0, q .fits);
-  front = front-append (itemBits t i) (bits t is) r u v (p .1) (q .front) }
+  front = front-append (itemBits t i) (bits t is) r u v (p .1) (q .front);
+}
 prepend-stands t s n r i u (stop e at v) p q = tt
 
 follow-stands : (t : List ℕ) (s : State) (n : ℕ) (r : List ℕ) (x : Reading) (f : Item → ℕ → Run) → Stands t s r x
@@ -120,7 +122,7 @@ unfolding readBy bits
 readBy-stands t ok s zero r bin = record { count = refl; fits = tt; front = record { there = refl; size = refl } }
 readBy-stands t ok s (suc n) r bin =
     follow-stands t s n r (readItem t s r) (λ i u. readBy (readItem t) (after s i) n (drop u r)) (readItem-stands t ok s r bin)
-      (λ i u. readBy-stands t ok (after s i) n (drop u r) (below-drop u r bin))
+    (λ i u. readBy-stands t ok (after s i) n (drop u r) (below-drop u r bin))
 
 pub readItems-stands : (t : List ℕ) (ok : Accepted t) (n : ℕ) (r : List ℕ) (is : List Item) (u : ℕ) → Below 2 r
     → readItems t n r ≡ done is u → RunStands t fresh n r is u

@@ -1,18 +1,16 @@
 -- Demand 3: under some tables no smaller bound than n times M holds: the row 4093, then zeros, takes so many bits. Assumes nothing.
-use Prim.Native.Nat.{ℕ, zero, suc, _+_, _-_, _*_, _≤_, _<_}
+use Prim.Native.Nat.{ℕ, zero, suc, _+_, _*_, _≤_, _<_}
 use native.Mathlib.Nat.{suc-mul, max-eq-right}
 use native.Mathlib.Omega.{arith}
 use mathlib.Core.Path.{_≡_, refl, sym, ap, _∙_}
-use mathlib.Core.Bool.{Bool, true, false}
+use mathlib.Core.Bool.{false}
 use mathlib.Core.List.{List, [], _∷_, _++_}
 use lib.ListN.{length, replicate, length-append, length-replicate}
 use lib.Dec.{ltb}
-use Rattle.bitstream.specs.Bits.{digits}
-use Rattle.bitstream.specs.Bits.Laws.{length-digits}
 use Rattle.row_format.specs.Lists.{any}
 use Rattle.row_format.specs.Table.{tableSize, hasDifference, codewords, codewordAt, longest, escapeLength, maxItemBits}
 use Rattle.row_format.specs.Table.Laws.{Accepted, getD-codewords, length-codewords-size, longest-most}
-use Rattle.row_format.specs.Row.{Item, escape, State, fresh, past, byDifference, itemFor, itemBits, itemsFor, bits, rowBits}
+use Rattle.row_format.specs.Row.{escape, past, byDifference, itemFor, itemBits, itemsFor, bits, rowBits}
 use Rattle.row_format.specs.Theorems.Bounds.{length-itemBits-escape}
 
 -- 4093 and then zeros, n pixels in all

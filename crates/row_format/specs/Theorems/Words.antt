@@ -1,15 +1,15 @@
 -- Rows in words and pixels in bytes: what is written has no stray bit, and pixels come back as the bytes they were.
 -- Assumes nothing.
-use Prim.Native.Nat.{ℕ, zero, suc, _+_, _-_, _*_, _/_, _%_, _^_, _≤_, _<_}
+use Prim.Native.Nat.{ℕ, zero, suc, _+_, _-_, _*_, _/_, _%_, _≤_}
 use native.Mathlib.Omega.{arith}
-use mathlib.Core.Path.{_≡_, refl, sym, ap, _∙_, subst}
-use mathlib.Core.Bool.{Bool, true, false, _||_}
-use mathlib.Core.List.{List, [], _∷_, _++_, append-assoc, append-nil}
-use lib.ListN.{length, take, drop, getD, replicate, length-append, length-replicate}
+use mathlib.Core.Path.{_≡_, refl, sym, ap, _∙_}
+use mathlib.Core.Bool.{false}
+use mathlib.Core.List.{List, [], _∷_, _++_, append-nil}
+use lib.ListN.{length, take, getD, replicate, length-replicate}
 use lib.Seq.{drop-append-seam, take-at, take-all, length-take-le}
 use lib.Dec.{eqb}
-use Rattle.bitstream.specs.Bits.{digits, flat, cut, bitsOf, bytesOf, halvesOf, stream, wordsFor}
-use Rattle.bitstream.specs.Bits.Laws.{Below, below-nil, below-append, below-take, below-digits, below-flat, length-flat, length-cut, flat-take, flat-cut, cut-flat, pad}
+use Rattle.bitstream.specs.Bits.{digits, flat, cut, bitsOf, bytesOf, halvesOf, wordsFor}
+use Rattle.bitstream.specs.Bits.Laws.{Below, below-nil, below-append, below-take, below-digits, below-flat, length-flat, length-cut, flat-take, flat-cut, cut-flat}
 use Rattle.row_format.specs.Lists.{any}
 use Rattle.row_format.specs.BitLaws.{pad-within, bytesOf-bitsOf}
 use Rattle.row_format.specs.Table.{lowLimit, codeword, codewordAt}
@@ -56,10 +56,10 @@ bytesOf-halvesOf pb bytes =
     let place : 16 * (length pb / 2) ≡ 8 * (2 * (length pb / 2)) = omega arith in
     let within : 16 * (length pb / 2) ≤ length (bitsOf pb) = rw (length-flat 8 pb) (omega arith) in
     let halves : flat 16 (halvesOf pb) ≡ bitsOf (take (2 * n) pb) =
-          flat-cut 16 n (bitsOf pb) (below-flat 8 pb)
-          ∙ pad-within (16 * n) (bitsOf pb) within
-          ∙ ap (λ (k : ℕ). take k (bitsOf pb)) place
-          ∙ sym (flat-take 8 (2 * n) pb) in
+    flat-cut 16 n (bitsOf pb) (below-flat 8 pb)
+    ∙ pad-within (16 * n) (bitsOf pb) within
+    ∙ ap (λ (k : ℕ). take k (bitsOf pb)) place
+    ∙ sym (flat-take 8 (2 * n) pb) in
     let size : length (take (2 * n) pb) ≡ 2 * n = length-take-le (2 * n) pb (omega arith) in
     rw (length-cut 16 n (bitsOf pb), halves) (bytesOf-bitsOf (2 * n) (take (2 * n) pb) (below-take (2 * n) pb bytes) size)
 
@@ -70,7 +70,7 @@ halvesOf-bytesOf n ps size low =
     let place : 8 * (2 * n) ≡ 16 * n = omega arith in
     let count : 2 * n / 2 ≡ n = omega arith in
     let same : bitsOf (bytesOf (2 * n) (flat 16 ps)) ≡ flat 16 ps =
-          flat-cut 8 (2 * n) (flat 16 ps) (below-flat 16 ps)
-          ∙ rw place (pad-within (16 * n) (flat 16 ps) (omega arith) ∙ take-all (16 * n) (flat 16 ps) (omega arith)) in
+    flat-cut 8 (2 * n) (flat 16 ps) (below-flat 16 ps)
+    ∙ rw place (pad-within (16 * n) (flat 16 ps) (omega arith) ∙ take-all (16 * n) (flat 16 ps) (omega arith)) in
     rw (length-cut 8 (2 * n) (flat 16 ps), count, same)
     (ap (λ (k : ℕ). cut 16 k (flat 16 ps)) (sym size) ∙ ap (cut 16 (length ps)) (sym (append-nil (flat 16 ps))) ∙ cut-flat 16 ps [] low)

@@ -30,7 +30,6 @@ zero orElse d = d
 suc e orElse d = suc e
 
 infixr 20 _orElse_
-
 abbrev pub refuseIf : Bool → ℕ → ℕ
 refuseIf b e = cond b e 0
 

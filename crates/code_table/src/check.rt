@@ -1,8 +1,8 @@
 // The check of a table, which every call makes anew: it answers for every byte slice.
-use answer::Answer;
 use crate::header::low_limit;
 use crate::header::table_size;
 use crate::header::word_at;
+use answer::Answer;
 use prefix_free::prefix_free;
 ghost use mathlib.Core.Path.{_≡_};
 ghost use mathlib.Core.Bool.{true, false, not};
@@ -11,6 +11,9 @@ ghost use lib.ListN.{length};
 ghost use Rattle.row_format.specs.Table.{tableNumber, wrongWord};
 ghost use Rattle.row_format.specs.Calls.{checked};
 ghost use Rattle.code_table.specs.Check.{WholeTable, SizeJudged, AllGathered, codewordWords, judged};
+
+// The string words stand from word 3 on: raw, bad pixel and bad bias, then the entries.
+const FIRST_CODEWORD: usize = 3;
 
 // The number of a table's bytes, and M where they are accepted.
 pub fn check(table: &[u8]) -> Answer
@@ -21,7 +24,10 @@ pub fn check(table: &[u8]) -> Answer
         let mut scratch = [0u32; 8190];
         return check_codewords(table, &mut scratch);
     }
-    Answer { number: 1, count: 0 }
+    Answer {
+        number: 1,
+        count: 0,
+    }
 }
 
 // The same, where the sizes are in order; the string words are copied to `scratch` and moved about there.
@@ -32,9 +38,12 @@ fn check_codewords(table: &[u8], scratch: &mut [u32]) -> Answer
 {
     let escape = word_at(table, 3) % 32;
     if 15 < escape {
-        return Answer { number: 2, count: 0 };
+        return Answer {
+            number: 2,
+            count: 0,
+        };
     }
-    let count = table.len() / 4 - 3;
+    let count = table.len() / 4 - FIRST_CODEWORD;
     let words = &mut scratch[..count];
     let found = gather(table, words);
     let ok = found.ok;
@@ -42,7 +51,10 @@ fn check_codewords(table: &[u8], scratch: &mut [u32]) -> Answer
         let longest = found.longest;
         return judge(words, longest, escape);
     }
-    Answer { number: 2, count: 0 }
+    Answer {
+        number: 2,
+        count: 0,
+    }
 }
 
 // Of string words that are in order.
@@ -56,7 +68,10 @@ fn judge(words: &mut [u32], longest: u32, escape: u32) -> Answer
             count: greater(longest, escape + 12),
         };
     }
-    Answer { number: 3, count: 0 }
+    Answer {
+        number: 3,
+        count: 0,
+    }
 }
 
 // Whether the word count, tableSize and lowLimit are in order.
@@ -109,13 +124,16 @@ fn gather(table: &[u8], words: &mut [u32]) -> Gathered
     let mut longest: u32 = 0;
     let mut i = 0;
     while i < words.len() {
-        let w = word_at(table, i + 3);
+        let w = word_at(table, i + FIRST_CODEWORD);
         if well_formed(w) {
             words[i] = w;
             longest = greater(longest, w % 32);
             i += 1;
         } else {
-            return Gathered { ok: false, longest: 0 };
+            return Gathered {
+                ok: false,
+                longest: 0,
+            };
         }
     }
     Gathered { ok: true, longest }

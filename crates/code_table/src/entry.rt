@@ -56,5 +56,9 @@ pub fn entry_at(table: &[u8], k: u32) -> Entry
         return Entry::Absent;
     }
     let i = k - low;
-    if i < size { Entry::At(i as usize) } else { Entry::Absent }
+    if i < size {
+        Entry::At(i as usize)
+    } else {
+        Entry::Absent
+    }
 }

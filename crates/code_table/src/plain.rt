@@ -543,7 +543,10 @@ pub fn plain_table(out: &mut [u8]) -> Answer
     ensures { λ r. ⌜ outcome r (now (out .exit)) ≡ plainLent (now (out .entry)) ⌝ }
 {
     if out.len() < 2072 {
-        return Answer { number: 5, count: 0 };
+        return Answer {
+            number: 5,
+            count: 0,
+        };
     }
     let words = plain_words();
     store(&words, out);

@@ -70,7 +70,7 @@ module _ (out : List ℕ) (w : Writer) (v n : ℕ) (ready : Ready out w n) (hv :
         bits = sym held-more;
         good = record { few = h; low = register-lt v n (w .count) (w .acc) hv (ready .good .low) most };
         size = refl;
-        rest = refl
+        rest = refl;
       }
 
   -- a word is stored
@@ -90,10 +90,10 @@ module _ (out : List ℕ) (w : Writer) (v n : ℕ) (ready : Ready out w n) (hv :
             ∙ sym held-more;
         good = record {
           few = omega arith;
-          low = shr-lt k 32 (subst (λ (m : ℕ). reg < 2 ^ m) (sym whole′) (register-lt v n (w .count) (w .acc) hv (ready .good .low) most))
+          low = shr-lt k 32 (subst (λ (m : ℕ). reg < 2 ^ m) (sym whole′) (register-lt v n (w .count) (w .acc) hv (ready .good .low) most));
         };
         size = omega arith;
-        rest = stored-rest out (w .words) (reg % 2 ^ 32) fits
+        rest = stored-rest out (w .words) (reg % 2 ^ 32) fits;
       }
 
 -- ---- the ways out of `finish`
@@ -112,7 +112,7 @@ module _ (out : List ℕ) (w : Writer) (c : Closable out w) where
       record {
         count = omega arith;
         front = sym (ap (λ (k : ℕ). pad k (held out w)) (sym (add-zero (32 * (w .words)))) ∙ padded 0 ∙ append-nil (bitsOf (take (4 * (w .words)) out)));
-        rest = refl
+        rest = refl;
       }
 
   -- the last word is stored
@@ -125,8 +125,8 @@ module _ (out : List ℕ) (w : Writer) (c : Closable out w) where
         front =
             stored-bits out (w .words) (w .acc % 2 ^ 32) fits
             ∙ ap (bitsOf (take (4 * (w .words)) out) ++_)
-              (digits-mod 32 (w .acc) ∙ ap (digits 32) (sym (mod-eq-of-lt (c .good .low)) ∙ sym (numOf-digits (w .count) (w .acc)))
-              ∙ digits-pad 32 (digits (w .count) (w .acc)) (below-digits (w .count) (w .acc)))
+            (digits-mod 32 (w .acc) ∙ ap (digits 32) (sym (mod-eq-of-lt (c .good .low)) ∙ sym (numOf-digits (w .count) (w .acc)))
+            ∙ digits-pad 32 (digits (w .count) (w .acc)) (below-digits (w .count) (w .acc)))
             ∙ sym (ap (λ (k : ℕ). pad k (held out w)) whole ∙ padded 32);
-        rest = stored-rest out (w .words) (w .acc % 2 ^ 32) fits
+        rest = stored-rest out (w .words) (w .acc % 2 ^ 32) fits;
       }

@@ -71,7 +71,8 @@ module _ (b : List ℕ) where
   size-last whole least most = by-test (eqb (length b / 4) (6 + tableSize (wordsOf b)))
       (λ e. rw e (record {
         right = λ g. record { whole = whole; size = right-size (wordsOf b) least most (length-words b ∙ eqb-true _ _ e) };
-        wrong = λ g. true-false refl g }))
+        wrong = λ g. true-false refl g;
+      }))
       (λ e. rw e (refused (uneven (wordsOf b) (λ g. eqb-false _ _ e (sym (length-words b) ∙ g)))))
 
 -- ---- a string word
@@ -131,7 +132,7 @@ module _ (ts : List ℕ) (n : ℕ) (enough : n ≤ length ts) where
           size = length-set out i w ∙ g .size;
           copied = rw next (ap (λ (k : ℕ). take k (set out i w)) (add-one i) ∙ take-suc-set out i w (omega (arith, g .size)) ∙ ap (_++ (w ∷ [])) (g .copied));
           right = rw (next, any-append wrongWord (take i ts) (w ∷ []), g .right) (unfold any in rw (not-true (wrongWord w) r));
-          longest-is = rw next (sym (longest-snoc (take i ts) w ∙ ap (λ (k : ℕ). max k (w % 32)) (sym (g .longest-is))))
+          longest-is = rw next (sym (longest-snoc (take i ts) w ∙ ap (λ (k : ℕ). max k (w % 32)) (sym (g .longest-is))));
         }
 
     pub gathered-wrong : (out′ : List ℕ) → not (wrongWord w) ≡ false → AllGathered (take n ts) (record { ok = false; longest = 0 }) out′
@@ -139,6 +140,7 @@ module _ (ts : List ℕ) (n : ℕ) (enough : n ≤ length ts) where
       where
         bad : any wrongWord (take (i + 1) ts) ≡ true
         bad = rw (next, any-append wrongWord (take i ts) (w ∷ []), g .right) (unfold any in rw (not-false (wrongWord w) r))
+
         some : any wrongWord (take n ts) ≡ true
         some =
             let e : n ≡ i + 1 + (n - (i + 1)) = omega arith in
@@ -154,7 +156,7 @@ module _ (ts : List ℕ) (n : ℕ) (enough : n ≤ length ts) where
         copied = λ _. sym (take-all n out (omega (arith, g .size))) ∙ subst (λ (k : ℕ). take k out ≡ take k ts) e (g .copied);
         right = λ _. subst (λ (k : ℕ). any wrongWord (take k ts) ≡ false) e (g .right);
         most = λ _. subst (λ (k : ℕ). most ≡ longest (map codeword (take k ts))) e (g .longest-is);
-        wrong = λ x. true-false refl x
+        wrong = λ x. true-false refl x;
       }
 
 -- ---- a whole table's sizes, of its bytes

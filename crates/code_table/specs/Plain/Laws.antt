@@ -61,25 +61,31 @@ module _ (ws out₀ : List ℕ) (fits : 4 * length ws ≤ length out₀) where
       record {
         within = omega arith;
         size = length-overwritten out (4 * i) word (omega (arith, word-size, s .size)) ∙ s .size;
-        memory = front ∙ sym (rw (add-one i, take-suc ws i 0 h, wordBytes-snoc (take i ws) (getD ws i 0)) rest)
+        memory = front ∙ sym (rw (add-one i, take-suc ws i 0 h, wordBytes-snoc (take i ws) (getD ws i 0)) rest);
       }
     where
       word : List ℕ
       word = bytesOf 4 (digits 32 (getD ws i 0))
+
       word-size : length word ≡ 4
       word-size = length-cut 8 4 (digits 32 (getD ws i 0))
+
       done-size : length (wordBytes (take i ws)) ≡ 4 * i
       done-size = length-wordBytes (take i ws) ∙ ap (4 *_) (length-take-le i ws (omega arith))
+
       front : overwritten out (4 * i) word ≡ wordBytes (take i ws) ++ word ++ drop (4 * i + length word) out
       front = ap (λ (l : List ℕ). l ++ word ++ drop (4 * i + length word) out) (ap (take (4 * i)) (s .memory) ∙ take-at (wordBytes (take i ws)) (drop (4 * i) out₀) (4 * i) done-size)
+
       next : 4 * i + 4 ≡ 4 * suc i
       next = omega arith
+
       past : drop (4 * i + 4) (wordBytes (take i ws) ++ drop (4 * i) out₀) ≡ drop (4 * suc i) out₀
       past =
           ap (λ (k : ℕ). drop (k + 4) (wordBytes (take i ws) ++ drop (4 * i) out₀)) (sym done-size)
           ∙ drop-append-add (wordBytes (take i ws)) (drop (4 * i) out₀) 4
           ∙ drop-drop 4 (4 * i) out₀
           ∙ ap (λ (k : ℕ). drop k out₀) next
+
       rest : wordBytes (take i ws) ++ word ++ drop (4 * suc i) out₀ ≡ wordBytes (take i ws) ++ word ++ drop (4 * i + length word) out
       rest = ap (wordBytes (take i ws) ++ word ++_) (sym (rw word-size (ap (drop (4 * i + 4)) (s .memory) ∙ past)))
 

@@ -1,20 +1,16 @@
+-- `bitstream::byte::byte_at` meets its contract: a byte is below 256. Assumes nothing.
 use native.Mathlib.Omega.{arith}
 use mathlib.Core.Path.{refl}
 use borrow.Author.Needs.{needs}
 use Rattle.bitstream.proofs.byte.byte_at.Statement.{statement}
 use Rattle.bitstream.proofs.byte.byte_at.Tie as tie
-use Rattle.bitstream.proofs.byte.byte_at.Reads as reads
-use Rattle.bitstream.proofs.byte.byte_at.Lts as lts
 
--- src/byte.rt:10:5
 shared-slice-read-result : tie.Need-shared-slice-read-result
 shared-slice-read-result c = search needs
 
--- src/byte.rt:10:5
 cast-result : tie.Need-cast-result
 cast-result c = omega (arith, c .shared-slice-known .given (c .before .args .at))
 
--- src/byte.rt:6:1
 returns : tie.Need-returns
 returns c = record { value = refl; small = c .shared-slice-known .given (c .before .args .at) .fits }
 

@@ -1,61 +1,47 @@
+-- `bitstream::number::put_u32` meets its contract: four stores are four bytes written over. Assumes nothing.
 use native.Mathlib.Omega.{arith}
 use lib.ListN.{length-set}
-use Rattle.bitstream.specs.Memory.Laws.{put-four}
 use borrow.Author.Needs.{needs}
+use Rattle.bitstream.specs.Memory.Laws.{put-four}
 use Rattle.bitstream.proofs.number.put_u32.Statement.{statement}
 use Rattle.bitstream.proofs.number.put_u32.Tie as tie
-use Rattle.bitstream.proofs.number.put_u32.Reads as reads
-use Rattle.bitstream.proofs.number.put_u32.Lts as lts
 
--- src/number.rt:41:13
 cast-s : tie.Need-cast-s
 cast-s c = search needs
 
--- src/number.rt:41:5
 slice-write-s : tie.Need-slice-write-s
 slice-write-s c = search needs
 
--- src/number.rt:42:17
 cast-s-2 : tie.Need-cast-s-2
 cast-s-2 c = search needs
 
--- src/number.rt:42:7
 add-s : tie.Need-add-s
 add-s c = search needs
 
--- src/number.rt:42:5
 slice-write-s-2 : tie.Need-slice-write-s-2
 slice-write-s-2 c = simp length-set (omega arith)
 
--- src/number.rt:43:17
 cast-s-3 : tie.Need-cast-s-3
 cast-s-3 c = search needs
 
--- src/number.rt:43:7
 add-s-2 : tie.Need-add-s-2
 add-s-2 c = search needs
 
--- src/number.rt:43:5
 slice-write-s-3 : tie.Need-slice-write-s-3
 slice-write-s-3 c = simp length-set (omega arith)
 
--- src/number.rt:44:17
 cast-s-4 : tie.Need-cast-s-4
 cast-s-4 c = search needs
 
--- src/number.rt:44:7
 add-s-3 : tie.Need-add-s-3
 add-s-3 c = search needs
 
--- src/number.rt:44:5
 slice-write-s-4 : tie.Need-slice-write-s-4
 slice-write-s-4 c = simp length-set (omega arith)
 
--- src/number.rt:37:1
 same-length : tie.Need-same-length
 same-length c = search needs
 
--- src/number.rt:37:1
 returns : tie.Need-returns
 returns c = put-four (c .args .s .now) (c .args .at) (c .args .v) (c .pre)
 

@@ -1,64 +1,48 @@
-use Rattle.bitstream.specs.Memory.Laws.{read-four}
+-- `bitstream::number::read_u32` meets its contract: each byte counts 256 times the one before. Assumes nothing.
 use borrow.Author.Needs.{needs}
+use Rattle.bitstream.specs.Memory.Laws.{read-four}
 use Rattle.bitstream.proofs.number.read_u32.Statement.{statement}
 use Rattle.bitstream.proofs.number.read_u32.Tie as tie
-use Rattle.bitstream.proofs.number.read_u32.Reads as reads
-use Rattle.bitstream.proofs.number.read_u32.Lts as lts
-use Rattle.bitstream.proofs.byte.byte_at.Reads as byte-at-reads
 
--- src/number.rt:22:9
 byte-at-requires : tie.Need-byte-at-requires
 byte-at-requires c κs = search needs
 
--- src/number.rt:23:25
 add-byte-at : tie.Need-add-byte-at
 add-byte-at c = search needs
 
--- src/number.rt:23:9
 byte-at-requires-2 : tie.Need-byte-at-requires-2
 byte-at-requires-2 c κs = search needs
 
--- src/number.rt:24:25
 add-byte-at-2 : tie.Need-add-byte-at-2
 add-byte-at-2 c = search needs
 
--- src/number.rt:24:9
 byte-at-requires-3 : tie.Need-byte-at-requires-3
 byte-at-requires-3 c κs = search needs
 
--- src/number.rt:25:25
 add-byte-at-3 : tie.Need-add-byte-at-3
 add-byte-at-3 c = search needs
 
--- src/number.rt:25:9
 byte-at-requires-4 : tie.Need-byte-at-requires-4
 byte-at-requires-4 c κs = search needs
 
--- src/number.rt:26:7
 mul-result : tie.Need-mul-result
 mul-result c = search needs
 
--- src/number.rt:26:7
 add-result : tie.Need-add-result
 add-result c = search needs
 
--- src/number.rt:26:6
 mul-result-2 : tie.Need-mul-result-2
 mul-result-2 c = search needs
 
--- src/number.rt:26:6
 add-result-2 : tie.Need-add-result-2
 add-result-2 c = search needs
 
--- src/number.rt:26:5
 mul-result-3 : tie.Need-mul-result-3
 mul-result-3 c = search needs
 
--- src/number.rt:26:5
 add-result-3 : tie.Need-add-result-3
 add-result-3 c = search needs
 
--- src/number.rt:18:1
 returns : tie.Need-returns
 returns c = read-four (c .before .before .before .before .before .args .at) (c .before .before .before .byte-at .ensures) (c .before .before .byte-at2 .ensures) (c .before .byte-at3 .ensures) (c .byte-at4 .ensures)
 

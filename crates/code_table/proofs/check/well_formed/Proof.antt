@@ -1,24 +1,19 @@
+-- `code_table::check::well_formed` meets its contract: by the tests of `wrongWord`, in their order. Assumes nothing.
 use native.Mathlib.Omega.{arith}
-use Rattle.code_table.specs.Check.Laws.{formed-empty, formed-long, formed-last}
 use borrow.Author.Needs.{needs}
+use Rattle.code_table.specs.Check.Laws.{formed-empty, formed-long, formed-last}
 use Rattle.code_table.proofs.check.well_formed.Statement.{statement}
 use Rattle.code_table.proofs.check.well_formed.Tie as tie
-use Rattle.code_table.proofs.check.well_formed.Reads as reads
-use Rattle.code_table.proofs.check.well_formed.Lts as lts
 
--- src/check.rt:42:9
 returns : tie.Need-returns
 returns c = formed-empty (c .before .args .w) (c .if1 .taken)
 
--- src/check.rt:45:9
 returns-2 : tie.Need-returns-2
 returns-2 c = formed-long (c .before .before .args .w) (omega arith) (c .if2 .taken)
 
--- src/check.rt:47:5
 shr-result : tie.Need-shr-result
 shr-result c = search needs
 
--- src/check.rt:37:1
 returns-3 : tie.Need-returns-3
 returns-3 c = formed-last (c .before .before .args .w) (omega arith) (omega arith)
 

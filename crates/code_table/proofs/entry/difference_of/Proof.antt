@@ -1,30 +1,23 @@
+-- `code_table::entry::difference_of` meets its contract: the count from -4093 is i + lowLimit. Assumes nothing.
 use Prim.Native.Nat.{ℕ, _+_}
+use native.Mathlib.Omega.{arith}
 use mathlib.Core.Path.{ap, _∙_}
 use mir.Facts.{toZ-ofZ}
 use Rattle.row_format.specs.Table.{signed}
 use Rattle.code_table.specs.Entry.Laws.{signed-fits}
-use native.Mathlib.Omega.{arith}
 use Rattle.code_table.specs.Check.Laws.{whole-table-words}
 use Rattle.code_table.proofs.entry.difference_of.Statement.{statement}
 use Rattle.code_table.proofs.entry.difference_of.Tie as tie
-use Rattle.code_table.proofs.entry.difference_of.Reads as reads
-use Rattle.code_table.proofs.entry.difference_of.Lts as lts
-use Rattle.code_table.proofs.entry.signed_of.Reads as signed-of-reads
-use Rattle.code_table.proofs.header.low_limit.Reads as low-limit-reads
 
--- src/entry.rt:31:19
 low-limit-requires : tie.Need-low-limit-requires
 low-limit-requires c κs = omega (arith, whole-table-words (c .before .args .table .now) (c .before .pre .0))
 
--- src/entry.rt:31:15
 add-signed-of : tie.Need-add-signed-of
 add-signed-of c = omega (arith, whole-table-words (c .before .before .args .table .now) (c .before .before .pre .0))
 
--- src/entry.rt:31:5
 signed-of-requires : tie.Need-signed-of-requires
 signed-of-requires c κs = omega (arith, whole-table-words (c .before .before .args .table .now) (c .before .before .pre .0))
 
--- src/entry.rt:26:1
 returns : tie.Need-returns
 returns c = toZ-ofZ (rw (c .signed-of .ensures) (signed-fits (c .before .before .before .args .i + c .before .low-limit .result) (omega (arith, whole-table-words (c .before .before .before .args .table .now) (c .before .before .before .pre .0))))) ∙ c .signed-of .ensures ∙ ap (λ (k : ℕ). signed (c .before .before .before .args .i + k)) (c .before .low-limit .ensures)
 

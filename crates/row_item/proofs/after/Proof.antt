@@ -26,10 +26,14 @@ returns-3 : tie.Need-returns-3
 returns-3 c = rw (c .enum-told3 .given .1) (after-bad-bias (c .before .before .args .p) (c .before .before .args .pixel))
 
 returns-4 : tie.Need-returns-4
-returns-4 c = rw (c .before .enum-told4 .given .1) (after-later-escape (c .before .before .before .args .p) (c .before .before .before .args .pixel) _ (c .if1 .taken))
+returns-4 c =
+    let at-start = c .before .before .before in
+    rw (c .before .enum-told4 .given .1) (after-later-escape (at-start .args .p) (at-start .args .pixel) _ (c .if1 .taken))
 
 returns-5 : tie.Need-returns-5
-returns-5 c = rw (c .before .enum-told4 .given .1) (after-first-escape (c .before .before .before .args .p) (c .before .before .before .args .pixel) _ (c .if1 .left))
+returns-5 c =
+    let at-start = c .before .before .before in
+    rw (c .before .enum-told4 .given .1) (after-first-escape (at-start .args .p) (at-start .args .pixel) _ (c .if1 .left))
 
 pub after-spec : {M : Type 1} → statement M
 after-spec =

@@ -63,7 +63,14 @@ cast-result : tie.Need-cast-result
 cast-result c = search needs
 
 returns : tie.Need-returns
-returns c = let at-start = c .before .before .before .before .before .before in field-of-five (at-start .args .s .now) (at-start .args .at) _ (read-five (at-start .args .at / 8) (c .before .before .before .before .byte-or-zero .ensures) (c .before .before .before .byte-or-zero2 .ensures) (c .before .before .byte-or-zero3 .ensures) (c .before .byte-or-zero4 .ensures) (c .byte-or-zero5 .ensures))
+returns c =
+    let at-byte-or-zero3 = c .before .before in
+    let at-byte-or-zero2 = at-byte-or-zero3 .before in
+    let at-byte-or-zero = at-byte-or-zero2 .before in
+    let at-start = at-byte-or-zero .before .before in
+    field-of-five (at-start .args .s .now) (at-start .args .at) _
+    (read-five (at-start .args .at / 8) (at-byte-or-zero .byte-or-zero .ensures) (at-byte-or-zero2 .byte-or-zero2 .ensures)
+     (at-byte-or-zero3 .byte-or-zero3 .ensures) (c .before .byte-or-zero4 .ensures) (c .byte-or-zero5 .ensures))
 
 pub peek32-spec : {M : Type 1} → statement M
 peek32-spec =

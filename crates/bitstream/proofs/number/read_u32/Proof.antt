@@ -44,7 +44,12 @@ add-result-3 : tie.Need-add-result-3
 add-result-3 c = search needs
 
 returns : tie.Need-returns
-returns c = read-four (c .before .before .before .before .before .args .at) (c .before .before .before .byte-at .ensures) (c .before .before .byte-at2 .ensures) (c .before .byte-at3 .ensures) (c .byte-at4 .ensures)
+returns c =
+    let at-byte-at2 = c .before .before in
+    let at-byte-at = at-byte-at2 .before in
+    let at-start = at-byte-at .before .before in
+    read-four (at-start .args .at) (at-byte-at .byte-at .ensures) (at-byte-at2 .byte-at2 .ensures) (c .before .byte-at3 .ensures)
+    (c .byte-at4 .ensures)
 
 pub read-u32-spec : {M : Type 1} → statement M
 read-u32-spec =

@@ -24,7 +24,11 @@ same-length : tie.Need-same-length
 same-length c = search needs
 
 returns-2 : tie.Need-returns-2
-returns-2 c = let s = c .before .before .before .before .before .before in rw (c .before .before .put-u32 .ensures) (finish-stored (s .args .out .now) (s .args .w) (s .pre) (λ e. omega arith))
+returns-2 c =
+    let at-put-u32 = c .before .before in
+    let at-start = at-put-u32 .before .before .before .before in
+    rw (at-put-u32 .put-u32 .ensures)
+    (finish-stored (at-start .args .out .now) (at-start .args .w) (at-start .pre) (λ e. omega arith))
 
 pub finish-spec : {M : Type 1} → statement M
 finish-spec =

@@ -15,10 +15,16 @@ shl-acc : tie.Need-shl-acc
 shl-acc c = search needs
 
 add-acc : tie.Need-add-acc
-add-acc c = record { fits = let s = c .before .before .before .before in register-fits (s .args .v) (s .args .n) (s .args .w .count) (s .args .w .acc) (s .pre .1) (s .pre .0 .good .low) (s .pre .0 .most) (s .pre .0 .good .few) }
+add-acc c =
+    let at-start = c .before .before .before .before in
+    record
+    { fits = let s = at-start in register-fits (s .args .v) (s .args .n) (s .args .w .count) (s .args .w .acc) (s .pre .1) (s .pre .0 .good .low) (s .pre .0 .most) (s .pre .0 .good .few) }
 
 returns : tie.Need-returns
-returns c = let s = c .before .before .before .before .before in put-kept (s .args .out .now) (s .args .w) (s .args .v) (s .args .n) (s .pre .0) (s .pre .1) (c .if1 .taken)
+returns c =
+    let at-start = c .before .before .before .before .before in
+    put-kept (at-start .args .out .now) (at-start .args .w) (at-start .args .v) (at-start .args .n) (at-start .pre .0)
+    (at-start .pre .1) (c .if1 .taken)
 
 mul-put-u32 : tie.Need-mul-put-u32
 mul-put-u32 c = search needs
@@ -36,7 +42,12 @@ same-length : tie.Need-same-length
 same-length c = search needs
 
 returns-2 : tie.Need-returns-2
-returns-2 c = let s = c .before .before .before .before .before .before .before .before .before in rw (c .before .before .put-u32 .ensures) (put-stored (s .args .out .now) (s .args .w) (s .args .v) (s .args .n) (s .pre .0) (s .pre .1) (omega arith))
+returns-2 c =
+    let at-put-u32 = c .before .before in
+    let at-start = at-put-u32 .before .before .before .before .before .before .before in
+    rw (at-put-u32 .put-u32 .ensures)
+    (put-stored (at-start .args .out .now) (at-start .args .w) (at-start .args .v) (at-start .args .n) (at-start .pre .0)
+     (at-start .pre .1) (omega arith))
 
 pub put-spec : {M : Type 1} → statement M
 put-spec =

@@ -17,11 +17,28 @@ abbrev μ-loop : tie.MeasureT-loop
 μ-loop table words₀ longest₀ i₀ words longest i = length words₀ - i
 
 loop-holds : tie.Need-loop-holds Inv-loop μ-loop
-loop-holds c = let s = c .before .before in let ts = drop 3 (wordsOf (s .args .table .now)) in let n = length (s .args .words .now) in let enough = codewordWords-enough (s .args .table .now) n (s .pre) in gathering-none ts n enough (s .args .words .now) refl
+loop-holds c =
+    let at-start = c .before .before in
+    let ts = drop 3 (wordsOf (at-start .args .table .now)) in
+    let n = length (at-start .args .words .now) in
+    let enough = codewordWords-enough (at-start .args .table .now) n (at-start .pre) in
+    gathering-none ts n enough (at-start .args .words .now) refl
 
 -- which words are gathered
 loop-again : tie.Need-loop-again Inv-loop μ-loop
-loop-again c = let s = c .before .before .before .before .before .before .before .before in let ts = drop 3 (wordsOf (s .args .table .now)) in let n = length (s .args .words .now) in let enough = codewordWords-enough (s .args .table .now) n (s .pre) in rw (c .greater .ensures) (gathering-more ts n enough (c .before .before .before .before .before .loop .words) (c .before .before .before .before .before .loop .longest) (c .before .before .before .before .before .loop .i) (c .before .before .before .word-at .result) (c .before .before .before .before .before .loop .inv) (omega arith) (c .before .before .before .word-at .ensures ∙ codewordWords-at (s .args .table .now) (c .before .before .before .before .before .loop .i)) (sym (c .before .before .well-formed .ensures) ∙ c .before .if1 .taken))
+loop-again c =
+    let at-well-formed = c .before .before in
+    let at-word-at = at-well-formed .before in
+    let at-loop = at-word-at .before .before in
+    let at-start = at-loop .before .before .before in
+    let ts = drop 3 (wordsOf (at-start .args .table .now)) in
+    let n = length (at-start .args .words .now) in
+    let enough = codewordWords-enough (at-start .args .table .now) n (at-start .pre) in
+    rw (c .greater .ensures)
+    (gathering-more ts n enough (at-loop .loop .words) (at-loop .loop .longest) (at-loop .loop .i) (at-word-at .word-at .result)
+     (at-loop .loop .inv) (omega arith)
+     (at-word-at .word-at .ensures ∙ codewordWords-at (at-start .args .table .now) (at-loop .loop .i))
+     (sym (at-well-formed .well-formed .ensures) ∙ c .before .if1 .taken))
 
 add-word-at : tie.Need-add-word-at Inv-loop μ-loop
 add-word-at c = search needs
@@ -51,13 +68,29 @@ same-length : tie.Need-same-length Inv-loop μ-loop
 same-length c = search needs
 
 returns : tie.Need-returns Inv-loop μ-loop
-returns c = let s = c .before .before .before .before .before .before .before in let ts = drop 3 (wordsOf (s .args .table .now)) in let n = length (s .args .words .now) in let enough = codewordWords-enough (s .args .table .now) n (s .pre) in gathered-wrong ts n enough (c .before .before .before .before .loop .words) (c .before .before .before .before .loop .longest) (c .before .before .before .before .loop .i) (c .before .before .word-at .result) (c .before .before .before .before .loop .inv) (omega arith) (c .before .before .word-at .ensures ∙ codewordWords-at (s .args .table .now) (c .before .before .before .before .loop .i)) (c .before .before .before .before .loop .words) (sym (c .before .well-formed .ensures) ∙ c .if1 .left)
+returns c =
+    let at-word-at = c .before .before in
+    let at-loop = at-word-at .before .before in
+    let at-start = at-loop .before .before .before in
+    let ts = drop 3 (wordsOf (at-start .args .table .now)) in
+    let n = length (at-start .args .words .now) in
+    let enough = codewordWords-enough (at-start .args .table .now) n (at-start .pre) in
+    gathered-wrong ts n enough (at-loop .loop .words) (at-loop .loop .longest) (at-loop .loop .i) (at-word-at .word-at .result)
+    (at-loop .loop .inv) (omega arith)
+    (at-word-at .word-at .ensures ∙ codewordWords-at (at-start .args .table .now) (at-loop .loop .i)) (at-loop .loop .words)
+    (sym (c .before .well-formed .ensures) ∙ c .if1 .left)
 
 same-length-2 : tie.Need-same-length-2 Inv-loop μ-loop
 same-length-2 c = search needs
 
 returns-2 : tie.Need-returns-2 Inv-loop μ-loop
-returns-2 c = let s = c .before .before .before .before in let ts = drop 3 (wordsOf (s .args .table .now)) in let n = length (s .args .words .now) in let enough = codewordWords-enough (s .args .table .now) n (s .pre) in gathered-all ts n enough (c .before .loop .words) (c .before .loop .longest) (c .before .loop .i) (c .before .loop .inv) (omega arith)
+returns-2 c =
+    let at-start = c .before .before .before .before in
+    let ts = drop 3 (wordsOf (at-start .args .table .now)) in
+    let n = length (at-start .args .words .now) in
+    let enough = codewordWords-enough (at-start .args .table .now) n (at-start .pre) in
+    gathered-all ts n enough (c .before .loop .words) (c .before .loop .longest) (c .before .loop .i) (c .before .loop .inv)
+    (omega arith)
 
 pub gather-spec : {M : Type 1} → statement M
 gather-spec =

@@ -18,13 +18,22 @@ same-length : tie.Need-same-length
 same-length c = search needs
 
 returns : tie.Need-returns
-returns c = rw (c .greater .ensures) (judged-free (c .before .before .before .before .before .before .before .args .words .now) (c .before .before .before .before .before .before .before .args .longest) (c .before .before .before .before .before .before .before .args .escape) (sym (c .before .before .before .before .prefix-free .ensures) ∙ c .before .if1 .taken))
+returns c =
+    let at-prefix-free = c .before .before .before .before in
+    let at-start = at-prefix-free .before .before .before in
+    rw (c .greater .ensures)
+    (judged-free (at-start .args .words .now) (at-start .args .longest) (at-start .args .escape)
+     (sym (at-prefix-free .prefix-free .ensures) ∙ c .before .if1 .taken))
 
 same-length-2 : tie.Need-same-length-2
 same-length-2 c = search needs
 
 returns-2 : tie.Need-returns-2
-returns-2 c = judged-clash (c .before .before .before .before .before .before .args .words .now) (c .before .before .before .before .before .before .args .longest) (c .before .before .before .before .before .before .args .escape) (sym (c .before .before .before .prefix-free .ensures) ∙ c .if1 .left)
+returns-2 c =
+    let at-prefix-free = c .before .before .before in
+    let at-start = at-prefix-free .before .before .before in
+    judged-clash (at-start .args .words .now) (at-start .args .longest) (at-start .args .escape)
+    (sym (at-prefix-free .prefix-free .ensures) ∙ c .if1 .left)
 
 pub judge-spec : {M : Type 1} → statement M
 judge-spec =

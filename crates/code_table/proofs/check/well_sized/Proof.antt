@@ -36,7 +36,10 @@ add-result : tie.Need-add-result
 add-result c = search needs
 
 returns-5 : tie.Need-returns-5
-returns-5 c = rw (c .before .before .before .table-size .ensures) (size-last (c .before .before .before .before .before .before .before .args .table .now) (omega arith) (omega arith) (omega arith))
+returns-5 c =
+    let at-table-size = c .before .before .before in
+    let at-start = at-table-size .before .before .before .before in
+    rw (at-table-size .table-size .ensures) (size-last (at-start .args .table .now) (omega arith) (omega arith) (omega arith))
 
 pub well-sized-spec : {M : Type 1} → statement M
 well-sized-spec =

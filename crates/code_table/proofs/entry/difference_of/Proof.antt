@@ -19,7 +19,14 @@ signed-of-requires : tie.Need-signed-of-requires
 signed-of-requires c κs = omega (arith, whole-table-words (c .before .before .args .table .now) (c .before .before .pre .0))
 
 returns : tie.Need-returns
-returns c = toZ-ofZ (rw (c .signed-of .ensures) (signed-fits (c .before .before .before .args .i + c .before .low-limit .result) (omega (arith, whole-table-words (c .before .before .before .args .table .now) (c .before .before .before .pre .0))))) ∙ c .signed-of .ensures ∙ ap (λ (k : ℕ). signed (c .before .before .before .args .i + k)) (c .before .low-limit .ensures)
+returns c =
+    let at-start = c .before .before .before in
+    toZ-ofZ
+    (rw (c .signed-of .ensures)
+     (signed-fits (at-start .args .i + c .before .low-limit .result)
+      (omega (arith, whole-table-words (at-start .args .table .now) (at-start .pre .0)))))
+    ∙ c .signed-of .ensures
+    ∙ ap (λ (k : ℕ). signed (at-start .args .i + k)) (c .before .low-limit .ensures)
 
 pub difference-of-spec : {M : Type 1} → statement M
 difference-of-spec =

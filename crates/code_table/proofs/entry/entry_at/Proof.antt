@@ -13,16 +13,24 @@ table-size-requires : tie.Need-table-size-requires
 table-size-requires c κs = search needs
 
 returns : tie.Need-returns
-returns c = entry-below (wordsOf (c .before .before .before .before .args .table .now)) (c .before .before .before .before .args .k) (omega arith)
+returns c =
+    let at-start = c .before .before .before .before in
+    entry-below (wordsOf (at-start .args .table .now)) (at-start .args .k) (omega arith)
 
 cast-t8 : tie.Need-cast-t8
 cast-t8 c = search needs
 
 returns-2 : tie.Need-returns-2
-returns-2 c = rw (c .before .before .before .low-limit .ensures) (entry-inside (wordsOf (c .before .before .before .before .before .args .table .now)) (c .before .before .before .before .before .args .k) (omega arith) (omega arith))
+returns-2 c =
+    let at-low-limit = c .before .before .before in
+    let at-start = at-low-limit .before .before in
+    rw (at-low-limit .low-limit .ensures)
+    (entry-inside (wordsOf (at-start .args .table .now)) (at-start .args .k) (omega arith) (omega arith))
 
 returns-3 : tie.Need-returns-3
-returns-3 c = entry-above (wordsOf (c .before .before .before .before .before .args .table .now)) (c .before .before .before .before .before .args .k) (omega arith) (omega arith)
+returns-3 c =
+    let at-start = c .before .before .before .before .before in
+    entry-above (wordsOf (at-start .args .table .now)) (at-start .args .k) (omega arith) (omega arith)
 
 pub entry-at-spec : {M : Type 1} → statement M
 entry-at-spec =

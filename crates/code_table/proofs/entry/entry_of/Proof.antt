@@ -13,22 +13,41 @@ use Rattle.code_table.proofs.entry.entry_of.Statement.{statement}
 use Rattle.code_table.proofs.entry.entry_of.Tie as tie
 
 returns : tie.Need-returns
-returns c = found-below (wordsOf (c .before .before .args .table .now)) (c .before .before .args .difference) (subst (λ (x : ℤ). ltZ x (negsuc 4092) ≡ true) (toZ-ofZ (c .before .before .fits .difference)) (c .if1 .taken))
+returns c =
+    let at-start = c .before .before in
+    found-below (wordsOf (at-start .args .table .now)) (at-start .args .difference)
+    (subst (λ (x : ℤ). ltZ x (negsuc 4092) ≡ true) (toZ-ofZ (at-start .fits .difference)) (c .if1 .taken))
 
 returns-2 : tie.Need-returns-2
-returns-2 c = found-above (wordsOf (c .before .before .before .args .table .now)) (c .before .before .before .args .difference) (subst (λ (x : ℤ). ltZ (pos 4093) x ≡ true) (toZ-ofZ (c .before .before .before .fits .difference)) (c .if2 .taken))
+returns-2 c =
+    let at-start = c .before .before .before in
+    found-above (wordsOf (at-start .args .table .now)) (at-start .args .difference)
+    (subst (λ (x : ℤ). ltZ (pos 4093) x ≡ true) (toZ-ofZ (at-start .fits .difference)) (c .if2 .taken))
 
 add-entry-at : tie.Need-add-entry-at
-add-entry-at c = sum-fits (c .before .before .before .args .difference) (c .before .before .before .fits .difference) (tested (c .before .before .before .args .difference) (c .before .before .before .fits .difference) (c .before .if1 .left) (c .if2 .left))
+add-entry-at c =
+    let at-start = c .before .before .before in
+    sum-fits (at-start .args .difference) (at-start .fits .difference)
+    (tested (at-start .args .difference) (at-start .fits .difference) (c .before .if1 .left) (c .if2 .left))
 
 cast-entry-at : tie.Need-cast-entry-at
-cast-entry-at c = let k = tested (c .before .before .before .args .difference) (c .before .before .before .fits .difference) (c .before .if1 .left) (c .if2 .left) in rw (sum-count (c .before .before .before .args .difference) (c .before .before .before .fits .difference) k) (tt, record { fits = omega (arith, k .most) })
+cast-entry-at c =
+    let at-start = c .before .before .before in
+    let k = tested (at-start .args .difference) (at-start .fits .difference) (c .before .if1 .left) (c .if2 .left) in
+    rw (sum-count (at-start .args .difference) (at-start .fits .difference) k) (tt, record { fits = omega (arith, k .most) })
 
 entry-at-requires : tie.Need-entry-at-requires
 entry-at-requires c κs = search needs
 
 returns-3 : tie.Need-returns-3
-returns-3 c = let k = tested (c .before .before .before .before .args .difference) (c .before .before .before .before .fits .difference) (c .before .before .if1 .left) (c .before .if2 .left) in found-inside (wordsOf (c .before .before .before .before .args .table .now)) (c .before .before .before .before .args .difference) k (c .entry-at .result) (c .entry-at .ensures ∙ ap (λ (x : ℤ). entryAt (wordsOf (c .before .before .before .before .args .table .now)) (natAbs x)) (sum-count (c .before .before .before .before .args .difference) (c .before .before .before .before .fits .difference) k))
+returns-3 c =
+    let at-if1 = c .before .before in
+    let at-start = at-if1 .before .before in
+    let k = tested (at-start .args .difference) (at-start .fits .difference) (at-if1 .if1 .left) (c .before .if2 .left) in
+    found-inside (wordsOf (at-start .args .table .now)) (at-start .args .difference) k (c .entry-at .result)
+    (c .entry-at .ensures
+     ∙ ap (λ (x : ℤ). entryAt (wordsOf (at-start .args .table .now)) (natAbs x))
+       (sum-count (at-start .args .difference) (at-start .fits .difference) k))
 
 pub entry-of-spec : {M : Type 1} → statement M
 entry-of-spec =

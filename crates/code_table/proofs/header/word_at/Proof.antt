@@ -12,7 +12,9 @@ read-u32-requires : tie.Need-read-u32-requires
 read-u32-requires c κs = search needs
 
 returns : tie.Need-returns
-returns c = c .read-u32 .ensures ∙ sym (getD-words (c .before .before .args .table .now) (c .before .before .args .i) (c .before .before .pre))
+returns c =
+    let at-start = c .before .before in
+    c .read-u32 .ensures ∙ sym (getD-words (at-start .args .table .now) (at-start .args .i) (at-start .pre))
 
 pub word-at-spec : {M : Type 1} → statement M
 word-at-spec = tie.close (tie.spec mul-read-u32 read-u32-requires returns)

@@ -26,7 +26,13 @@ same-length : tie.Need-same-length
 same-length c = search needs
 
 returns-2 : tie.Need-returns-2
-returns-2 c = plain-lent (c .before .before .before .before .before .before .before .before .args .out .now) (c .before .before .store .last .1 .0) (omega arith) (c .before .before .store .ensures ∙ ap (λ (l : List ℕ). wordBytes l ++ drop (4 * length l) (c .before .before .before .before .before .before .before .before .args .out .now)) (c .before .before .before .before .before .plain-words .ensures))
+returns-2 c =
+    let at-store = c .before .before in
+    let at-plain-words = at-store .before .before .before in
+    let at-start = at-plain-words .before .before .before in
+    plain-lent (at-start .args .out .now) (at-store .store .last .1 .0) (omega arith)
+    (at-store .store .ensures
+     ∙ ap (λ (l : List ℕ). wordBytes l ++ drop (4 * length l) (at-start .args .out .now)) (at-plain-words .plain-words .ensures))
 
 pub plain-table-spec : {M : Type 1} → statement M
 plain-table-spec =

@@ -35,13 +35,23 @@ loop-less : tie.Need-loop-less Inv-loop μ-loop
 loop-less c = search needs
 
 loop-again : tie.Need-loop-again Inv-loop μ-loop
-loop-again c = rw (c .before .before .put-u32 .ensures) (storing-more (c .before .before .before .before .before .before .before .before .before .args .words .now) (c .before .before .before .before .before .before .before .before .before .args .out .now) (c .before .before .before .before .before .before .before .before .before .pre) (c .before .before .before .before .before .before .loop .out) (c .before .before .before .before .before .before .loop .i) (c .before .before .before .before .before .before .loop .inv) (c .before .before .before .before .before .loop-test .taken))
+loop-again c =
+    let at-put-u32 = c .before .before in
+    let at-loop-test = at-put-u32 .before .before .before in
+    let at-loop = at-loop-test .before in
+    let at-start = at-loop .before .before .before in
+    rw (at-put-u32 .put-u32 .ensures)
+    (storing-more (at-start .args .words .now) (at-start .args .out .now) (at-start .pre) (at-loop .loop .out) (at-loop .loop .i)
+     (at-loop .loop .inv) (at-loop-test .loop-test .taken))
 
 same-length : tie.Need-same-length Inv-loop μ-loop
 same-length c = c .before .loop .inv .size
 
 returns : tie.Need-returns Inv-loop μ-loop
-returns c = storing-all (c .before .before .before .before .args .words .now) (c .before .before .before .before .args .out .now) (c .before .before .before .before .pre) (c .before .loop .out) (c .before .loop .i) (c .before .loop .inv) (c .loop-test .left)
+returns c =
+    let at-start = c .before .before .before .before in
+    storing-all (at-start .args .words .now) (at-start .args .out .now) (at-start .pre) (c .before .loop .out)
+    (c .before .loop .i) (c .before .loop .inv) (c .loop-test .left)
 
 pub store-spec : {M : Type 1} → statement M
 store-spec =

@@ -18,11 +18,12 @@ use Rattle.row_format.specs.Lists.{any}
 use Rattle.row_format.specs.Table.{lowLimit, tableSize, codewordAt, escapeLength, signed, entryDifference, hasDifference, verdict, maxItemBits}
 use Rattle.row_format.specs.Table.Laws.{accepted, signed-least, signed-most, signed-differenceTo, length-codewordAt, escapeLength-least, codewordAt-least, codewordAt-most, codewordAt-only, entryDifference-most, maxItemBits-least, maxItemBits-most}
 use Rattle.row_format.specs.Row.{Item, escape, State, fresh, previous, differenceTo, byDifference, itemFor, itemsFor, pixelsOf, rowBits}
+use Rattle.row_format.specs.Row.Laws.{itemFor-escape}
 use Rattle.row_format.specs.Reading.{readItem, done, readItems, stray, anyNeedless}
 use Rattle.row_format.specs.Calls.{packed, unpacked, bitsUsed, room}
 use Rattle.row_format.specs.Calls.Laws.{Packable, packable, packed-number, packed-done, packed-front, rowBytes}
 use Bounds.{bitsOfReading, readItem-uses, bitsUsed-most, length-rowBits}
-use RoundTrip.{itemFor-escape, pixelsOf-itemsFor, unpacked-rowBytes, unpacked-packed}
+use RoundTrip.{pixelsOf-itemsFor, unpacked-rowBytes, unpacked-packed}
 use Locality.{unpacked-alike}
 use Room.{packNumber-five, packNumber-room}
 use Tightness.{steep, length-steep, any-steep, longest-escape, length-rowBits-steep}
@@ -32,6 +33,7 @@ use Numbers.{packNumber-in, unpacked-in}
 use Done.{unpacked-accepts}
 pub mod Search
 pub mod Bounds
+pub mod Items
 pub mod RoundTrip
 pub mod Words
 pub mod Locality
@@ -85,7 +87,7 @@ lacking-difference = itemFor-escape
 
 -- every pixel at most 4095 is the pixel that its item stands for
 pub items-pixels : (t ps : List ℕ) → any (ltb 4095) ps ≡ false → pixelsOf fresh (itemsFor t fresh ps) ≡ ps
-items-pixels t ps = pixelsOf-itemsFor t fresh ps zero-le
+items-pixels = pixelsOf-itemsFor
 
 -- "unpacking gives that row back and uses exactly the bits written": from the words that a done packing wrote, whatever
 -- follows them, the answer is 0 and the bits written, and the pixels' bytes are the row's own

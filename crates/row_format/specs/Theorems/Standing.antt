@@ -18,7 +18,7 @@ use Rattle.row_format.specs.Table.Laws.{Accepted, getD-codewords, length
 use Rattle.row_format.specs.Row.{Item, difference, State, fresh, after, itemBits, bits}
 use Rattle.row_format.specs.Reading.{Match, none, found, find, Reading, item, fault, rawHeight, inside, unmatched, matched, taken, readItem, Run, done, stop, prepend, follow, readBy, readItems}
 use Rattle.row_format.specs.Theorems.Search.{Found, find-found}
-use Rattle.row_format.specs.Theorems.RoundTrip.{Fits, FitAll}
+use Rattle.row_format.specs.Theorems.Items.{Fits, FitAll}
 
 -- ---- one item
 -- an item's bits stand at the front of the rest, and are u

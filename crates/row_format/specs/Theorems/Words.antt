@@ -11,7 +11,7 @@ use lib.Dec.{eqb}
 use Rattle.bitstream.specs.Bits.{digits, flat, cut, bitsOf, bytesOf, halvesOf, wordsFor}
 use Rattle.bitstream.specs.Bits.Laws.{Below, below-nil, below-append, below-take, below-digits, below-flat, length-flat, length-cut, flat-take, flat-cut, cut-flat}
 use Rattle.row_format.specs.Lists.{any}
-use Rattle.row_format.specs.BitLaws.{pad-within, bytesOf-bitsOf}
+use Rattle.row_format.specs.BitLaws.{pad-within, cut-flat-all}
 use Rattle.row_format.specs.Table.{lowLimit, codeword, codewordAt}
 use Rattle.row_format.specs.Row.{Item, difference, badPixel, badBias, escape, fresh, itemBits, itemsFor, bits, rowBits}
 use Rattle.row_format.specs.Reading.{stray}
@@ -61,7 +61,7 @@ bytesOf-halvesOf pb bytes =
     ∙ ap (λ (k : ℕ). take k (bitsOf pb)) place
     ∙ sym (flat-take 8 (2 * n) pb) in
     let size : length (take (2 * n) pb) ≡ 2 * n = length-take-le (2 * n) pb (omega arith) in
-    rw (length-cut 16 n (bitsOf pb), halves) (bytesOf-bitsOf (2 * n) (take (2 * n) pb) (below-take (2 * n) pb bytes) size)
+    rw (length-cut 16 n (bitsOf pb), halves) (cut-flat-all 8 (2 * n) (take (2 * n) pb) (below-take (2 * n) pb bytes) size)
 
 -- and the pixels that their bytes hold are the pixels
 pub halvesOf-bytesOf : (n : ℕ) (ps : List ℕ) → length ps ≡ n → Below 65536 ps → halvesOf (bytesOf (2 * n) (flat 16 ps)) ≡ ps

@@ -2,7 +2,7 @@
 -- prove them. tb, pb and wb are the bytes of a table, of pixels and of words, t is a table's words, and m is the memory lent
 -- for writing, as it was. A table is accepted where its verdict is 0. M is maxItemBits t, and an item's bits are those of
 -- itemBits t. Assumes nothing.
-use Prim.Native.Nat.{ℕ, _+_, _*_, _/_, _^_, _≤_, _<_, zero-le}
+use Prim.Native.Nat.{ℕ, _+_, _*_, _/_, _^_, _≤_, _<_}
 use mathlib.Core.Path.{_≡_, refl, sym, _∙_}
 use mathlib.Core.Bool.{true, false}
 use mathlib.Core.List.{List, [], _∷_, _++_}
@@ -48,7 +48,8 @@ pub mod Done
 -- ---- an accepted table
 module _ (t : List ℕ) (ok : verdict t ≡ 0) where
   -- "A table is 6 + tableSize words"; "tableSize is 1 to 8187, and lowLimit + tableSize is at most 8187"
-  pub table-sizes : (length t ≡ 6 + tableSize t) × (1 ≤ tableSize t) × (tableSize t ≤ 8187) × (lowLimit t + tableSize t ≤ 8187)
+  pub table-sizes :
+      (length t ≡ 6 + tableSize t) × (1 ≤ tableSize t) × (tableSize t ≤ 8187) × (lowLimit t + tableSize t ≤ 8187)
   table-sizes = let a = accepted t ok in (a .words, a .size-least, a .size-most, a .sum-most)
 
   -- "Lengths are 1 to 27, the raw string's 1 to 15"
@@ -63,7 +64,8 @@ module _ (t : List ℕ) (ok : verdict t ≡ 0) where
   codeword-above j h = rw (length-codewordAt t j) (accepted t ok .word j h .above)
 
   -- "So steps lie within -4093 to 4093"
-  pub entry-differences : (i : ℕ) → i < tableSize t → (negsuc 4092 ≤ℤ signed (entryDifference t i)) × (signed (entryDifference t i) ≤ℤ pos 4093)
+  pub entry-differences : (i : ℕ) → i < tableSize t
+      → (negsuc 4092 ≤ℤ signed (entryDifference t i)) × (signed (entryDifference t i) ≤ℤ pos 4093)
   entry-differences i h =
       let k = entryDifference t i in
       (signed-least k, signed-most k (entryDifference-most t (accepted t ok) i h))
@@ -93,7 +95,8 @@ items-pixels = pixelsOf-itemsFor
 -- follows them, the answer is 0 and the bits written, and the pixels' bytes are the row's own
 module _ (tb pb m : List ℕ) (bytes : Below 256 pb) (packs : packed tb pb m .answer .number ≡ 0) where
   pub round-trip : (rest m′ : List ℕ) → length (halvesOf pb) ≤ length m′ / 2
-      → unpacked tb (take (4 * wordsFor (packed tb pb m .answer .count)) (packed tb pb m .memory) ++ rest) (length (halvesOf pb)) m′
+      → let front = take (4 * wordsFor (packed tb pb m .answer .count)) (packed tb pb m .memory) in
+      unpacked tb (front ++ rest) (length (halvesOf pb)) m′
       ≡ wrote (packed tb pb m .answer .count) (take (2 * length (halvesOf pb)) pb) m′
   round-trip rest m′ room =
       let e = sym (packed-number tb pb m) ∙ packs in
@@ -113,10 +116,12 @@ pub used-words-own : (t : List ℕ) → verdict t ≡ 0 → (wb : List ℕ) → 
 used-words-own t ok = own-words t (accepted t ok)
 
 -- the same of a done unpacking, and of a packing, with room enough, of the pixels that it left
-pub unpacked-words-own : (tb wb : List ℕ) (n : ℕ) (m : List ℕ) → Below 256 wb → (h : unpacked tb wb n m .answer .number ≡ 0) (mw : List ℕ)
+pub unpacked-words-own : (tb wb : List ℕ) (n : ℕ) (m : List ℕ) → Below 256 wb
+    → (h : unpacked tb wb n m .answer .number ≡ 0) (mw : List ℕ)
     → let pb = take (2 * n) (unpacked tb wb n m .memory) in
     packed tb pb mw .answer .number ≡ 0
-    → (take (4 * wordsFor (unpacked tb wb n m .answer .count)) wb ≡ take (4 * wordsFor (packed tb pb mw .answer .count)) (packed tb pb mw .memory))
+    → (take (4 * wordsFor (unpacked tb wb n m .answer .count)) wb
+    ≡ take (4 * wordsFor (packed tb pb mw .answer .count)) (packed tb pb mw .memory))
     ↔ (anyNeedless (wordsOf tb) fresh (unpacked-accepts tb wb n m h .items) ≡ false)
 unpacked-words-own tb wb n m bytes h mw e =
     let pb = take (2 * n) (unpacked tb wb n m .memory) in
@@ -133,11 +138,13 @@ pub room-refused : (tb pb m : List ℕ) → Packable tb (halvesOf pb)
 room-refused tb pb m ok = rw (packed-number tb pb m) (packNumber-five tb (halvesOf pb) (length m / 4) ok)
 
 -- "when done, it reports exactly the bits it takes"
-pub packed-bits : (tb pb m : List ℕ) → packed tb pb m .answer .number ≡ 0 → packed tb pb m .answer .count ≡ length (rowBits (wordsOf tb) (halvesOf pb))
+pub packed-bits : (tb pb m : List ℕ) → packed tb pb m .answer .number ≡ 0
+    → packed tb pb m .answer .count ≡ length (rowBits (wordsOf tb) (halvesOf pb))
 packed-bits tb pb m h = rw (packed-done tb pb m (sym (packed-number tb pb m) ∙ h))
 
 -- the room question's answer is enough for every row of so many pixels
-pub room-enough : (tb pb m : List ℕ) → Packable tb (halvesOf pb) → room tb (length (halvesOf pb)) .count ≤ length m / 4 → packed tb pb m .answer .number ≡ 0
+pub room-enough : (tb pb m : List ℕ) → Packable tb (halvesOf pb) → room tb (length (halvesOf pb)) .count ≤ length m / 4
+    → packed tb pb m .answer .number ≡ 0
 room-enough tb pb m ok h = packed-number tb pb m ∙ packNumber-room tb (halvesOf pb) (length m / 4) ok h
 
 -- "Whatever stands in the words, unpacking n pixels never uses more than n times M bits, done or refused"; under any table
@@ -152,7 +159,8 @@ item-bits = readItem-uses
 -- pixels are unpacked from them"; under any table
 pub words-alike : (tb wb wb′ : List ℕ) (n : ℕ) (m : List ℕ)
     → let k = wordsFor (n * maxItemBits (wordsOf tb)) in
-    4 * k ≤ length wb → 4 * k ≤ length wb′ → take (4 * k) wb ≡ take (4 * k) wb′ → unpacked tb wb n m ≡ unpacked tb wb′ n m
+    4 * k ≤ length wb → 4 * k ≤ length wb′ → take (4 * k) wb ≡ take (4 * k) wb′
+    → unpacked tb wb n m ≡ unpacked tb wb′ n m
 words-alike = unpacked-alike
 
 -- "If the table has neither -4093 nor +4093 as a step, and no string is longer than the raw string's length plus 12, then for
@@ -174,20 +182,23 @@ most-difference = refl
 -- "each call .. answers with a number from document 01", and its order lists which
 pub packed-numbers : (tb pb m : List ℕ) → any (eqb (packed tb pb m .answer .number)) (0 ∷ 1 ∷ 2 ∷ 3 ∷ 11 ∷ 4 ∷ 5 ∷ []) ≡ true
 unfolding any
-packed-numbers tb pb m = rw (packed-number tb pb m)
-    (packNumber-in (λ e. any (eqb e) (0 ∷ 1 ∷ 2 ∷ 3 ∷ 11 ∷ 4 ∷ 5 ∷ []) ≡ true) tb (halvesOf pb) (length m / 4) refl refl refl refl refl refl refl)
+packed-numbers tb pb m =
+    let known : ℕ → Type 0 = λ e. any (eqb e) (0 ∷ 1 ∷ 2 ∷ 3 ∷ 11 ∷ 4 ∷ 5 ∷ []) ≡ true in
+    rw (packed-number tb pb m) (packNumber-in known tb (halvesOf pb) (length m / 4) refl refl refl refl refl refl refl)
 
 pub unpacked-numbers : (tb wb : List ℕ) (n : ℕ) (m : List ℕ)
     → any (eqb (unpacked tb wb n m .answer .number)) (0 ∷ 1 ∷ 2 ∷ 3 ∷ 11 ∷ 5 ∷ 6 ∷ 7 ∷ 8 ∷ 9 ∷ 10 ∷ []) ≡ true
 unfolding any
 unpacked-numbers tb wb n m =
-    unpacked-in (λ e. any (eqb e) (0 ∷ 1 ∷ 2 ∷ 3 ∷ 11 ∷ 5 ∷ 6 ∷ 7 ∷ 8 ∷ 9 ∷ 10 ∷ []) ≡ true) refl refl refl refl tb wb n m refl refl refl refl refl refl refl
+    let known : ℕ → Type 0 = λ e. any (eqb e) (0 ∷ 1 ∷ 2 ∷ 3 ∷ 11 ∷ 5 ∷ 6 ∷ 7 ∷ 8 ∷ 9 ∷ 10 ∷ []) ≡ true in
+    unpacked-in known refl refl refl refl tb wb n m refl refl refl refl refl refl refl
 
 -- "A refused call gives its number, zero for every count and value, and leaves the lent memory as found"
 pub packed-refused-keeps : (tb pb m : List ℕ) → (packed tb pb m .answer .number ≡ 0 → ⊥) → Kept m (packed tb pb m)
 packed-refused-keeps = packed-kept
 
-pub unpacked-refused-keeps : (tb wb : List ℕ) (n : ℕ) (m : List ℕ) → (unpacked tb wb n m .answer .number ≡ 0 → ⊥) → Kept m (unpacked tb wb n m)
+pub unpacked-refused-keeps : (tb wb : List ℕ) (n : ℕ) (m : List ℕ) → (unpacked tb wb n m .answer .number ≡ 0 → ⊥)
+    → Kept m (unpacked tb wb n m)
 unpacked-refused-keeps = unpacked-kept
 
 -- "A done call writes only the pixels, words or bytes that it counts"

@@ -97,6 +97,7 @@ signed-differenceTo p (suc q) h = by-test (ltb p (suc q)) down up
         let less = ltb-true p (suc q) e in
         let value : 4093 - suc (p + 4093 - suc q) ≡ suc q - suc p = omega arith in
         rw (e, lt-ltb (p + 4093 - suc q) 4093 (omega arith)) (ap negsuc value)
+
     up : ltb p (suc q) ≡ false → signed (p + 4093 - suc q) ≡ pos p -ℤ pos (suc q)
     up e =
         let more = ltb-false p (suc q) e in
@@ -162,7 +163,8 @@ accepted t e =
       escape-most = ltb-false 15 (escapeLength t) (or-false-left (ltb 15 (escapeLength t)) (any wrongWord (drop 3 t)) right);
       word = λ j h.
           let inside : j < length (drop 3 t) = omega (arith, length-drop 3 t, size .words) in
-          right-word (getD t (3 + j) 0) (rw (getD-drop 3 t j 0) at (any-false-at wrongWord (drop 3 t) j 0 right-words inside));
+          let right-at = any-false-at wrongWord (drop 3 t) j 0 right-words inside in
+          right-word (getD t (3 + j) 0) (rw (getD-drop 3 t j 0) at right-at);
       apart = cond-zero-test (clash (codewords t)) 2 0 (cond-zero-rest (wrongCodeword t) 1 free after-size);
     }
 
@@ -175,13 +177,13 @@ wrongWord-right w h =
 pub verdict-accepted : (t : List ℕ) → Accepted t → verdict t ≡ 0
 unfolding verdict wrongSize wrongCodeword
 verdict-accepted t ok = rw (
-      le-leb 1 (tableSize t) (ok .size-least),
-      le-leb (lowLimit t + tableSize t) 8187 (ok .sum-most),
-      eq-eqb (length t) (6 + tableSize t) (ok .words),
-      le-ltb 15 (escapeLength t) (ok .escape-most),
-      any-false wrongWord (drop 3 t) 0 right,
-      ok .apart,
-    )
+  le-leb 1 (tableSize t) (ok .size-least),
+  le-leb (lowLimit t + tableSize t) 8187 (ok .sum-most),
+  eq-eqb (length t) (6 + tableSize t) (ok .words),
+  le-ltb 15 (escapeLength t) (ok .escape-most),
+  any-false wrongWord (drop 3 t) 0 right,
+  ok .apart,
+)
   where
     right : (j : ℕ) → j < length (drop 3 t) → wrongWord (getD (drop 3 t) j 0) ≡ false
     right j h =
@@ -218,8 +220,8 @@ module _ (t : List ℕ) (ok : Accepted t) where
       → begins (codewordAt t i) r ≡ true → begins (codewordAt t j) r ≡ true → ⊥
   codewordAt-below i j r below h p q =
       let inside : j < length (codewords t) = omega (arith, length-codewords-size) in
-      let apart = rw (getD-codewords t i, getD-codewords t j) at (clash-false-at (codewords t) i j (ok .apart) below inside) in
-      true-false (begins-both (codewordAt t i) (codewordAt t j) r p q) apart
+      let apart = clash-false-at (codewords t) i j (ok .apart) below inside in
+      true-false (begins-both (codewordAt t i) (codewordAt t j) r p q) (rw (getD-codewords t i, getD-codewords t j) at apart)
 
   pub codewordAt-only : (i j : ℕ) (r : List ℕ) → i < 3 + tableSize t → j < 3 + tableSize t
       → begins (codewordAt t i) r ≡ true → begins (codewordAt t j) r ≡ true → i ≡ j

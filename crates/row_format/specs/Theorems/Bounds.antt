@@ -9,17 +9,17 @@ use mathlib.Core.List.{List, [], _∷_}
 use lib.ListN.{length, take, drop, length-append}
 use lib.Dec.{ltb}
 use borrow.Author.Tests.{ltb-true, ltb-false}
-use Rattle.bitstream.specs.Bits.{digits, numOf, begins, wordsOf, stream}
+use Rattle.bitstream.specs.Bits.{digits, begins, wordsOf, stream}
 use Rattle.bitstream.specs.Bits.Laws.{length-digits}
 use Rattle.row_format.specs.Lists.{any, least}
 use Rattle.row_format.specs.Lists.Laws.{by-test, true-false, least-within, least-most}
 use Rattle.row_format.specs.BitLaws.{begins-length}
 use Rattle.row_format.specs.Table.{lowLimit, codewords, codewordAt, longest, maxItemBits, escapeLength}
 use Rattle.row_format.specs.Table.Laws.{length-codewordAt, length-codewordAt-most, escapeLength-most, longest-maxItemBits}
-use Rattle.row_format.specs.Row.{Item, difference, badPixel, badBias, escape, State, fresh, after, itemFor, itemBits, itemsFor, bits, rowBits}
+use Rattle.row_format.specs.Row.{Item, difference, badPixel, badBias, escape, State, fresh, after, itemBits, itemsFor, bits, rowBits}
 use Rattle.row_format.specs.Row.Laws.{length-itemsFor}
 use Rattle.row_format.specs.Reading.Laws.{unmatched-cases, rawHeight-cases, matched-cases}
-use Rattle.row_format.specs.Reading.{Match, none, found, find, Reading, item, fault, unmatched, rawHeight, inside, matched, taken, readItem, Run, done, stop, prepend, follow, readBy, readItems}
+use Rattle.row_format.specs.Reading.{Match, none, found, find, Reading, item, fault, unmatched, rawHeight, matched, taken, readItem, Run, done, stop, prepend, follow, readBy, readItems}
 use Rattle.row_format.specs.Calls.{unpackNumber, usedByRun, usedUnless, bitsUsed}
 use Rattle.row_format.specs.Theorems.Search.{Found, find-found, any-begins-none-take}
 

@@ -1,29 +1,24 @@
 -- Items that may stand in a row: packing gives such, and each is read back from its bits. Assumes nothing.
-use Prim.Native.Nat.{ℕ, suc, _+_, _-_, _*_, _/_, _≤_, _<_}
+use Prim.Native.Nat.{ℕ, suc, _+_, _-_, _≤_, _<_}
 use native.Mathlib.Nat.{sub-add-cancel, mod-eq-of-lt}
 use native.Mathlib.Omega.{arith}
 use mathlib.Core.Path.{_≡_, refl, sym, ap, _∙_}
-use mathlib.Core.Bool.{true, false}
+use mathlib.Core.Bool.{true}
 use mathlib.Core.List.{List, [], _∷_, _++_, append-assoc}
-use lib.ListN.{length, take, drop, replicate, length-append}
-use lib.Seq.{drop-append-seam, drop-at, take-at}
-use lib.Dec.{leb, ltb, eqb}
-use borrow.Author.Tests.{leb-true, le-leb, ltb-true, ltb-false, lt-ltb, le-ltb, eqb-true, eqb-false, ne-eqb}
-use Rattle.bitstream.specs.Bits.{digits, numOf, flat, bytesOf, wordsOf, halvesOf, stream, wordsFor}
-use Rattle.bitstream.specs.Bits.Laws.{Below, length-digits, numOf-digits}
-use Rattle.answer.specs.Outcome.{wrote}
-use Rattle.row_format.specs.Lists.{any}
-use Rattle.row_format.specs.Lists.Laws.{by-test, and-true-left, and-true-right, or-false-left, or-false-right}
-use Rattle.row_format.specs.BitLaws.{begins-append, stream-bytesOf}
+use lib.ListN.{length, take, drop, length-append}
+use lib.Seq.{drop-at, take-at}
+use lib.Dec.{leb, ltb}
+use borrow.Author.Tests.{leb-true, le-leb, ltb-true, lt-ltb, le-ltb}
+use Rattle.bitstream.specs.Bits.{digits, numOf}
+use Rattle.bitstream.specs.Bits.Laws.{length-digits, numOf-digits}
+use Rattle.row_format.specs.Lists.Laws.{and-true-left, and-true-right}
+use Rattle.row_format.specs.BitLaws.{begins-append}
 use Rattle.row_format.specs.Table.{lowLimit, tableSize, hasDifference, codewordAt}
-use Rattle.row_format.specs.Table.Laws.{Accepted, accepted, tableNumber-verdict}
-use Rattle.row_format.specs.Row.{Item, difference, badPixel, badBias, escape, State, fresh, past, previous, differenceTo, byDifference, itemFor, pixelOf, after, itemBits, itemsFor, pixelsOf, bits, rowBits}
-use Rattle.row_format.specs.Reading.{item, rawHeight, inside, matched, readItem, done, readBy, readItems}
-use Rattle.row_format.specs.Calls.{afterRun, packNumber, packed, unpacked}
-use Rattle.row_format.specs.Calls.Laws.{Packable, packable, rowBytes, packed-done, unpackNumber-unpackable}
+use Rattle.row_format.specs.Table.Laws.{Accepted}
+use Rattle.row_format.specs.Row.{Item, difference, badPixel, badBias, escape, State, fresh, past, previous, differenceTo, byDifference, itemFor, pixelOf, after, itemBits}
+use Rattle.row_format.specs.Reading.{item, rawHeight, inside, matched, readItem}
 use Rattle.row_format.specs.Theorems.Search.{find-only}
 use Rattle.row_format.specs.Row.Laws.{itemFor-cases}
-use Rattle.row_format.specs.Theorems.Words.{below-rowBits, stray-zeros, bytesOf-halvesOf}
 
 -- ---- items that fit
 -- the entry that stands for a difference
@@ -77,7 +72,8 @@ pub rawHeight-own : (n h : ℕ) (c r : List ℕ) → length c ≡ n → h < 4094
 unfolding rawHeight
 rawHeight-own n h c r l e =
     let all = c ++ (digits 12 h ++ r) in
-    let size : length (c ++ (digits 12 h ++ r)) ≡ n + (12 + length r) = simp (length-append, length-digits) (ap (_+ (12 + length r)) l) in
+    let size : length (c ++ (digits 12 h ++ r)) ≡ n + (12 + length r) =
+    simp (length-append, length-digits) (ap (_+ (12 + length r)) l) in
     let field : take 12 (drop n all) ≡ digits 12 h =
     rw (drop-at c (digits 12 h ++ r) n l) (take-at (digits 12 h) r 12 (length-digits 12 h)) in
     let height : numOf (digits 12 h) ≡ h = numOf-digits 12 h ∙ mod-eq-of-lt (omega arith) in

@@ -1,23 +1,23 @@
 -- Document 01: "The used words of an accepted reading are the very words packing would write exactly when no raw item was
 -- needless". Assumes nothing.
-use Prim.Native.Nat.{ℕ, suc, _+_, _-_, _*_, _/_, _≤_}
+use Prim.Native.Nat.{ℕ, _+_, _-_, _*_, _/_, _≤_}
 use native.Mathlib.Omega.{arith}
 use mathlib.Core.Path.{_≡_, refl, sym, ap, _∙_}
-use mathlib.Core.Bool.{true, false}
+use mathlib.Core.Bool.{false}
 use mathlib.Core.List.{List, [], _∷_, _++_}
 use mathlib.Core.Logic.{_↔_}
 use lib.ListN.{length, take, drop, replicate, length-drop, length-append}
 use lib.Seq.{length-take-le, take-append-add, take-at}
-use lib.Dec.{leb, ltb, eqb}
-use borrow.Author.Tests.{leb-true, le-ltb, ltb-false, eqb-false, ne-eqb}
+use lib.Dec.{ltb, eqb}
+use borrow.Author.Tests.{le-ltb, ltb-false, eqb-false, ne-eqb}
 use Rattle.bitstream.specs.Bits.{flat, bitsOf, bytesOf, wordsOf, halvesOf, stream, wordsFor}
-use Rattle.bitstream.specs.Bits.Laws.{Below, below-nil, below-cons, below-head, below-tail, below-take, below-drop, below-flat, below-cut, length-cut, flat-cut, pad-all}
+use Rattle.bitstream.specs.Bits.Laws.{Below, below-nil, below-cons, below-head, below-tail, below-take, below-drop, below-flat, below-cut, length-cut}
 use Rattle.row_format.specs.Lists.{any}
-use Rattle.row_format.specs.Lists.Laws.{any-false-head, any-false-tail, by-test, and-true-left, and-true-right, or-false-left, or-false-right}
+use Rattle.row_format.specs.Lists.Laws.{any-false-head, any-false-tail, or-false-left, or-false-right}
 use Rattle.row_format.specs.BitLaws.{bitsOf-inj, bitsOf-bytesOf, stream-take, length-stream}
 use Rattle.row_format.specs.Table.Laws.{Accepted, accepted, tableNumber-verdict}
 use Rattle.row_format.specs.Row.{Item, difference, badPixel, badBias, escape, State, fresh, previous, differenceTo, byDifference, itemFor, pixelOf, after, itemsFor, pixelsOf, bits, rowBits}
-use Rattle.row_format.specs.Reading.{inside, done, readItems, stray, needless, anyNeedless}
+use Rattle.row_format.specs.Reading.{done, readItems, stray, needless, anyNeedless}
 use Rattle.row_format.specs.Calls.{packNumber, packed, unpacked}
 use Rattle.row_format.specs.Calls.Laws.{rowBytes, packed-front}
 use Rattle.row_format.specs.Theorems.Done.{Accepts}
@@ -131,7 +131,8 @@ module _ (t : List ℕ) (ok : Accepted t) (wb : List ℕ) (bytes : Below 256 wb)
       let whole = length-take-le k wb (length-used b wb u size (stands .front .there)) in
       let same = used-bits ∙ sym (bitsOf-bytesOf b u size (below-bits t is)) in
       rw (items, ← size)
-      (bitsOf-inj k (take k wb) (bytesOf k b) (below-take k wb bytes) (below-cut 8 k b (below-bits t is)) whole (length-cut 8 k b) same)
+      (bitsOf-inj k (take k wb) (bytesOf k b) (below-take k wb bytes) (below-cut 8 k b (below-bits t is))
+      whole (length-cut 8 k b) same)
 
   -- own words: they are read both as the items and as those that packing gives
   none-needless : take (4 * wordsFor u) wb ≡ rowBytes t (pixelsOf fresh is) → anyNeedless t fresh is ≡ false
@@ -172,7 +173,7 @@ module _ (tb wb : List ℕ) (n : ℕ) (m : List ℕ) (bytes : Below 256 wb) (got
       → let pb = take (2 * n) (unpacked tb wb n m .memory) in
       packNumber tb (halvesOf pb) (length mw / 4) ≡ 0
       → (take (4 * wordsFor (unpacked tb wb n m .answer .count)) wb
-        ≡ take (4 * wordsFor (packed tb pb mw .answer .count)) (packed tb pb mw .memory))
+      ≡ take (4 * wordsFor (packed tb pb mw .answer .count)) (packed tb pb mw .memory))
       ↔ (anyNeedless (wordsOf tb) fresh (got .items) ≡ false)
   own-words-packed mw e =
       rw (packed-front tb (take (2 * n) (unpacked tb wb n m .memory)) mw e, pixels-left, got .left)

@@ -1,27 +1,24 @@
 -- Demand 2: the row that packing wrote is read back. Assumes nothing.
-use Prim.Native.Nat.{ℕ, suc, _+_, _-_, _*_, _/_, _≤_, _<_}
-use native.Mathlib.Nat.{sub-add-cancel, mod-eq-of-lt}
+use Prim.Native.Nat.{ℕ, _-_, _*_, _/_, _≤_}
 use native.Mathlib.Omega.{arith}
-use mathlib.Core.Path.{_≡_, refl, sym, _∙_}
-use mathlib.Core.Bool.{true, false}
+use mathlib.Core.Path.{_≡_, refl}
+use mathlib.Core.Bool.{false}
 use mathlib.Core.List.{List, [], _∷_, _++_, append-assoc}
 use lib.ListN.{length, take, drop, replicate, length-append}
-use lib.Seq.{drop-append-seam, drop-at, take-at}
-use lib.Dec.{leb, ltb, eqb}
-use borrow.Author.Tests.{leb-true, le-leb, ltb-true, ltb-false, lt-ltb, le-ltb, eqb-true, eqb-false, ne-eqb}
-use Rattle.bitstream.specs.Bits.{digits, numOf, flat, bytesOf, wordsOf, halvesOf, stream, wordsFor}
-use Rattle.bitstream.specs.Bits.Laws.{Below, length-digits, numOf-digits}
+use lib.Seq.{drop-append-seam}
+use lib.Dec.{ltb}
+use borrow.Author.Tests.{ltb-false}
+use Rattle.bitstream.specs.Bits.{flat, bytesOf, wordsOf, halvesOf, stream, wordsFor}
+use Rattle.bitstream.specs.Bits.Laws.{Below}
 use Rattle.answer.specs.Outcome.{wrote}
 use Rattle.row_format.specs.Lists.{any}
-use Rattle.row_format.specs.Lists.Laws.{any-false-head, any-false-tail, by-test, and-true-left, and-true-right, or-false-left, or-false-right}
-use Rattle.row_format.specs.BitLaws.{begins-append, stream-bytesOf}
-use Rattle.row_format.specs.Table.{lowLimit, tableSize, hasDifference, codewordAt}
+use Rattle.row_format.specs.Lists.Laws.{any-false-head, any-false-tail}
+use Rattle.row_format.specs.BitLaws.{stream-bytesOf}
 use Rattle.row_format.specs.Table.Laws.{Accepted, accepted, tableNumber-verdict}
-use Rattle.row_format.specs.Row.{Item, difference, badPixel, badBias, escape, State, fresh, past, previous, differenceTo, byDifference, itemFor, pixelOf, after, itemBits, itemsFor, pixelsOf, bits, rowBits}
-use Rattle.row_format.specs.Reading.{item, rawHeight, inside, matched, readItem, done, readBy, readItems}
+use Rattle.row_format.specs.Row.{Item, State, fresh, previous, itemFor, after, itemBits, itemsFor, pixelsOf, bits, rowBits}
+use Rattle.row_format.specs.Reading.{readItem, done, readBy, readItems}
 use Rattle.row_format.specs.Calls.{afterRun, packNumber, packed, unpacked}
 use Rattle.row_format.specs.Calls.Laws.{Packable, Unpackable, packable, rowBytes, packed-done, unpackNumber-unpackable}
-use Rattle.row_format.specs.Theorems.Search.{find-only}
 use Rattle.row_format.specs.Row.Laws.{length-itemsFor}
 use Rattle.row_format.specs.Theorems.Items.{FitAll, after-height, readItem-own, itemFor-right}
 use Rattle.row_format.specs.Theorems.Words.{below-rowBits, stray-zeros, bytesOf-halvesOf}

@@ -61,7 +61,8 @@ any-begins-none-take ss r k h within e =
     any-begins-none ss (take k r) (omega (arith, length-take-le k r within)) (any-begins-take ss r k h ∙ e)
 
 -- ---- in an accepted table the string that begins the rest is the only one, in whatever order it is looked for
-module _ (t : List ℕ) (ok : Accepted t) (j : ℕ) (r : List ℕ) (h : j < 3 + tableSize t) (p : begins (codewordAt t j) r ≡ true) where
+module _ (t : List ℕ) (ok : Accepted t) (j : ℕ) (r : List ℕ)
+    (h : j < 3 + tableSize t) (p : begins (codewordAt t j) r ≡ true) where
   only-found : (m : Match) → Found (codewords t) r m → m ≡ found j
   only-found none e =
       let inside : j < length (codewords t) = omega (arith, length-codewords-size t ok) in

@@ -2,3 +2,4 @@
 pub mod check;
 pub mod entry;
 pub mod header;
+pub mod plain;

@@ -39,7 +39,7 @@ pub record Parted (d : ℕ) (l : List ℕ) (n r : ℕ) : Type 0 where
   pub zeros : (k : ℕ) → k < r → bitAt d (getD l k 0) ≡ 0
   pub ones : (k : ℕ) → r ≤ k → k < n → bitAt d (getD l k 0) ≡ 1
 
--- t is s in another order, as far as concerns the test below bit d
+-- what the parting of s keeps while it moves words about, t being where it has come to
 pub record Reordered (d : ℕ) (s t : List ℕ) : Type 0 where
   pub long : length t ≡ length s
   pub agree : Agree d t

@@ -28,14 +28,15 @@ pub fn bit(w: u32, d: u32) -> usize
     (((w >> 5) >> d) % 2) as usize
 }
 
-// Brings the words with a 0 at bit d before those with a 1, and returns how many they are. The exchange is made at every
-// turn: a branch on the bit would be guessed wrong half the time.
+// Brings the words with a 0 at bit d before those with a 1, and returns how many have a 0. Every turn exchanges two words:
+// a branch on the bit would be guessed wrong half the time.
 pub fn split(s: &mut [u32], d: u32) -> usize
     requires { ⌜ d < 32 ⌝ }
     requires { ⌜ Agree d (now s) ⌝ }
     requires { ⌜ Longer d (now s) ⌝ }
     ensures { λ r. ⌜ Split d (now (s .entry)) (now (s .exit)) r ⌝ }
 {
+    // s[..zeros] have a 0 at bit d, s[zeros..i] a 1, and s[i..] are still to come
     let mut zeros: usize = 0;
     let mut i = 0;
     while i < s.len() {

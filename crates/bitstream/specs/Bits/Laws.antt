@@ -7,8 +7,8 @@ use native.Mathlib.Omega.{arith}
 use mathlib.Core.Path.{_≡_, refl, sym, ap, _∙_, subst}
 use mathlib.Core.Logic.{by-cases}
 use mathlib.Core.List.{List, [], _∷_, _++_, append-assoc}
-use lib.ListN.{length, take, drop, getD, replicate, length-append, List·getD-append}
-use lib.Seq.{take-nil, drop-nil, take-append-add, drop-append-add, take-at, drop-at, getD-append-add}
+use lib.ListN.{length, take, drop, getD, replicate, length-append, length-drop, List·getD-append}
+use lib.Seq.{take-nil, drop-nil, take-append-add, drop-append-add, take-at, drop-at, take-append-le, drop-append-le, getD-append-add}
 use lib.Arith.{digits-lt, digits-div, mod-mul}
 use lib.Bits.{block-half, block-odd}
 use lib.Pow.{pow-add, shr-shr, pow-pos, high, low}
@@ -188,6 +188,17 @@ cut-flat w [] r h = refl
 cut-flat w (x ∷ xs) r h =
     let e : digits w x ++ flat w xs ++ r ≡ digits w x ++ (flat w xs ++ r) = append-assoc (digits w x) (flat w xs) r in
     rw (e, take-at (digits w x) (flat w xs ++ r) w (length-digits w x), drop-at (digits w x) (flat w xs ++ r) w (length-digits w x), numOf-digits w x, mod-eq-of-lt (below-head h), cut-flat w xs r (below-tail h))
+
+-- a stream in two parts, the first of m whole numbers
+pub cut-append : (w m n : ℕ) (a b : List ℕ) → length a ≡ w * m → cut w (m + n) (a ++ b) ≡ cut w m a ++ cut w n b
+unfolding cut
+cut-append w zero n [] b e = rw (zero-add n)
+cut-append w zero n (x ∷ a) b e = absurd (not-suc-le-zero (native.Mathlib.Nat.le-of-eq (e ∙ mul-zero w)))
+cut-append w (suc m) n a b e =
+    let whole : length a ≡ w * m + w = e ∙ mul-suc w m in
+    let enough : w ≤ length a = omega arith in
+    let rest : length (drop w a) ≡ w * m = length-drop w a ∙ (omega arith) in
+    rw (suc-add m n, take-append-le w a b enough, drop-append-le w a b enough) (ap (numOf (take w a) ∷_) (cut-append w m n (drop w a) b rest))
 
 -- ---- pad: the first k bits of a stream, 0 past its end
 abbrev pub pad : ℕ → List ℕ → List ℕ

@@ -2,15 +2,17 @@
 -- is made where one has ended. Assumes nothing.
 use Prim.Native.Nat.{ℕ, _+_, _-_, _<_}
 use native.Mathlib.Omega.{arith}
-use mathlib.Core.Path.{_≡_, sym, _∙_}
+use mathlib.Core.Path.{_≡_, sym, ap, _∙_}
+use mathlib.Core.Bool.{not}
 use mathlib.Core.List.{_++_}
 use denote.Ref.{now}
 use borrow.Author.Needs.{needs}
+use borrow.Author.Tests.{not-true, not-false}
 use borrow.Fn.Kinds.{In, Out}
 use borrow.Fn.PlainCycle.{Measures, is, falls, and}
 use lib.ListN.{length, take, drop}
 use lib.Seq.{length-take-le}
-use Rattle.prefix_free.specs.Branch.Laws.{few-free, ended-free, split-free, split-clash, shortest-longer, shortest-deeper, rest-kept}
+use Rattle.prefix_free.specs.Branch.Laws.{clashes-few, clashes-ended, clashes-low-free, clashes-low-clash, shortest-longer, shortest-deeper, rest-kept}
 use Rattle.prefix_free.proofs.free.Reads as free
 use Rattle.prefix_free.proofs.free.Kinds as free-kinds
 use Rattle.prefix_free.proofs.+free.Lts-free as free-lts
@@ -36,25 +38,9 @@ abbrev callees : ℕ → In 1 shortest-kinds.ps × Out 1 shortest-kinds.ps short
 callees t = (shortest.Asked, shortest.Learnt, split.Asked, split.Learnt, free-below t, free.Post)
 
 module _ (t : ℕ) where
-  -- after the parting there is a bit more to go by
-  deeper : (c : free-lts.After-split (callees t) (free-at t) free.Post) → c .before .before .before .before .before .before .before .args .d + 1 < 32
-  deeper c =
-      let start = c .before .before .before .before .before .before .before in
-      shortest-deeper (start .args .d) (c .before .before .before .shortest .ensures) (omega arith) (c .before .before .if2 .left)
-
-  -- the higher part is as `split` left it when the call on the lower part is done
-  higher : (c : free-lts.After-free (callees t) (free-at t) free.Post) →
-      let at-split = c .before .before .before .before .split in
-      let m = at-split .result in
-      let whole = c .free .last .0 ++ drop m (at-split .last .0) in
-      take (length whole - m) (drop m whole) ≡ drop m (at-split .last .0)
-  higher c =
-      let at-split = c .before .before .before .before .split in
-      rest-kept (at-split .result) (c .free .last .0) (at-split .last .0) (at-split .ensures .most) (c .free .kept .0)
-
   -- fewer than two words
   returns : free-lts.Need-returns (callees t) (free-at t) free.Post
-  returns c = few-free (now (c .before .before .args .s)) (c .if1 .taken)
+  returns c = sym (ap not (clashes-few (now (c .before .before .args .s)) (c .if1 .taken)))
 
   shortest-requires : free-lts.Need-shortest-requires (callees t) (free-at t) free.Post
   shortest-requires c κs = search needs
@@ -64,12 +50,12 @@ module _ (t : ℕ) where
 
   -- a codeword has ended
   returns-2 : free-lts.Need-returns-2 (callees t) (free-at t) free.Post
-  returns-2 c = 
+  returns-2 c =
       let start = c .before .before .before .before .before in
-      ended-free (start .args .d) (start .pre .1 .1) (c .before .before .before .if1 .left) (c .before .shortest .ensures) (c .if2 .taken) (start .pre .1 .0)
+      sym (ap not (clashes-ended (start .args .d) (start .pre .1 .1) (c .before .before .before .if1 .left) (c .before .shortest .ensures) (omega arith) (start .pre .1 .0)))
 
   split-requires : free-lts.Need-split-requires (callees t) (free-at t) free.Post
-  split-requires c κs = 
+  split-requires c κs =
       let start = c .before .before .before .before .before .before in
       let longer = shortest-longer (start .args .d) (c .before .before .shortest .ensures) (c .before .if2 .left) in
       (start .pre .1 .0, (start .pre .1 .1, longer))
@@ -83,8 +69,14 @@ module _ (t : ℕ) where
   add-free : free-lts.Need-add-free (callees t) (free-at t) free.Post
   add-free c = search needs
 
+  -- after the parting there is a bit more to go by
+  deeper : (c : free-lts.After-split (callees t) (free-at t) free.Post) → c .before .before .before .before .before .before .before .args .d + 1 < 32
+  deeper c =
+      let start = c .before .before .before .before .before .before .before in
+      shortest-deeper (start .args .d) (c .before .before .before .shortest .ensures) (omega arith) (c .before .before .if2 .left)
+
   free-requires : free-lts.Need-free-requires (callees t) (free-at t) free.Post
-  free-requires c κs = 
+  free-requires c κs =
       let at-split = c .before .before .before in
       let one-more = deeper at-split in
       (omega arith, (one-more, at-split .split .ensures .low))
@@ -104,8 +96,18 @@ module _ (t : ℕ) where
   add-free-2 : free-lts.Need-add-free-2 (callees t) (free-at t) free.Post
   add-free-2 c = search needs
 
+  -- the higher part is as `split` left it when the call on the lower part is done
+  higher : (c : free-lts.After-free (callees t) (free-at t) free.Post) →
+      let at-split = c .before .before .before .before .split in
+      let m = at-split .result in
+      let whole = c .free .last .0 ++ drop m (at-split .last .0) in
+      take (length whole - m) (drop m whole) ≡ drop m (at-split .last .0)
+  higher c =
+      let at-split = c .before .before .before .before .split in
+      rest-kept (at-split .result) (c .free .last .0) (at-split .last .0) (at-split .ensures .most) (c .free .kept .0)
+
   free-requires-2 : free-lts.Need-free-requires-2 (callees t) (free-at t) free.Post
-  free-requires-2 c κs = 
+  free-requires-2 c κs =
       let at-split = c .before .before .before .before .before .before .before .before in
       let one-more = deeper at-split in
       (omega arith, (one-more, rw (higher (c .before .before .before .before)) (at-split .split .ensures .high)))
@@ -115,19 +117,20 @@ module _ (t : ℕ) where
 
   -- the lower part is free: the answer is the higher part's
   returns-3 : free-lts.Need-returns-3 (callees t) (free-at t) free.Post
-  returns-3 c = 
+  returns-3 c =
       let lower = c .before .before .before .before .before .before .before in
-      split-free (c .before .before .free2 .result) (lower .before .before .before .before .split .ensures) (sym (c .before .before .before .before .if3 .taken) ∙ lower .free .ensures)
-      (rw (higher lower) at (c .before .before .free2 .ensures))
+      let low = not-true _ (sym (lower .free .ensures) ∙ c .before .before .before .before .if3 .taken) in
+      (rw (higher lower) at (c .before .before .free2 .ensures)) ∙ sym (ap not (clashes-low-free (lower .before .before .before .before .split .ensures) low))
 
   same-length-3 : free-lts.Need-same-length-3 (callees t) (free-at t) free.Post
   same-length-3 c = search needs
 
   -- the lower part is not free
   returns-4 : free-lts.Need-returns-4 (callees t) (free-at t) free.Post
-  returns-4 c = 
+  returns-4 c =
       let lower = c .before .before .before in
-      split-clash (lower .before .before .before .before .split .ensures) (sym (c .if3 .left) ∙ lower .free .ensures)
+      let low = not-false _ (sym (lower .free .ensures) ∙ c .if3 .left) in
+      sym (ap not (clashes-low-clash (lower .before .before .before .before .split .ensures) low))
 
 pub +free-spec : {M : Type 1} → statement M
 +free-spec =

@@ -1,20 +1,23 @@
 -- The laws of words whose codewords lie on one branch of the code tree. Assumes nothing.
-use Prim.Native.Nat.{ℕ, zero, suc, _+_, _-_, _*_, _/_, _%_, _^_, _≤_, _<_}
+use Prim.Native.Nat.{ℕ, zero, suc, _+_, _-_, _/_, _%_, _^_, _≤_, _<_}
 use native.Mathlib.Nat.{le-of-suc-le-suc, not-suc-le-zero, le-refl, lt-irrefl, div-one, div-div-eq-div-mul, pow-succ', pow-zero}
 use native.Mathlib.Decide.{decLt, ℕ-discrete}
 use native.Mathlib.Numerals.{add-one}
-use borrow.Author.Count.{below-more}
 use native.Mathlib.Omega.{arith}
+use borrow.Author.Count.{below-more}
 use mathlib.Core.Path.{_≡_, refl, sym, ap, _∙_}
-use mathlib.Core.Bool.{Bool, true, false, not, _||_, true≢false}
+use mathlib.Core.Bool.{true, false, _||_, true≢false}
 use mathlib.Core.List.{List, [], _∷_, _++_, map, map-append}
 use lib.ListN.{length, take, drop, getD, length-drop, length-map, length-append, take-append-drop, List·getD-map}
 use lib.Seq.{take-suc, getD-take, getD-drop, length-take-le, take-all, drop-at}
-use Rattle.bitstream.specs.Bits.{digits, begins}
+use Rattle.bitstream.specs.Bits.{digits}
 use Rattle.bitstream.specs.Bits.Laws.{length-digits}
-use Rattle.row_format.specs.Table.{codeword, clash}
-use Rattle.prefix_free.specs.Pairs.{meets, swapped, Moved, up, down, stays, Exchanged}
-use Rattle.prefix_free.specs.Pairs.Laws.{not-false-true, clash-false-free, begins-take, meets-false, clash-few, clash-append, clash-exchanged, swapped-exchanged, source, moved-lt}
+use Rattle.row_format.specs.Table.{codeword}
+use Rattle.prefix_free.specs.Tests.{not-false-true}
+use Rattle.prefix_free.specs.Exchange.{swapped, Moved, up, down, stays, Exchanged}
+use Rattle.prefix_free.specs.Exchange.Laws.{source, moved-lt, swapped-exchanged}
+use Rattle.prefix_free.specs.Pairs.{meets}
+use Rattle.prefix_free.specs.Pairs.Laws.{clash-false-apart, begins-take, meets-false, clash-few, clash-append, clash-exchanged}
 use Rattle.prefix_free.specs.Branch.{clashes, bitAt, Agree, Longer, Among, Shortest, Parted, Reordered, Split}
 
 -- ---- codewords
@@ -55,7 +58,7 @@ shortest-less {l} {i} {r} x h =
       found = λ b. (i, omega arith, refl);
     }
 
--- no codeword has 32 bits, so a longer one than d ends the recursion's depth in time
+-- no codeword has 32 bits: where all are longer than d, d can grow by one
 pub shortest-deeper : (d : ℕ) {l : List ℕ} {n r : ℕ} → Shortest l n r → 0 < n → d < r → d + 1 < 32
 shortest-deeper d x h b = let y = x .least 0 h in omega arith
 
@@ -63,6 +66,7 @@ pub shortest-longer : (d : ℕ) {l : List ℕ} {r : ℕ} → Shortest l (length 
 shortest-longer d x h = record { longer = λ k b. let y = x .least k b in omega arith }
 
 -- ---- words that agree
+-- a place beside k
 other : (n k : ℕ) → 2 ≤ n → (j : ℕ) × (j < n) × (k ≡ j → ⊥)
 other n k h = at (ℕ-discrete k 0)
   where
@@ -71,20 +75,18 @@ other n k h = at (ℕ-discrete k 0)
     at (no m) = (0, omega arith, m)
 
 -- a codeword that has ended begins every other
-pub agree-ended : (d : ℕ) (l : List ℕ) (k : ℕ) → Agree d l → 2 ≤ length l → k < length l → getD l k 0 % 32 ≤ d → clashes l ≡ true
+agree-ended : (d : ℕ) (l : List ℕ) (k : ℕ) → Agree d l → 2 ≤ length l → k < length l → getD l k 0 % 32 ≤ d → clashes l ≡ true
 agree-ended d l k a two hk ended = not-false-true (clashes l) refute
   where
     refute : clashes l ≡ false → ⊥
     refute f =
         let o = other (length l) k two in
         let j = o .0 in
-        let b : begins (codeword (getD l k 0)) (codeword (getD l j 0)) ≡ true =
-        begins-take d (codeword (getD l k 0)) (codeword (getD l j 0)) (a .same k j hk (o .1)) (rw (length-codeword (getD l k 0)) ended)
-        in
-        let p = clash-false-free (map codeword l) f .apart k j (rw (length-map l codeword) hk) (rw (length-map l codeword) (o .1)) (o .2) in
-        true≢false (rw (getD-codewords l k, getD-codewords l j, b) at p)
+        let begun = begins-take d (codeword (getD l k 0)) (codeword (getD l j 0)) (a .same k j hk (o .1)) (rw (length-codeword (getD l k 0)) ended) in
+        let apart = clash-false-apart (map codeword l) k j f (rw (length-map l codeword) hk) (rw (length-map l codeword) (o .1)) (o .2) in
+        true≢false (sym begun ∙ (rw (getD-codewords l k, getD-codewords l j) at apart))
 
--- all have one and the same bit at d
+-- where all have one and the same bit at d, they agree in that too
 agree-more : (d b : ℕ) (l : List ℕ) → Agree d l → Longer d l → ((k : ℕ) → k < length l → bitAt d (getD l k 0) ≡ b) → Agree (d + 1) l
 agree-more d b l a g h = record { same = same }
   where
@@ -148,8 +150,8 @@ pub parted-more : {d : ℕ} {l : List ℕ} {i r : ℕ} → Parted d l i r → i 
 parted-more {d} {l} {i} {r} x h =
     record {
       most = let m = x .most in omega arith;
-      zeros = λ k b. let m = source i r k in ap (bitAt d) (e .from (m .1)) ∙ zero k (m .0) b (m .1);
-      ones = λ k a b. let m = source i r k in ap (bitAt d) (e .from (m .1)) ∙ one k (m .0) a b (m .1);
+      zeros = λ k b. let m = source i r k in ap (bitAt d) (e .from (m .1)) ∙ zero-at k (m .0) b (m .1);
+      ones = λ k a b. let m = source i r k in ap (bitAt d) (e .from (m .1)) ∙ one-at k (m .0) a b (m .1);
     }
   where
     low : r ≤ i
@@ -158,15 +160,19 @@ parted-more {d} {l} {i} {r} x h =
     e : Exchanged i r 0 l (swapped l i r 0)
     e = swapped-exchanged i r 0 l h (omega arith)
 
-    zero : (k k′ : ℕ) → k < r + (1 - bitAt d (getD l i 0)) → Moved i r k k′ → bitAt d (getD l k′ 0) ≡ 0
-    zero k k′ b (up p q) = let j : k′ ≡ i = omega arith in rw j (omega arith)
-    zero k k′ b (down p q) = rw q (omega arith)
-    zero k k′ b (stays p q j) = rw j (x .zeros k (omega arith))
+    zero-at : (k k′ : ℕ) → k < r + (1 - bitAt d (getD l i 0)) → Moved i r k k′ → bitAt d (getD l k′ 0) ≡ 0
+    zero-at k k′ b (up p q) = let j : k′ ≡ i = omega arith in rw j (omega arith)
+    zero-at k k′ b (down p q) = rw q (omega arith)
+    zero-at k k′ b (stays p q j) = rw j (x .zeros k (omega arith))
 
-    one : (k k′ : ℕ) → r + (1 - bitAt d (getD l i 0)) ≤ k → k < i + 1 → Moved i r k k′ → bitAt d (getD l k′ 0) ≡ 1
-    one k k′ a b (up p q) = elim (decLt r i) [ yes t ↦ rw q (x .ones r (le-refl r) t) | no t ↦ let j : k′ ≡ i = omega arith in rw j (omega arith) ]
-    one k k′ a b (down p q) = rw q (omega arith)
-    one k k′ a b (stays p q j) = rw j (x .ones k (omega arith) (omega arith))
+    one-at : (k k′ : ℕ) → r + (1 - bitAt d (getD l i 0)) ≤ k → k < i + 1 → Moved i r k k′ → bitAt d (getD l k′ 0) ≡ 1
+    one-at k k′ a b (up p q) =
+        elim (decLt r i) [
+          | yes t ↦ rw q (x .ones r (le-refl r) t)
+          | no t ↦ let j : k′ ≡ i = omega arith in rw j (omega arith)
+        ]
+    one-at k k′ a b (down p q) = rw q (omega arith)
+    one-at k k′ a b (stays p q j) = rw j (x .ones k (omega arith) (omega arith))
 
 -- ---- the two parts
 take-among : (r : ℕ) (l : List ℕ) → r ≤ length l → Among l (take r l)
@@ -189,7 +195,7 @@ rest-kept m f l h e =
     let all : length (drop m l) ≤ length (f ++ drop m l) - m = simp length-append (omega arith) in
     rw (drop-at f (drop m l) m long) (take-all (length (f ++ drop m l) - m) (drop m l) all)
 
--- words that have different bits at d
+-- words that have different bits at d do not clash
 clashes-append : (d : ℕ) (l p : List ℕ) → Longer d l → Longer d p
     → ((k : ℕ) → k < length l → bitAt d (getD l k 0) ≡ 0) → ((k : ℕ) → k < length p → bitAt d (getD p k 0) ≡ 1)
     → clashes (l ++ p) ≡ (clashes l || clashes p)
@@ -228,26 +234,18 @@ parted-split {d} {s} {t} {r} x p =
     ones : (k : ℕ) → k < length (drop r t) → bitAt d (getD (drop r t) k 0) ≡ 1
     ones k h = let c : k < length t - r = rw (length-drop r t) at h in rw (getD-drop r t k 0) (p .ones (r + k) (omega arith) (omega arith))
 
--- ---- what the test answers
-pub few-free : (l : List ℕ) → length l < 2 → true ≡ not (clashes l)
-few-free l h = sym (ap not (clash-few (map codeword l) (rw (length-map l codeword) h)))
+-- ---- what clashes
+pub clashes-few : (l : List ℕ) → length l < 2 → clashes l ≡ false
+clashes-few l h = clash-few (map codeword l) (rw (length-map l codeword) h)
 
-pub ended-free : (d : ℕ) {l : List ℕ} {r : ℕ} → Agree d l → 2 ≤ length l → Shortest l (length l) r → r ≤ d → d < 32 → false ≡ not (clashes l)
-ended-free d {l} {r} a two x h b =
+pub clashes-ended : (d : ℕ) {l : List ℕ} {r : ℕ} → Agree d l → 2 ≤ length l → Shortest l (length l) r → r ≤ d → d < 32 → clashes l ≡ true
+clashes-ended d {l} {r} a two x h b =
     let k = x .found (omega arith) in
     let e : getD l (k .0) 0 % 32 ≡ r = k .2 in
-    sym (ap not (agree-ended d l (k .0) a two (k .1) (omega arith)))
+    agree-ended d l (k .0) a two (k .1) (omega arith)
 
-not-or : (a b : Bool) (r : Bool) → true ≡ not a → r ≡ not b → r ≡ not (a || b)
-not-or true b r p q = absurd (true≢false p)
-not-or false b r p q = q
+pub clashes-low-free : {d m : ℕ} {s t : List ℕ} → Split d s t m → clashes (take m t) ≡ false → clashes s ≡ clashes (drop m t)
+clashes-low-free x p = rw (x .clashing, p)
 
-pub split-free : {d : ℕ} {s t : List ℕ} {m : ℕ} (r : Bool) → Split d s t m → true ≡ not (clashes (take m t)) → r ≡ not (clashes (drop m t)) → r ≡ not (clashes s)
-split-free {d} {s} {t} {m} r x p q = rw (x .clashing) (not-or (clashes (take m t)) (clashes (drop m t)) r p q)
-
-or-clash : (a b : Bool) → false ≡ not a → false ≡ not (a || b)
-or-clash true b p = p
-or-clash false b p = absurd (true≢false (sym p))
-
-pub split-clash : {d : ℕ} {s t : List ℕ} {m : ℕ} → Split d s t m → false ≡ not (clashes (take m t)) → false ≡ not (clashes s)
-split-clash {d} {s} {t} {m} x p = rw (x .clashing) (or-clash (clashes (take m t)) (clashes (drop m t)) p)
+pub clashes-low-clash : {d m : ℕ} {s t : List ℕ} → Split d s t m → clashes (take m t) ≡ true → clashes s ≡ true
+clashes-low-clash x p = rw (x .clashing, p)

@@ -1,68 +1,24 @@
 -- The laws of strings of which one begins another. Assumes nothing.
 use Prim.Native.Nat.{ℕ, zero, suc, _<_, _≤_, suc-le-suc}
 use native.Mathlib.Nat.{le-of-suc-le-suc, not-suc-le-zero, zero-lt-suc}
-use native.Mathlib.Decide.{ℕ-discrete, decLt}
+use native.Mathlib.Decide.{decLt}
 use native.Mathlib.Omega.{arith}
-use mathlib.Core.Path.{_≡_, refl, sym, ap, _∙_}
-use mathlib.Core.Bool.{Bool, true, false, _||_, or-assoc, or-comm, or-false, and-eq-true-iff, true≢false, false≢true}
+use mathlib.Core.Path.{_≡_, refl, sym, _∙_}
+use mathlib.Core.Bool.{true, false, _||_, or-assoc, or-comm, or-false, and-eq-true-iff, false≢true}
 use mathlib.Core.List.{List, [], _∷_, _++_}
-use lib.ListN.{length, getD, set, take, length-set}
-use lib.Seq.{getD-set-same, getD-set-other, lt-length-set, ext-getD}
+use lib.ListN.{length, getD, take}
 use lib.Dec.{eqb}
 use borrow.Author.Tests.{eq-eqb, eqb-true}
 use Rattle.bitstream.specs.Bits.{begins}
 use Rattle.row_format.specs.Lists.{any}
 use Rattle.row_format.specs.Table.{clash}
-use Rattle.prefix_free.specs.Pairs.{meets, PrefixFree, swapped, Moved, up, down, stays, Exchanged}
+use Rattle.prefix_free.specs.Tests.{or-none, left-false, right-false, not-true-false, same-test, any-append, any-none, none-at}
+use Rattle.prefix_free.specs.Exchange.{Exchanged}
+use Rattle.prefix_free.specs.Exchange.Laws.{source, moved-lt, moved-apart, exchanged-sym}
+use Rattle.prefix_free.specs.Pairs.{meets, PrefixFree}
 
--- ---- truth values
-or-none : (a b : Bool) → a ≡ false → b ≡ false → (a || b) ≡ false
-or-none true b p q = p
-or-none false b p q = q
-
-left-false : (a b : Bool) → (a || b) ≡ false → a ≡ false
-left-false true b e = e
-left-false false b e = refl
-
-right-false : (a b : Bool) → (a || b) ≡ false → b ≡ false
-right-false true b e = absurd (true≢false e)
-right-false false b e = e
-
-pub not-false-true : (b : Bool) → (b ≡ false → ⊥) → b ≡ true
-not-false-true true h = refl
-not-false-true false h = absurd (h refl)
-
-pub not-true-false : (b : Bool) → (b ≡ true → ⊥) → b ≡ false
-not-true-false true h = absurd (h refl)
-not-true-false false h = refl
-
--- two tests that fail together are equal
-same-test : (a b : Bool) → (a ≡ false → b ≡ false) → (b ≡ false → a ≡ false) → a ≡ b
-same-test true true f g = refl
-same-test true false f g = g refl
-same-test false b f g = sym (f refl)
-
--- ---- some element passes
-module _ {A : Type 0} (f : A → Bool) where
-  pub any-append : (a b : List A) → any f (a ++ b) ≡ (any f a || any f b)
-  unfolding any
-  any-append [] b = refl
-  any-append (x ∷ a) b = ap (λ (q : Bool). f x || q) (any-append a b) ∙ sym (or-assoc (f x) (any f a) (any f b))
-
-  pub any-none : (l : List A) (d : A) → ((k : ℕ) → k < length l → f (getD l k d) ≡ false) → any f l ≡ false
-  unfolding any
-  any-none [] d h = refl
-  any-none (x ∷ l) d h =
-      or-none (f x) (any f l) (h 0 (zero-lt-suc (length l))) (any-none l d (λ k b. h (suc k) (suc-le-suc b)))
-
-  pub none-at : (l : List A) (d : A) (k : ℕ) → any f l ≡ false → k < length l → f (getD l k d) ≡ false
-  unfolding any
-  none-at [] d k e h = absurd (not-suc-le-zero h)
-  none-at (x ∷ l) d zero e h = left-false (f x) (any f l) e
-  none-at (x ∷ l) d (suc k) e h = none-at l d k (right-false (f x) (any f l) e) (le-of-suc-le-suc h)
-
--- ---- no clash: each pair is apart
-pub clash-false-below : (ss : List (List ℕ)) (i j : ℕ) → clash ss ≡ false → i < j → j < length ss → meets (getD ss i []) (getD ss j []) ≡ false
+-- ---- no clash: the strings of each pair are apart
+clash-false-below : (ss : List (List ℕ)) (i j : ℕ) → clash ss ≡ false → i < j → j < length ss → meets (getD ss i []) (getD ss j []) ≡ false
 unfolding clash
 clash-false-below [] i j e l h = absurd (not-suc-le-zero h)
 clash-false-below (s ∷ ss) i zero e l h = absurd (not-suc-le-zero l)
@@ -81,6 +37,11 @@ clash-false-free ss e = record { apart = λ i j hi hj n. either i j hi hj n (dec
     either i j hi hj n (yes l) = clash-false-below ss i j e l hj
     either i j hi hj n (no l) =
         meets-comm (getD ss i []) (getD ss j []) ∙ clash-false-below ss j i e (omega arith) hi
+
+-- with i and j exchanged, the other way round
+pub clash-false-apart : (ss : List (List ℕ)) (i j : ℕ) → clash ss ≡ false → i < length ss → j < length ss → (i ≡ j → ⊥) → begins (getD ss i []) (getD ss j []) ≡ false
+clash-false-apart ss i j e hi hj n =
+    left-false (begins (getD ss i []) (getD ss j [])) (begins (getD ss j []) (getD ss i [])) (clash-false-free ss e .apart i j hi hj n)
 
 pub free-clash-false : (ss : List (List ℕ)) → PrefixFree ss → clash ss ≡ false
 unfolding clash
@@ -132,58 +93,6 @@ clash-append (s ∷ ss) us h =
     rw (any-append (meets s) ss us, none, rest, or-false (any (meets s) ss)) (sym (or-assoc (any (meets s) ss) (clash ss) (clash us)))
 
 -- ---- an exchange
-pub source : (a b k : ℕ) → (k′ : ℕ) × Moved a b k k′
-source a b k = at (ℕ-discrete k a) (ℕ-discrete k b)
-  where
-    at : Dec (k ≡ a) → Dec (k ≡ b) → (k′ : ℕ) × Moved a b k k′
-    at (yes e) q = (b, up e refl)
-    at (no n) (yes e) = (a, down e refl)
-    at (no n) (no m) = (k, stays n m refl)
-
-pub moved-lt : {a b k k′ : ℕ} (n : ℕ) → a < n → b < n → k < n → Moved a b k k′ → k′ < n
-moved-lt n ha hb hk (up e f) = omega arith
-moved-lt n ha hb hk (down e f) = omega arith
-moved-lt n ha hb hk (stays p q f) = omega arith
-
-moved-sym : {a b k k′ : ℕ} → Moved a b k k′ → Moved a b k′ k
-moved-sym (up e f) = down f e
-moved-sym (down e f) = up f e
-moved-sym (stays p q f) = stays (omega arith) (omega arith) (sym f)
-
--- two places are filled from two places
-moved-apart : {a b i i′ j j′ : ℕ} → Moved a b i i′ → Moved a b j j′ → (i ≡ j → ⊥) → i′ ≡ j′ → ⊥
-moved-apart (up e f) (up g h) n = omega arith
-moved-apart (up e f) (down g h) n = omega arith
-moved-apart (up e f) (stays p q h) n = omega arith
-moved-apart (down e f) (up g h) n = omega arith
-moved-apart (down e f) (down g h) n = omega arith
-moved-apart (down e f) (stays p q h) n = omega arith
-moved-apart (stays p q f) (up g h) n = omega arith
-moved-apart (stays p q f) (down g h) n = omega arith
-moved-apart (stays p q f) (stays r t h) n = omega arith
-
-module _ {A : Type 0} (a b : ℕ) (d : A) where
-  pub swapped-exchanged : (l : List A) → a < length l → b < length l → Exchanged a b d l (swapped l a b d)
-  swapped-exchanged l ha hb = record { long = simp length-set; from = from }
-    where
-      v : A
-      v = getD l a d
-
-      l₁ : List A
-      l₁ = set l a (getD l b d)
-
-      first : Dec (a ≡ b) → getD (set l₁ b v) a d ≡ getD l b d
-      first (yes e) = rw e (getD-set-same (set l b (getD l b d)) b (getD l b d) d (lt-length-set l b (getD l b d) hb))
-      first (no n) = getD-set-other l₁ b a v d n ∙ getD-set-same l a (getD l b d) d ha
-
-      from : {k k′ : ℕ} → Moved a b k k′ → getD (set l₁ b v) k d ≡ getD l k′ d
-      from (up e f) = rw (e, f) (first (ℕ-discrete a b))
-      from (down e f) = rw (e, f) (getD-set-same l₁ b v d (lt-length-set l a (getD l b d) hb))
-      from {k} {k′} (stays n m f) = getD-set-other l₁ b k v d m ∙ getD-set-other l a k (getD l b d) d n ∙ rw f
-
-  exchanged-sym : {l l′ : List A} → Exchanged a b d l l′ → Exchanged a b d l′ l
-  exchanged-sym x = record { long = sym (x .long); from = λ m. sym (x .from (moved-sym m)) }
-
 exchanged-free : {a b : ℕ} {ss us : List (List ℕ)} → a < length ss → b < length ss → Exchanged a b [] ss us → PrefixFree ss → PrefixFree us
 exchanged-free {a} {b} {ss} {us} ha hb x h = record { apart = apart }
   where

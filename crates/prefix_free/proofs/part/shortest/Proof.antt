@@ -11,8 +11,6 @@ use Rattle.prefix_free.specs.Branch.{Shortest}
 use Rattle.prefix_free.specs.Branch.Laws.{shortest-none, shortest-kept, shortest-less}
 use Rattle.prefix_free.proofs.part.shortest.Statement.{statement}
 use Rattle.prefix_free.proofs.part.shortest.Tie as tie
-use Rattle.prefix_free.proofs.part.shortest.Reads as reads
-use Rattle.prefix_free.proofs.part.shortest.Lts as lts
 
 abbrev Inv-loop : tie.InvT-loop
 Inv-loop s least₀ i₀ least i = (i ≤ length s) × Shortest s i least

@@ -9,9 +9,6 @@ use Rattle.prefix_free.specs.Branch.{Parted, Reordered}
 use Rattle.prefix_free.specs.Branch.Laws.{parted-none, parted-more, parted-split, reordered-none, reordered-more}
 use Rattle.prefix_free.proofs.part.split.Statement.{statement}
 use Rattle.prefix_free.proofs.part.split.Tie as tie
-use Rattle.prefix_free.proofs.part.split.Reads as reads
-use Rattle.prefix_free.proofs.part.split.Lts as lts
-use Rattle.prefix_free.proofs.part.bit.Reads as bit-reads
 
 abbrev Inv-loop : tie.InvT-loop
 Inv-loop s₀ d zeros₀ i₀ s zeros i = (i ≤ length s₀) × Reordered d s₀ s × Parted d s i zeros

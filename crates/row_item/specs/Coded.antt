@@ -1,0 +1,25 @@
+-- The items and states of document 01's rows (row_format, Row.antt) as the code holds them. Assumes nothing.
+use Prim.Native.Nat.{ℕ}
+use mathlib.Core.Path.{_≡_}
+use mathlib.Core.Bool.{true, false}
+use Rattle.row_format.specs.Table.{signed}
+use Rattle.row_format.specs.Row as row
+use Rattle.row_item.specs.declared.Item.{Item}
+use Rattle.row_item.specs.declared.Item.the-variants.{Difference, BadPixel, BadBias, Escape}
+use Rattle.row_item.specs.declared.Progress.{Progress}
+pub mod Laws
+
+-- a difference that is counted k from -4093 is the i32 k - 4093
+abbrev pub coded : row.Item → Item
+coded (row.difference k) = Difference (signed k)
+coded row.badPixel = BadPixel
+coded row.badBias = BadBias
+coded (row.escape h) = Escape h
+
+abbrev pub progress : row.State → Progress
+progress row.fresh = record { begun = false; previous = 0 }
+progress (row.past h) = record { begun = true; previous = h }
+
+-- r is what p has come to after an item and its pixel
+pub record Followed (p : Progress) (i : Item) (pixel : ℕ) (r : Progress) : Type 0 where
+  pub next : (s : row.State) (j : row.Item) → p ≡ progress s → i ≡ coded j → pixel ≡ row.pixelOf s j → r ≡ progress (row.after s j)

@@ -1,0 +1,217 @@
+//! Unpacking sound and damaged runs of words.
+
+use crate::lent::Lent;
+use crate::tally::Tally;
+use crate::trial::Trial;
+use second::ffi;
+use second::generate::rows::{pixel_bytes, row, row_length};
+use second::generate::runs::{flip, random_words, run, run_words, set_unused};
+use second::generate::runs::{Expected, Fault};
+use second::random::Random;
+use second::reader::unpack_measured;
+use second::refusal::{DONE, ROOM, TOO_MANY, UNUSED_BIT, WORDS_END};
+use second::row::MAX_PIXELS;
+
+/// A call's input and what the rules demand of it, where that is known.
+struct Case {
+    words: Vec<u8>,
+    n: u64,
+    pixels_lent: usize,
+    expected: Expected,
+}
+
+pub fn compare(random: &mut Random, trial: &Trial, tally: &mut Tally) -> Result<(), String> {
+    let mut case = any_case(random, trial);
+    settle(random, trial, &mut case);
+    let before = Lent::new(random, case.pixels_lent);
+    let (answer, after) = compare_call(trial, &case, &before)?;
+    tally.runs += 1;
+    tally.unpack[answer.0 as usize] += 1;
+    let checked = check_expected(&case, answer, &after)
+        .and_then(|()| check_alike(random, trial, &case, &before, answer, &after))
+        .and_then(|()| check_repacked(random, trial, &case, answer, &after));
+    checked.map_err(|what| {
+        let what = format!("{what}; n {}, answer {answer:?}", case.n);
+        trial.difference(&what, &[("words", &case.words), ("after", after.bytes())])
+    })
+}
+
+/// A run with a known answer, or one damaged into an unknown.
+fn any_case(random: &mut Random, trial: &Trial) -> Case {
+    let length = row_length(random);
+    let row = row(random, trial.model(), length);
+    let fault = (length > 0 && random.one_in(6))
+        .then(|| (random.below(length), random.pick(&[Fault::EscapedBad, Fault::Height])));
+    let (bits, expected) = run(random, trial.model(), &row, fault);
+    let words = run_words(&bits);
+    let mut case = Case { words, n: length as u64, pixels_lent: 0, expected };
+    damage(random, &mut case, bits.len());
+    case
+}
+
+/// Leaves a sound run alone or damages it, and follows it with any words.
+fn damage(random: &mut Random, case: &mut Case, bits: usize) {
+    let sound = matches!(case.expected, Expected::Pixels(..));
+    let unknown = Expected::Unknown;
+    match random.below(10) {
+        0 if sound && set_unused(random, &mut case.words, bits) => {
+            case.expected = Expected::Refused(UNUSED_BIT);
+        }
+        1 => {
+            flip(random, &mut case.words);
+            case.expected = unknown;
+        }
+        2 if sound && !case.words.is_empty() => {
+            // Whole items stand before the cut, and one is cut or gone.
+            case.words.truncate(4 * random.below(case.words.len() / 4));
+            case.expected = Expected::Refused(WORDS_END);
+            return;
+        }
+        3 => {
+            let words = random.below(40);
+            case.words = random_words(random, words);
+            case.n = random.below(80) as u64;
+            case.expected = unknown;
+            return;
+        }
+        4 => {
+            case.n += random.within(1..=5) as u64;
+            case.expected = unknown;
+        }
+        5 => {
+            case.n = random.below(case.n as usize + 1) as u64;
+            case.expected = unknown;
+        }
+        _ => {}
+    }
+    if random.one_in(2) {
+        let words = random.below(4);
+        case.words.extend(random_words(random, words));
+    }
+}
+
+/// Settles the end of the words, the count and the memory lent.
+fn settle(random: &mut Random, trial: &Trial, case: &mut Case) {
+    let odd = random.below(4);
+    case.words.extend(random.bytes(odd));
+    if random.one_in(60) {
+        let few = random.below(100) as u64;
+        case.n = random.pick(&[4097 + few, few + (1 << 32), u64::MAX - few]);
+    }
+    let many = case.n > MAX_PIXELS as u64;
+    let exact = if many { random.below(50) } else { 2 * case.n as usize };
+    case.pixels_lent = exact + random.pick(&[0, 0, 1, 2, 7]);
+    if many {
+        case.expected = Expected::Refused(TOO_MANY);
+    } else if exact > 0 && random.one_in(12) {
+        let less = random.below(exact);
+        case.pixels_lent = random.pick(&[exact - 1, exact - 2, less]);
+        case.expected = Expected::Refused(ROOM);
+    }
+    if let Err(number) = trial.codec {
+        case.expected = Expected::Refused(number);
+    }
+}
+
+/// Unpacks on both sides: same answer, same memory, input unwritten.
+fn compare_call(trial: &Trial, case: &Case, before: &Lent) -> Result<((u32, u32), Lent), String> {
+    let (mut by_proved, mut by_second) = (before.clone(), before.clone());
+    let input = case.words.clone();
+    let proved = ffi::unpack(&trial.table, &input, case.n, by_proved.bytes_mut());
+    let (number, used) = match &trial.codec {
+        Ok(codec) => unpack_measured(codec, &case.words, case.n, by_second.bytes_mut()),
+        Err(number) => (*number, 0),
+    };
+    let second = if number == DONE { (DONE, used as u32) } else { (number, 0) };
+    let written = if number == DONE { 2 * case.n as usize } else { 0 };
+    let most = u128::from(case.n) * u128::from(trial.model().worst);
+    let wrong = if proved != second {
+        "answers"
+    } else if by_proved != by_second {
+        "memory"
+    } else if !by_proved.same_after(before, written) {
+        "memory after the pixels counted"
+    } else if input != case.words {
+        "words written to"
+    } else if used as u128 > most {
+        "more than n times M bits used"
+    } else {
+        return Ok((second, by_proved));
+    };
+    let what = format!("unpack {}, {wrong}: proved {proved:?}, second {second:?}", case.n);
+    let parts = [
+        ("words", &case.words[..]),
+        ("memory before", before.bytes()),
+        ("memory by proved", by_proved.bytes()),
+        ("memory by second", by_second.bytes()),
+    ];
+    Err(trial.difference(&what, &parts))
+}
+
+/// The answer that the run was made for.
+fn check_expected(case: &Case, answer: (u32, u32), after: &Lent) -> Result<(), String> {
+    let right = match &case.expected {
+        Expected::Unknown => true,
+        Expected::Refused(number) => answer == (*number, 0),
+        Expected::Pixels(row, bits) => {
+            let read = &after.bytes()[..2 * row.len()];
+            answer == (DONE, *bits as u32) && read == pixel_bytes(row)
+        }
+    };
+    let number = match case.expected {
+        Expected::Refused(number) => number,
+        _ => DONE,
+    };
+    if right {
+        Ok(())
+    } else {
+        Err(format!("unpack: the run was made for {number}"))
+    }
+}
+
+/// Words alike in the first n times M bits get the same answer.
+fn check_alike(
+    random: &mut Random,
+    trial: &Trial,
+    case: &Case,
+    before: &Lent,
+    answer: (u32, u32),
+    after: &Lent,
+) -> Result<(), String> {
+    let words = case.n.saturating_mul(u64::from(trial.model().worst)).div_ceil(32);
+    let bytes = 4 * words.min(1 << 20) as usize;
+    if trial.codec.is_err() || case.words.len() < bytes || !random.one_in(2) {
+        return Ok(());
+    }
+    let mut other = case.words[..bytes].to_vec();
+    let more = random.below(30);
+    other.extend(random.bytes(more));
+    let mut memory = before.clone();
+    let again = ffi::unpack(&trial.table, &other, case.n, memory.bytes_mut());
+    if again == answer && memory == *after {
+        return Ok(());
+    }
+    Err(format!("unpack: {again:?} for words alike in the first {words}"))
+}
+
+/// A row that was read can be packed in the room answered, and read again.
+fn check_repacked(
+    random: &mut Random,
+    trial: &Trial,
+    case: &Case,
+    answer: (u32, u32),
+    after: &Lent,
+) -> Result<(), String> {
+    if answer.0 != DONE || !random.one_in(4) {
+        return Ok(());
+    }
+    let pixels = &after.bytes()[..2 * case.n as usize];
+    let mut words = vec![0; 4 * ffi::room(&trial.table, case.n).1 as usize];
+    let packed = ffi::pack(&trial.table, pixels, &mut words);
+    let mut back = vec![0; pixels.len()];
+    let read = ffi::unpack(&trial.table, &words, case.n, &mut back);
+    if packed.0 == DONE && read == packed && back == pixels {
+        return Ok(());
+    }
+    Err(format!("repacked {packed:?}, read again {read:?}"))
+}

@@ -1,0 +1,6 @@
+//! Random inputs for the comparisons.
+
+pub mod damage;
+pub mod rows;
+pub mod runs;
+pub mod tables;

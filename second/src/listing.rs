@@ -1,0 +1,171 @@
+//! The text of the sheet lister and of the table lister.
+
+use std::fmt::Write;
+
+use crate::reader::Codec;
+use crate::refusal::{PLACE, TABLE_SHAPE};
+use crate::sheet::{judge_record, Content, State};
+use crate::table::{Codeword, Table, BAD_BIAS, BAD_PIXEL, ESCAPE};
+
+/// Lists a whole sheet.
+pub fn list_sheet(sheet: &[u8]) -> String {
+    let mut text = String::new();
+    if sheet.is_empty() {
+        return refused(text, PLACE, 0);
+    }
+    let (mut rest, mut record, mut rows) = (sheet, 0, 0);
+    let mut state = State::default();
+    // Never looked at before the sheet's table is read.
+    let mut codec = Err(TABLE_SHAPE);
+    while !rest.is_empty() {
+        let answer = judge_record(state, codec.as_ref().map_err(|number| *number), rest);
+        let Some(content) = answer.content else {
+            return refused(text, answer.number, record);
+        };
+        if matches!(content, Content::Table { .. }) {
+            codec = Codec::open(&rest[6..answer.used]);
+        }
+        rows += u32::from(matches!(content, Content::Packed { .. } | Content::Plain { .. }));
+        text.push_str(&content_line(&content));
+        state = answer.state;
+        rest = &rest[answer.used..];
+        record += 1;
+    }
+    let _ = writeln!(text, "done rows {rows}");
+    text
+}
+
+fn refused(mut text: String, number: u32, record: u32) -> String {
+    let _ = writeln!(text, "refused {number} at record {record}");
+    text
+}
+
+fn content_line(content: &Content) -> String {
+    match content {
+        Content::Table { id, low_limit, size, worst } => {
+            format!("table {id} low {low_limit} size {size} worst {worst}\n")
+        }
+        Content::Packed { row, pixels, bits, words } => {
+            format!("row {row} pixels {pixels} bits {bits} words {words}\n")
+        }
+        Content::Plain { row, pixels } => format!("row {row} pixels {pixels} plain\n"),
+        Content::Line { numbers } => format!("line numbers {numbers}\n"),
+    }
+}
+
+/// Lists a table's codewords in tree order, the 0-branch first.
+pub fn list_table(bytes: &[u8]) -> String {
+    let table = match Table::parse(bytes) {
+        Ok(table) => table,
+        Err(number) => return format!("refused {number}\n"),
+    };
+    let named = |(index, codeword)| (bit_text(codeword), name_of(&table, index));
+    let mut lines: Vec<(String, String)> =
+        table.codewords.iter().copied().enumerate().map(named).collect();
+    // No codeword begins another, so the order of texts is the tree's.
+    lines.sort();
+    lines.iter().map(|(bits, name)| format!("{name} {bits}\n")).collect()
+}
+
+fn bit_text(codeword: Codeword) -> String {
+    (0..codeword.length)
+        .map(|place| if codeword.bits >> place & 1 == 1 { '1' } else { '0' })
+        .collect()
+}
+
+fn name_of(table: &Table, index: usize) -> String {
+    match index {
+        ESCAPE => "raw".to_string(),
+        BAD_PIXEL => "bad-pixel".to_string(),
+        BAD_BIAS => "bad-bias".to_string(),
+        _ => table.difference_of(index).to_string(),
+    }
+}
+
+#[cfg(test)]
+mod tests {
+    use super::*;
+    use crate::known::{memo_table, plain_table, table_bytes, Labels};
+
+    fn record(kind: u16, body: &[u8]) -> Vec<u8> {
+        let length = (2 + body.len()) as u32;
+        [&length.to_le_bytes()[..], &kind.to_le_bytes(), body].concat()
+    }
+
+    fn packed(row: u8, pixels: u8, word: u32) -> Vec<u8> {
+        record(2, &[&[row, 0, pixels, 0][..], &word.to_le_bytes()].concat())
+    }
+
+    const TABLE_LINE: &str = "table 1 low 3837 size 512 worst 14\n";
+
+    #[test]
+    fn written_sheet() {
+        let sheet = [record(1, &plain_table()), packed(0, 2, 3992), packed(5, 1, 3065)].concat();
+        let text = "row 0 pixels 2 bits 13 words 1\nrow 5 pixels 1 bits 14 words 1\ndone rows 2\n";
+        assert_eq!(list_sheet(&sheet), TABLE_LINE.to_string() + text);
+    }
+
+    #[test]
+    fn other_kinds() {
+        let plain = record(3, &[9, 0, 2, 0, 255, 15, 0, 0]);
+        let line = record(4, &[3, 0, 0x7F, 0x80, 0x40, 0]);
+        let sheet = [record(1, &plain_table()), line, plain].concat();
+        let text = "line numbers 3\nrow 9 pixels 2 plain\ndone rows 1\n";
+        assert_eq!(list_sheet(&sheet), TABLE_LINE.to_string() + text);
+        assert_eq!(
+            list_sheet(&record(1, &plain_table())),
+            TABLE_LINE.to_string() + "done rows 0\n"
+        );
+    }
+
+    #[test]
+    fn refused_sheets() {
+        assert_eq!(list_sheet(&[]), "refused 16 at record 0\n");
+        assert_eq!(list_sheet(&[2, 0, 0]), "refused 14 at record 0\n");
+        assert_eq!(list_sheet(&packed(0, 2, 3992)), "refused 16 at record 0\n");
+        let sheet = [record(1, &plain_table()), packed(5, 1, 3065), packed(5, 1, 3065)].concat();
+        let text = "row 5 pixels 1 bits 14 words 1\nrefused 16 at record 2\n";
+        assert_eq!(list_sheet(&sheet), TABLE_LINE.to_string() + text);
+        let sheet = [record(1, &plain_table()), vec![1]].concat();
+        assert_eq!(list_sheet(&sheet), TABLE_LINE.to_string() + "refused 14 at record 1\n");
+    }
+
+    #[test]
+    fn id_is_unsigned() {
+        let mut table = plain_table();
+        table[..4].fill(255);
+        let text = "table 4294967295 low 3837 size 512 worst 14\ndone rows 0\n";
+        assert_eq!(list_sheet(&record(1, &table)), text);
+    }
+
+    #[test]
+    fn written_table() {
+        let words = table_bytes(&[7, 4093, 1, 34, 99, 227, 1]);
+        assert_eq!(list_table(&words), "0 0\nraw 10\nbad-pixel 110\nbad-bias 111\n");
+        assert_eq!(list_table(&words[1..]), "refused 1\n");
+        let words = table_bytes(&[7, 4093, 1, 34, 99, 227, 0]);
+        assert_eq!(list_table(&words), "refused 2\n");
+        let words = table_bytes(&[7, 4093, 1, 34, 99, 227, 99]);
+        assert_eq!(list_table(&words), "refused 3\n");
+    }
+
+    #[test]
+    fn memo_table_in_tree_order() {
+        let text = list_table(&memo_table(Labels::Version11));
+        let lines: Vec<&str> = text.lines().collect();
+        assert_eq!(lines.len(), 35);
+        let start = ["6 0000", "8 00010", "-10 000110", "-13 00011100"];
+        assert_eq!(lines[..4], start);
+        let bad = ["bad-pixel 000111010000", "bad-bias 000111010001", "-16 00011101001"];
+        assert_eq!(lines[4..7], bad);
+        assert_eq!(lines[32..], ["-1 1101", "1 1110", "0 1111"]);
+    }
+
+    #[test]
+    fn deepest_string() {
+        let strings = [34, 99, 227, 27];
+        let words = table_bytes(&[&[7, 4092, 1], &strings[..]].concat());
+        let deep = format!("-1 {}\n", "0".repeat(27));
+        assert_eq!(list_table(&words), deep + "raw 10\nbad-pixel 110\nbad-bias 111\n");
+    }
+}

@@ -1,0 +1,35 @@
+//! The numbers that a call answers with.
+
+pub const DONE: u32 = 0;
+/// The table's word count, tableSize or lowLimit is wrong.
+pub const TABLE_SHAPE: u32 = 1;
+/// A string word is wrong.
+pub const STRING_WORD: u32 = 2;
+/// A codeword equals or begins another.
+pub const PREFIX: u32 = 3;
+/// A pixel is above 4095.
+pub const PIXEL: u32 = 4;
+/// The lent room is smaller than the output.
+pub const ROOM: u32 = 5;
+/// The words end inside an item.
+pub const WORDS_END: u32 = 6;
+/// The rest begins with no codeword and is no beginning of one.
+pub const NO_CODEWORD: u32 = 7;
+/// A difference leads outside 0 to 4093.
+pub const HEIGHT: u32 = 8;
+/// A height after the escape is 4094 or 4095.
+pub const ESCAPED_BAD: u32 = 9;
+/// An unused bit of the last used word is set.
+pub const UNUSED_BIT: u32 = 10;
+/// More than 4096 pixels or numbers.
+pub const TOO_MANY: u32 = 11;
+/// The bytes end inside an adaptive number.
+pub const BYTES_END: u32 = 12;
+/// An adaptive number asks for a sixth byte or is outside its range.
+pub const NUMBER_RANGE: u32 = 13;
+/// A record's length, fixed fields, word alignment or leftover is wrong.
+pub const RECORD: u32 = 14;
+/// The record's kind is unknown.
+pub const KIND: u32 = 15;
+/// No table first, a second table, or a row number not risen.
+pub const PLACE: u32 = 16;

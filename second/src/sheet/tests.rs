@@ -1,0 +1,195 @@
+use super::*;
+use crate::known::{plain_table, table_bytes};
+use crate::reader::Codec;
+
+const READY: State = State { has_table: true, last_row: Some(4) };
+const EMPTY: State = State { has_table: false, last_row: None };
+
+fn record(kind: u16, body: &[u8]) -> Vec<u8> {
+    let length = (2 + body.len()) as u32;
+    [&length.to_le_bytes()[..], &kind.to_le_bytes(), body].concat()
+}
+
+fn rows(kind: u16, row: u16, count: u16, rest: &[u8]) -> Vec<u8> {
+    record(kind, &[&row.to_le_bytes()[..], &count.to_le_bytes(), rest].concat())
+}
+
+fn words(words: &[u32]) -> Vec<u8> {
+    table_bytes(words)
+}
+
+/// The number for a record under the plain table, checked to agree whether
+/// or not ample memory is lent.
+fn number(state: State, bytes: &[u8]) -> u32 {
+    let codec = Codec::open(&plain_table()).unwrap();
+    let judged = judge_record(state, Ok(&codec), bytes);
+    let mut lent = vec![0xA5; 4 * 4096];
+    assert_eq!(read_record(state, Ok(&codec), bytes, &mut lent), judged);
+    if judged.number != 0 {
+        let refused = RecordAnswer { number: judged.number, content: None, used: 0, state };
+        assert_eq!(judged, refused);
+        assert!(lent.iter().all(|&byte| byte == 0xA5));
+    }
+    judged.number
+}
+
+#[test]
+fn length_first() {
+    for cut in 0..4 {
+        assert_eq!(number(READY, &[9; 4][..cut]), 14);
+    }
+    for length in [0, 1, 32_775, u32::MAX] {
+        let bytes = [&length.to_le_bytes()[..], &[0; 40_000]].concat();
+        assert_eq!(number(READY, &bytes), 14);
+    }
+    let whole = record(9, &[]);
+    assert_eq!(number(READY, &whole), 15);
+    assert_eq!(number(READY, &whole[..5]), 14);
+    assert_eq!(number(READY, &[&32_774u32.to_le_bytes()[..], &[0; 32_774]].concat()), 15);
+    assert_eq!(number(READY, &[&32_774u32.to_le_bytes()[..], &[0; 32_773]].concat()), 14);
+}
+
+#[test]
+fn kind_before_place_before_body() {
+    for kind in [0, 5, 257, u16::MAX] {
+        assert_eq!(number(EMPTY, &record(kind, &[])), 15);
+    }
+    for kind in 2..5 {
+        assert_eq!(number(EMPTY, &record(kind, &[0])), 14, "fields missing");
+        assert_eq!(number(EMPTY, &rows(kind, 9, 9999, &[0; 8])), 16);
+        assert_eq!(number(READY, &rows(kind, 9999, 9999, &[0; 8])), 11);
+    }
+    assert_eq!(number(READY, &record(1, &[0; 7])), 14);
+    assert_eq!(number(READY, &record(1, &[0; 8])), 16, "a second table");
+    assert_eq!(number(EMPTY, &record(1, &[0; 8])), 1);
+    assert_eq!(number(EMPTY, &record(1, &[])), 1);
+    assert_eq!(number(EMPTY, &rows(2, 0, 1, &[0; 3])), 14, "not whole words");
+    assert_eq!(number(READY, &rows(2, 4, 5000, &[])), 16, "a row number not risen");
+    assert_eq!(number(READY, &rows(3, 4, 5000, &[])), 16);
+}
+
+#[test]
+fn tables() {
+    let table = plain_table();
+    assert_eq!(number(EMPTY, &record(1, &table)), 0);
+    assert_eq!(number(EMPTY, &record(1, &[&table[..], &[0; 4]].concat())), 1);
+    let answer = judge_record(EMPTY, Err(1), &record(1, &table));
+    let content = Content::Table { id: 1, low_limit: 3837, size: 512, worst: 14 };
+    assert_eq!(answer.content, Some(content));
+    assert_eq!(answer.state, State { has_table: true, last_row: None });
+    assert_eq!(answer.used, 6 + table.len());
+}
+
+#[test]
+fn packed_rows() {
+    assert_eq!(number(READY, &rows(2, 5, 3, &words(&[3139072, 2]))), 0);
+    assert_eq!(number(READY, &rows(2, 5, 4, &words(&[3139072, 2]))), 8);
+    assert_eq!(number(READY, &rows(2, 5, 3, &words(&[3139072]))), 6);
+    assert_eq!(number(READY, &rows(2, 5, 3, &words(&[3139072, 6, 0]))), 10);
+    assert_eq!(number(READY, &rows(2, 5, 3, &words(&[3139072, 2, 0]))), 14);
+    assert_eq!(number(READY, &rows(2, 5, 0, &words(&[]))), 0);
+    assert_eq!(number(READY, &rows(2, 5, 0, &words(&[0]))), 14);
+    let answer = judge_record(READY, Err(3), &rows(2, 5, 9999, &[]));
+    assert_eq!(answer.number, 3, "the table's refusal before the row's");
+}
+
+#[test]
+fn plain_rows() {
+    assert_eq!(number(READY, &rows(3, 5, 2, &[255, 15, 0, 0])), 0);
+    assert_eq!(number(READY, &rows(3, 5, 2, &[0, 16, 0, 0])), 4);
+    assert_eq!(number(READY, &rows(3, 5, 1, &[0, 16, 0, 0])), 14);
+    assert_eq!(number(READY, &rows(3, 5, 3, &[0, 16, 0, 0])), 14);
+    assert_eq!(number(READY, &rows(3, 5, 4096, &[0; 8192])), 0);
+    assert_eq!(number(READY, &rows(3, 5, 4097, &[0; 8194])), 11);
+}
+
+#[test]
+fn lines() {
+    let line = |count: u16, bytes: &[u8]| {
+        number(READY, &record(4, &[&count.to_le_bytes()[..], bytes].concat()))
+    };
+    assert_eq!(line(0, &[]), 0);
+    assert_eq!(line(2, &[0x7F, 0x80, 0x40]), 0);
+    assert_eq!(line(2, &[0x7F, 0x80]), 12);
+    assert_eq!(line(2, &[0x7F]), 12);
+    assert_eq!(line(1, &[0x7F, 0x80]), 14);
+    assert_eq!(line(2, &[0x80, 0x80, 0x80, 0x80, 0x80, 0x80]), 13);
+    assert_eq!(line(4097, &[0; 4097]), 11);
+    assert_eq!(line(4096, &[0; 4096]), 0);
+}
+
+#[test]
+fn lent_memory() {
+    let codec = Codec::open(&plain_table()).unwrap();
+    let read = |bytes: &[u8], lent: &mut [u8]| read_record(READY, Ok(&codec), bytes, lent).number;
+    let mut lent = [9; 6];
+    assert_eq!(read(&rows(2, 5, 2, &words(&[3992])), &mut lent), 0);
+    assert_eq!(lent, [204, 0, 255, 15, 9, 9]);
+    assert_eq!(read(&rows(3, 5, 1, &[1, 2]), &mut lent), 0);
+    assert_eq!(lent, [1, 2, 255, 15, 9, 9]);
+    assert_eq!(read(&record(4, &[1, 0, 0x7E]), &mut lent), 0);
+    assert_eq!(lent, [254, 255, 255, 255, 9, 9]);
+    // Kind 2: room is judged before the items; kinds 3 and 4: last.
+    assert_eq!(read(&rows(2, 5, 4, &words(&[!0])), &mut lent), 5);
+    assert_eq!(read(&rows(3, 5, 4, &[255; 8]), &mut lent), 4);
+    assert_eq!(read(&rows(3, 5, 4, &[1; 8]), &mut lent), 5);
+    assert_eq!(read(&record(4, &[2, 0, 0, 0, 0]), &mut lent), 14);
+    assert_eq!(read(&record(4, &[2, 0, 0, 0]), &mut lent), 5);
+    assert_eq!(lent, [254, 255, 255, 255, 9, 9]);
+}
+
+/// Writes with ample room and checks that the record reads back in order.
+fn written(state: State, kind: u16, row: u16, content: &[u8]) -> (u32, Vec<u8>) {
+    let mut out = vec![0xA5; 40_000];
+    let answer = write_record(state, &plain_table(), kind, row, content, &mut out);
+    assert!(out[answer.bytes..].iter().all(|&byte| byte == 0xA5));
+    if answer.number != 0 {
+        assert_eq!((answer.bytes, answer.state), (0, state));
+        return (answer.number, vec![]);
+    }
+    out.truncate(answer.bytes);
+    let codec = Codec::open(&plain_table()).unwrap();
+    let judged = judge_record(state, Ok(&codec), &out);
+    assert_eq!((judged.number, judged.used, judged.state), (0, answer.bytes, answer.state));
+    (0, out)
+}
+
+#[test]
+fn writer_writes_records() {
+    let table = plain_table();
+    assert_eq!(written(EMPTY, 1, 0, &table), (0, record(1, &table)));
+    let pixels = [0, 0, 254, 2, 0, 0];
+    assert_eq!(written(READY, 2, 5, &pixels), (0, rows(2, 5, 3, &words(&[3139072, 2]))));
+    assert_eq!(written(READY, 3, 5, &pixels), (0, rows(3, 5, 3, &pixels)));
+    assert_eq!(written(READY, 2, 5, &[]), (0, rows(2, 5, 0, &[])));
+    let numbers = [64i32, -1].map(i32::to_le_bytes).concat();
+    assert_eq!(written(READY, 4, 0, &numbers), (0, record(4, &[2, 0, 0x80, 0x40, 0x7F])));
+}
+
+#[test]
+fn writer_refuses_in_order() {
+    let many = vec![255; 4 * 4097];
+    assert_eq!(written(EMPTY, 0, 0, &many).0, 15);
+    assert_eq!(written(EMPTY, 5, 0, &many).0, 15);
+    assert_eq!(written(READY, 1, 0, &many).0, 16);
+    assert_eq!(written(EMPTY, 1, 0, &[1, 2, 3]).0, 1);
+    for kind in 2..5 {
+        assert_eq!(written(EMPTY, kind, 9, &many).0, 16);
+        assert_eq!(written(READY, kind, 9, &many).0, 11);
+    }
+    for kind in 2..4 {
+        assert_eq!(written(READY, kind, 4, &many).0, 16);
+        assert_eq!(written(READY, kind, 9, &[0, 16]).0, 4);
+    }
+    let mut out = [7; 13];
+    let mut refused = |table: &[u8], kind, content: &[u8]| {
+        let answer = write_record(READY, table, kind, 9, content, &mut out);
+        assert_eq!(out, [7; 13]);
+        answer.number
+    };
+    assert_eq!(refused(&[], 2, &many), 1);
+    assert_eq!(refused(&plain_table(), 2, &[0, 0]), 5, "14 bytes");
+    assert_eq!(refused(&plain_table(), 2, &[0, 16]), 4);
+    assert_eq!(refused(&[], 3, &[0; 4]), 5, "the table is not looked at");
+    assert_eq!(refused(&[], 4, &[0; 24]), 5);
+}

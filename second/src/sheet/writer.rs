@@ -1,0 +1,104 @@
+//! Writing one record.
+
+use super::{State, KIND_LINE, KIND_PACKED, KIND_PLAIN, KIND_TABLE};
+use crate::adaptive::write_signed;
+use crate::refusal::{DONE, KIND, PIXEL, PLACE, ROOM, TOO_MANY};
+use crate::row::{pack_under, room_under, MAX_PIXELS, PIXEL_SPOT};
+use crate::table::Table;
+
+#[derive(Clone, Copy, PartialEq, Eq, Debug)]
+pub struct WriteAnswer {
+    pub number: u32,
+    /// The record's bytes, its length field included.
+    pub bytes: usize,
+    /// The state after the record; as given when refused.
+    pub state: State,
+}
+
+/// Writes a record of this kind. The content is a table's bytes, pixels of 2
+/// bytes, or numbers of 4 bytes; `table` is the sheet's table, looked at for
+/// kind 2 only; `row` for kinds 2 and 3 only.
+pub fn write_record(
+    state: State,
+    table: &[u8],
+    kind: u16,
+    row: u16,
+    content: &[u8],
+    out: &mut [u8],
+) -> WriteAnswer {
+    let written = body_of(state, table, kind, row, content).and_then(|body| {
+        let length = (2 + body.len()) as u32;
+        let record = [&length.to_le_bytes()[..], &kind.to_le_bytes(), &body].concat();
+        out.get_mut(..record.len()).ok_or(ROOM)?.copy_from_slice(&record);
+        Ok(record.len())
+    });
+    match written {
+        Ok(bytes) => WriteAnswer { number: DONE, bytes, state: state.after(kind, row) },
+        Err(number) => WriteAnswer { number, bytes: 0, state },
+    }
+}
+
+fn body_of(
+    state: State,
+    table: &[u8],
+    kind: u16,
+    row: u16,
+    content: &[u8],
+) -> Result<Vec<u8>, u32> {
+    if !(KIND_TABLE..=KIND_LINE).contains(&kind) {
+        return Err(KIND);
+    }
+    if !state.allows(kind, row) {
+        return Err(PLACE);
+    }
+    match kind {
+        KIND_TABLE => Table::parse(content).map(|_| content.to_vec()),
+        KIND_PACKED => packed_body(&Table::parse(table)?, row, content),
+        KIND_PLAIN => plain_body(row, content),
+        _ => line_body(content),
+    }
+}
+
+fn row_fields(row: u16, pixels: usize) -> Vec<u8> {
+    [row.to_le_bytes(), (pixels as u16).to_le_bytes()].concat()
+}
+
+fn packed_body(table: &Table, row: u16, content: &[u8]) -> Result<Vec<u8>, u32> {
+    let count = content.len() / 2;
+    let (number, room) = room_under(table, count as u64);
+    if number != DONE {
+        return Err(number);
+    }
+    let mut words = vec![0; 4 * room as usize];
+    let (number, bits) = pack_under(table, content, &mut words);
+    if number != DONE {
+        return Err(number);
+    }
+    words.truncate(4 * bits.div_ceil(32) as usize);
+    Ok([row_fields(row, count), words].concat())
+}
+
+fn plain_body(row: u16, content: &[u8]) -> Result<Vec<u8>, u32> {
+    let (pixels, _) = content.as_chunks::<2>();
+    if pixels.len() > MAX_PIXELS {
+        return Err(TOO_MANY);
+    }
+    if pixels.iter().any(|&pixel| u16::from_le_bytes(pixel) > PIXEL_SPOT) {
+        return Err(PIXEL);
+    }
+    Ok([row_fields(row, pixels.len()), pixels.concat()].concat())
+}
+
+fn line_body(content: &[u8]) -> Result<Vec<u8>, u32> {
+    let (numbers, _) = content.as_chunks::<4>();
+    if numbers.len() > MAX_PIXELS {
+        return Err(TOO_MANY);
+    }
+    let mut body = (numbers.len() as u16).to_le_bytes().to_vec();
+    for &number in numbers {
+        let mut bytes = [0; 5];
+        let (_, used) = write_signed(i32::from_le_bytes(number), &mut bytes);
+        body.extend(&bytes[..used]);
+    }
+    Ok(body)
+}

@@ -13,11 +13,11 @@ use lib.Signed.{_≤ℤ_}
 use lib.Dec.{ltb, eqb}
 use Rattle.bitstream.specs.Bits.{begins, wordsOf, halvesOf, stream, wordsFor}
 use Rattle.bitstream.specs.Bits.Laws.{Below}
-use Rattle.answer.specs.Outcome.{wrote}
+use Rattle.answer.specs.Outcome.{answerOf, wrote}
 use Rattle.row_format.specs.Lists.{any}
-use Rattle.row_format.specs.Table.{lowLimit, tableSize, codewordAt, escapeLength, signed, entryDifference, hasDifference, verdict, maxItemBits}
-use Rattle.row_format.specs.Table.Laws.{accepted, signed-least, signed-most, signed-differenceTo, length-codewordAt, escapeLength-least, codewordAt-least, codewordAt-most, codewordAt-only, entryDifference-most, maxItemBits-least, maxItemBits-most}
-use Rattle.row_format.specs.Row.{Item, escape, State, fresh, previous, differenceTo, byDifference, itemFor, itemsFor, pixelsOf, rowBits}
+use Rattle.row_format.specs.Table.{lowLimit, tableSize, codewordAt, escapeLength, signed, entryDifference, hasDifference, verdict, tableNumber, maxItemBits}
+use Rattle.row_format.specs.Table.Laws.{Accepted, accepted, verdict-accepted, signed-least, signed-most, signed-differenceTo, length-codewordAt, escapeLength-least, codewordAt-least, codewordAt-most, codewordAt-only, entryDifference-most, maxItemBits-least, maxItemBits-most}
+use Rattle.row_format.specs.Row.{Item, escape, State, fresh, previous, differenceTo, byDifference, itemFor, itemsFor, pixelsOf, bits, rowBits}
 use Rattle.row_format.specs.Row.Laws.{itemFor-escape}
 use Rattle.row_format.specs.Reading.{readItem, done, readItems, stray, anyNeedless}
 use Rattle.row_format.specs.Calls.{packed, unpacked, bitsUsed, room}
@@ -25,12 +25,12 @@ use Rattle.row_format.specs.Calls.Laws.{Packable, packable, packed-numbe
 use Bounds.{bitsOfReading, readItem-uses, bitsUsed-most, length-rowBits}
 use RoundTrip.{pixelsOf-itemsFor, unpacked-rowBytes, unpacked-packed}
 use Locality.{unpacked-alike}
-use Room.{packNumber-five, packNumber-room}
+use Room.{packNumber-five, packNumber-done, room-done, packNumber-room}
 use Tightness.{steep, length-steep, any-steep, longest-escape, length-rowBits-steep}
 use OwnWords.{own-words, own-words-packed}
 use Memory.{Kept, Within, packed-kept, packed-within, unpacked-kept, unpacked-within}
 use Numbers.{packNumber-in, unpacked-in}
-use Done.{unpacked-accepts}
+use Done.{unpacked-accepts, unpacked-count, bitsUsed-count}
 pub mod Search
 pub mod Bounds
 pub mod Items
@@ -46,6 +46,10 @@ pub mod Numbers
 pub mod Done
 
 -- ---- an accepted table
+-- a table is accepted exactly when what document 01 asks of one is true; the sentences one by one follow
+pub table-accepted : (t : List ℕ) → (verdict t ≡ 0) ↔ Accepted t
+table-accepted t = (accepted t, verdict-accepted t)
+
 module _ (t : List ℕ) (ok : verdict t ≡ 0) where
   -- "A table is 6 + tableSize words"; "tableSize is 1 to 8187, and lowLimit + tableSize is at most 8187"
   pub table-sizes :
@@ -137,10 +141,25 @@ pub room-refused : (tb pb m : List ℕ) → Packable tb (halvesOf pb)
     → (packed tb pb m .answer .number ≡ 5) ↔ (length m / 4 < wordsFor (length (rowBits (wordsOf tb) (halvesOf pb))))
 room-refused tb pb m ok = rw (packed-number tb pb m) (packNumber-five tb (halvesOf pb) (length m / 4) ok)
 
+pub room-granted : (tb pb m : List ℕ) → Packable tb (halvesOf pb)
+    → wordsFor (length (rowBits (wordsOf tb) (halvesOf pb))) ≤ length m / 4 → packed tb pb m .answer .number ≡ 0
+room-granted tb pb m ok h = packed-number tb pb m ∙ packNumber-done tb (halvesOf pb) (length m / 4) ok h
+
 -- "when done, it reports exactly the bits it takes"
 pub packed-bits : (tb pb m : List ℕ) → packed tb pb m .answer .number ≡ 0
     → packed tb pb m .answer .count ≡ length (rowBits (wordsOf tb) (halvesOf pb))
 packed-bits tb pb m h = rw (packed-done tb pb m (sym (packed-number tb pb m) ∙ h))
+
+-- "The bit count reported by either call is the sum of the items' lengths": of a done unpacking, these are the bits it used
+pub unpacked-bits : (tb wb : List ℕ) (n : ℕ) (m : List ℕ) (h : unpacked tb wb n m .answer .number ≡ 0)
+    → (unpacked tb wb n m .answer .count ≡ length (bits (wordsOf tb) (unpacked-accepts tb wb n m h .items)))
+    × (bitsUsed tb wb n m ≡ unpacked tb wb n m .answer .count)
+unpacked-bits tb wb n m h = let got = unpacked-accepts tb wb n m h in (unpacked-count tb wb n m got, bitsUsed-count tb wb n m got)
+
+-- "The room question answers n x M / 32, rounded up"
+pub room-answer : (tb : List ℕ) (n : ℕ) → tableNumber tb ≡ 0 → n ≤ 4096
+    → room tb n ≡ answerOf 0 (wordsFor (n * maxItemBits (wordsOf tb)))
+room-answer = room-done
 
 -- the room question's answer is enough for every row of so many pixels
 pub room-enough : (tb pb m : List ℕ) → Packable tb (halvesOf pb) → room tb (length (halvesOf pb)) .count ≤ length m / 4
@@ -172,10 +191,10 @@ row-bits-tight t ok least most lengths n =
     (steep n, length-steep n, any-steep n, length-rowBits-steep t least most n (longest-escape t (accepted t ok) lengths))
 
 -- the two steps that it names, held as counts from -4093
-least-difference : signed 0 ≡ negsuc 4092
+pub least-difference : signed 0 ≡ negsuc 4092
 least-difference = refl
 
-most-difference : signed 8186 ≡ pos 4093
+pub most-difference : signed 8186 ≡ pos 4093
 most-difference = refl
 
 -- ---- demand 1

@@ -8,10 +8,13 @@ use lib.ListN.{length}
 use Rattle.bitstream.specs.Bits.{flat, bytesOf, wordsOf, stream}
 use Rattle.answer.specs.Outcome.{wrote, unless}
 use Rattle.row_format.specs.Lists.Laws.{by-test}
-use Rattle.row_format.specs.Row.{Item, fresh, pixelsOf}
+use Rattle.row_format.specs.Row.{Item, fresh, pixelsOf, bits}
 use Rattle.row_format.specs.Reading.{Run, done, stop, readItems, stray}
-use Rattle.row_format.specs.Calls.{afterRun, unpackNumber, unpacked}
-use Rattle.row_format.specs.Calls.Laws.{Unpackable, unpackable}
+use Rattle.row_format.specs.Calls.{afterRun, unpackNumber, unpacked, bitsUsed}
+use Rattle.row_format.specs.Calls.Laws.{Unpackable, unpackable, unpackNumber-unpackable}
+use Rattle.bitstream.specs.Bits.Laws.{below-flat}
+use Rattle.row_format.specs.Table.Laws.{accepted, tableNumber-verdict}
+use Rattle.row_format.specs.Theorems.Standing.{readItems-stands}
 use Rattle.row_format.specs.Theorems.Numbers.{StopIn, readItems-in}
 
 -- the items and bits of a reading that was accepted, and what it left
@@ -49,3 +52,15 @@ module _ (tb wb : List ℕ) (n : ℕ) (m : List ℕ) where
       let real : StopIn nonzero (readItems t n (stream wb)) =
       readItems-in nonzero (λ e. omega arith) (λ e. omega arith) (λ e. omega arith) (λ e. omega arith) t n (stream wb) in
       by-run (unpackNumber tb n (length m / 2)) refl (readItems t n (stream wb)) refl real h
+
+-- its count is the sum of the items' lengths, and the bits that it used
+module _ (tb wb : List ℕ) (n : ℕ) (m : List ℕ) (got : Accepts tb wb n m) where
+  pub unpacked-count : unpacked tb wb n m .answer .count ≡ length (bits (wordsOf tb) (got .items))
+  unpacked-count =
+      let ok = accepted (wordsOf tb) (tableNumber-verdict tb (got .given .table)) in
+      let there = readItems-stands (wordsOf tb) ok n (stream wb) (got .items) (got .used) (below-flat 8 _) (got .read) in
+      rw (got .left) (there .front .size)
+
+  pub bitsUsed-count : bitsUsed tb wb n m ≡ unpacked tb wb n m .answer .count
+  unfolding bitsUsed
+  bitsUsed-count = rw (got .left, unpackNumber-unpackable tb n (length m / 2) (got .given), got .read)

@@ -9,6 +9,7 @@ use Rattle.bitstream.specs.Bits.{numOf, begins, wordsFor}
 use Rattle.row_format.specs.Lists.{any, least}
 use Rattle.row_format.specs.Table.{lowLimit, codewords, codewordAt}
 use Rattle.row_format.specs.Row.{Item, difference, badPixel, badBias, escape, State, fresh, past, previous, pixelOf, after, byDifference, itemFor}
+pub mod Laws
 
 -- the place of the first string that begins the rest; in an accepted table it is the only one
 pub data Match : Type 0 where

@@ -5,6 +5,7 @@ use mathlib.Core.List.{List, [], _∷_, _++_}
 use lib.Dec.{eqb}
 use Rattle.bitstream.specs.Bits.{digits}
 use Rattle.row_format.specs.Table.{lowLimit, hasDifference, codewordAt}
+pub mod Laws
 
 -- "An item is thus one of four": a difference (document 01: a step, held as its count from -4093), bad pixel, bad bias, or
 -- an escape (document 01: raw) with its height

@@ -2,7 +2,7 @@
 -- prove them. tb, pb and wb are the bytes of a table, of pixels and of words, t is a table's words, and m is the memory lent
 -- for writing, as it was. A table is accepted where its verdict is 0. M is maxItemBits t, and an item's bits are those of
 -- itemBits t. Assumes nothing.
-use Prim.Native.Nat.{ℕ, _+_, _*_, _/_, _^_, _≤_, _<_, zero-le}
+use Prim.Native.Nat.{ℕ, _+_, _*_, _/_, _^_, _≤_, _<_}
 use mathlib.Core.Path.{_≡_, refl, sym, _∙_}
 use mathlib.Core.Bool.{true, false}
 use mathlib.Core.List.{List, [], _∷_, _++_}
@@ -13,25 +13,27 @@ use lib.Signed.{_≤ℤ_}
 use lib.Dec.{ltb, eqb}
 use Rattle.bitstream.specs.Bits.{begins, wordsOf, halvesOf, stream, wordsFor}
 use Rattle.bitstream.specs.Bits.Laws.{Below}
-use Rattle.answer.specs.Outcome.{wrote}
+use Rattle.answer.specs.Outcome.{answerOf, wrote}
 use Rattle.row_format.specs.Lists.{any}
-use Rattle.row_format.specs.Table.{lowLimit, tableSize, codewordAt, escapeLength, signed, entryDifference, hasDifference, verdict, maxItemBits}
-use Rattle.row_format.specs.Table.Laws.{accepted, signed-least, signed-most, signed-differenceTo, length-codewordAt, escapeLength-least, codewordAt-least, codewordAt-most, codewordAt-only, entryDifference-most, maxItemBits-least, maxItemBits-most}
-use Rattle.row_format.specs.Row.{Item, escape, State, fresh, previous, differenceTo, byDifference, itemFor, itemsFor, pixelsOf, rowBits}
+use Rattle.row_format.specs.Table.{lowLimit, tableSize, codewordAt, escapeLength, signed, entryDifference, hasDifference, verdict, tableNumber, maxItemBits}
+use Rattle.row_format.specs.Table.Laws.{Accepted, accepted, verdict-accepted, signed-least, signed-most, signed-differenceTo, length-codewordAt, escapeLength-least, codewordAt-least, codewordAt-most, codewordAt-only, entryDifference-most, maxItemBits-least, maxItemBits-most}
+use Rattle.row_format.specs.Row.{Item, escape, State, fresh, previous, differenceTo, byDifference, itemFor, itemsFor, pixelsOf, bits, rowBits}
+use Rattle.row_format.specs.Row.Laws.{itemFor-escape}
 use Rattle.row_format.specs.Reading.{readItem, done, readItems, stray, anyNeedless}
 use Rattle.row_format.specs.Calls.{packed, unpacked, bitsUsed, room}
 use Rattle.row_format.specs.Calls.Laws.{Packable, packable, packed-number, packed-done, packed-front, rowBytes}
 use Bounds.{bitsOfReading, readItem-uses, bitsUsed-most, length-rowBits}
-use RoundTrip.{itemFor-escape, pixelsOf-itemsFor, unpacked-rowBytes, unpacked-packed}
+use RoundTrip.{pixelsOf-itemsFor, unpacked-rowBytes, unpacked-packed}
 use Locality.{unpacked-alike}
-use Room.{packNumber-five, packNumber-room}
+use Room.{packNumber-five, packNumber-done, room-done, packNumber-room}
 use Tightness.{steep, length-steep, any-steep, longest-escape, length-rowBits-steep}
 use OwnWords.{own-words, own-words-packed}
 use Memory.{Kept, Within, packed-kept, packed-within, unpacked-kept, unpacked-within}
 use Numbers.{packNumber-in, unpacked-in}
-use Done.{unpacked-accepts}
+use Done.{unpacked-accepts, unpacked-count, bitsUsed-count}
 pub mod Search
 pub mod Bounds
+pub mod Items
 pub mod RoundTrip
 pub mod Words
 pub mod Locality
@@ -44,9 +46,14 @@ pub mod Numbers
 pub mod Done
 
 -- ---- an accepted table
+-- a table is accepted exactly when what document 01 asks of one is true; the sentences one by one follow
+pub table-accepted : (t : List ℕ) → (verdict t ≡ 0) ↔ Accepted t
+table-accepted t = (accepted t, verdict-accepted t)
+
 module _ (t : List ℕ) (ok : verdict t ≡ 0) where
   -- "A table is 6 + tableSize words"; "tableSize is 1 to 8187, and lowLimit + tableSize is at most 8187"
-  pub table-sizes : (length t ≡ 6 + tableSize t) × (1 ≤ tableSize t) × (tableSize t ≤ 8187) × (lowLimit t + tableSize t ≤ 8187)
+  pub table-sizes :
+      (length t ≡ 6 + tableSize t) × (1 ≤ tableSize t) × (tableSize t ≤ 8187) × (lowLimit t + tableSize t ≤ 8187)
   table-sizes = let a = accepted t ok in (a .words, a .size-least, a .size-most, a .sum-most)
 
   -- "Lengths are 1 to 27, the raw string's 1 to 15"
@@ -61,7 +68,8 @@ module _ (t : List ℕ) (ok : verdict t ≡ 0) where
   codeword-above j h = rw (length-codewordAt t j) (accepted t ok .word j h .above)
 
   -- "So steps lie within -4093 to 4093"
-  pub entry-differences : (i : ℕ) → i < tableSize t → (negsuc 4092 ≤ℤ signed (entryDifference t i)) × (signed (entryDifference t i) ≤ℤ pos 4093)
+  pub entry-differences : (i : ℕ) → i < tableSize t
+      → (negsuc 4092 ≤ℤ signed (entryDifference t i)) × (signed (entryDifference t i) ≤ℤ pos 4093)
   entry-differences i h =
       let k = entryDifference t i in
       (signed-least k, signed-most k (entryDifference-most t (accepted t ok) i h))
@@ -85,13 +93,14 @@ lacking-difference = itemFor-escape
 
 -- every pixel at most 4095 is the pixel that its item stands for
 pub items-pixels : (t ps : List ℕ) → any (ltb 4095) ps ≡ false → pixelsOf fresh (itemsFor t fresh ps) ≡ ps
-items-pixels t ps = pixelsOf-itemsFor t fresh ps zero-le
+items-pixels = pixelsOf-itemsFor
 
 -- "unpacking gives that row back and uses exactly the bits written": from the words that a done packing wrote, whatever
 -- follows them, the answer is 0 and the bits written, and the pixels' bytes are the row's own
 module _ (tb pb m : List ℕ) (bytes : Below 256 pb) (packs : packed tb pb m .answer .number ≡ 0) where
   pub round-trip : (rest m′ : List ℕ) → length (halvesOf pb) ≤ length m′ / 2
-      → unpacked tb (take (4 * wordsFor (packed tb pb m .answer .count)) (packed tb pb m .memory) ++ rest) (length (halvesOf pb)) m′
+      → let front = take (4 * wordsFor (packed tb pb m .answer .count)) (packed tb pb m .memory) in
+      unpacked tb (front ++ rest) (length (halvesOf pb)) m′
       ≡ wrote (packed tb pb m .answer .count) (take (2 * length (halvesOf pb)) pb) m′
   round-trip rest m′ room =
       let e = sym (packed-number tb pb m) ∙ packs in
@@ -111,10 +120,12 @@ pub used-words-own : (t : List ℕ) → verdict t ≡ 0 → (wb : List ℕ) → 
 used-words-own t ok = own-words t (accepted t ok)
 
 -- the same of a done unpacking, and of a packing, with room enough, of the pixels that it left
-pub unpacked-words-own : (tb wb : List ℕ) (n : ℕ) (m : List ℕ) → Below 256 wb → (h : unpacked tb wb n m .answer .number ≡ 0) (mw : List ℕ)
+pub unpacked-words-own : (tb wb : List ℕ) (n : ℕ) (m : List ℕ) → Below 256 wb
+    → (h : unpacked tb wb n m .answer .number ≡ 0) (mw : List ℕ)
     → let pb = take (2 * n) (unpacked tb wb n m .memory) in
     packed tb pb mw .answer .number ≡ 0
-    → (take (4 * wordsFor (unpacked tb wb n m .answer .count)) wb ≡ take (4 * wordsFor (packed tb pb mw .answer .count)) (packed tb pb mw .memory))
+    → (take (4 * wordsFor (unpacked tb wb n m .answer .count)) wb
+    ≡ take (4 * wordsFor (packed tb pb mw .answer .count)) (packed tb pb mw .memory))
     ↔ (anyNeedless (wordsOf tb) fresh (unpacked-accepts tb wb n m h .items) ≡ false)
 unpacked-words-own tb wb n m bytes h mw e =
     let pb = take (2 * n) (unpacked tb wb n m .memory) in
@@ -130,12 +141,29 @@ pub room-refused : (tb pb m : List ℕ) → Packable tb (halvesOf pb)
     → (packed tb pb m .answer .number ≡ 5) ↔ (length m / 4 < wordsFor (length (rowBits (wordsOf tb) (halvesOf pb))))
 room-refused tb pb m ok = rw (packed-number tb pb m) (packNumber-five tb (halvesOf pb) (length m / 4) ok)
 
+pub room-granted : (tb pb m : List ℕ) → Packable tb (halvesOf pb)
+    → wordsFor (length (rowBits (wordsOf tb) (halvesOf pb))) ≤ length m / 4 → packed tb pb m .answer .number ≡ 0
+room-granted tb pb m ok h = packed-number tb pb m ∙ packNumber-done tb (halvesOf pb) (length m / 4) ok h
+
 -- "when done, it reports exactly the bits it takes"
-pub packed-bits : (tb pb m : List ℕ) → packed tb pb m .answer .number ≡ 0 → packed tb pb m .answer .count ≡ length (rowBits (wordsOf tb) (halvesOf pb))
+pub packed-bits : (tb pb m : List ℕ) → packed tb pb m .answer .number ≡ 0
+    → packed tb pb m .answer .count ≡ length (rowBits (wordsOf tb) (halvesOf pb))
 packed-bits tb pb m h = rw (packed-done tb pb m (sym (packed-number tb pb m) ∙ h))
 
+-- "The bit count reported by either call is the sum of the items' lengths": of a done unpacking, these are the bits it used
+pub unpacked-bits : (tb wb : List ℕ) (n : ℕ) (m : List ℕ) (h : unpacked tb wb n m .answer .number ≡ 0)
+    → (unpacked tb wb n m .answer .count ≡ length (bits (wordsOf tb) (unpacked-accepts tb wb n m h .items)))
+    × (bitsUsed tb wb n m ≡ unpacked tb wb n m .answer .count)
+unpacked-bits tb wb n m h = let got = unpacked-accepts tb wb n m h in (unpacked-count tb wb n m got, bitsUsed-count tb wb n m got)
+
+-- "The room question answers n x M / 32, rounded up"
+pub room-answer : (tb : List ℕ) (n : ℕ) → tableNumber tb ≡ 0 → n ≤ 4096
+    → room tb n ≡ answerOf 0 (wordsFor (n * maxItemBits (wordsOf tb)))
+room-answer = room-done
+
 -- the room question's answer is enough for every row of so many pixels
-pub room-enough : (tb pb m : List ℕ) → Packable tb (halvesOf pb) → room tb (length (halvesOf pb)) .count ≤ length m / 4 → packed tb pb m .answer .number ≡ 0
+pub room-enough : (tb pb m : List ℕ) → Packable tb (halvesOf pb) → room tb (length (halvesOf pb)) .count ≤ length m / 4
+    → packed tb pb m .answer .number ≡ 0
 room-enough tb pb m ok h = packed-number tb pb m ∙ packNumber-room tb (halvesOf pb) (length m / 4) ok h
 
 -- "Whatever stands in the words, unpacking n pixels never uses more than n times M bits, done or refused"; under any table
@@ -150,7 +178,8 @@ item-bits = readItem-uses
 -- pixels are unpacked from them"; under any table
 pub words-alike : (tb wb wb′ : List ℕ) (n : ℕ) (m : List ℕ)
     → let k = wordsFor (n * maxItemBits (wordsOf tb)) in
-    4 * k ≤ length wb → 4 * k ≤ length wb′ → take (4 * k) wb ≡ take (4 * k) wb′ → unpacked tb wb n m ≡ unpacked tb wb′ n m
+    4 * k ≤ length wb → 4 * k ≤ length wb′ → take (4 * k) wb ≡ take (4 * k) wb′
+    → unpacked tb wb n m ≡ unpacked tb wb′ n m
 words-alike = unpacked-alike
 
 -- "If the table has neither -4093 nor +4093 as a step, and no string is longer than the raw string's length plus 12, then for
@@ -162,30 +191,33 @@ row-bits-tight t ok least most lengths n =
     (steep n, length-steep n, any-steep n, length-rowBits-steep t least most n (longest-escape t (accepted t ok) lengths))
 
 -- the two steps that it names, held as counts from -4093
-least-difference : signed 0 ≡ negsuc 4092
+pub least-difference : signed 0 ≡ negsuc 4092
 least-difference = refl
 
-most-difference : signed 8186 ≡ pos 4093
+pub most-difference : signed 8186 ≡ pos 4093
 most-difference = refl
 
 -- ---- demand 1
 -- "each call .. answers with a number from document 01", and its order lists which
 pub packed-numbers : (tb pb m : List ℕ) → any (eqb (packed tb pb m .answer .number)) (0 ∷ 1 ∷ 2 ∷ 3 ∷ 11 ∷ 4 ∷ 5 ∷ []) ≡ true
 unfolding any
-packed-numbers tb pb m = rw (packed-number tb pb m)
-    (packNumber-in (λ e. any (eqb e) (0 ∷ 1 ∷ 2 ∷ 3 ∷ 11 ∷ 4 ∷ 5 ∷ []) ≡ true) tb (halvesOf pb) (length m / 4) refl refl refl refl refl refl refl)
+packed-numbers tb pb m =
+    let known : ℕ → Type 0 = λ e. any (eqb e) (0 ∷ 1 ∷ 2 ∷ 3 ∷ 11 ∷ 4 ∷ 5 ∷ []) ≡ true in
+    rw (packed-number tb pb m) (packNumber-in known tb (halvesOf pb) (length m / 4) refl refl refl refl refl refl refl)
 
 pub unpacked-numbers : (tb wb : List ℕ) (n : ℕ) (m : List ℕ)
     → any (eqb (unpacked tb wb n m .answer .number)) (0 ∷ 1 ∷ 2 ∷ 3 ∷ 11 ∷ 5 ∷ 6 ∷ 7 ∷ 8 ∷ 9 ∷ 10 ∷ []) ≡ true
 unfolding any
 unpacked-numbers tb wb n m =
-    unpacked-in (λ e. any (eqb e) (0 ∷ 1 ∷ 2 ∷ 3 ∷ 11 ∷ 5 ∷ 6 ∷ 7 ∷ 8 ∷ 9 ∷ 10 ∷ []) ≡ true) refl refl refl refl tb wb n m refl refl refl refl refl refl refl
+    let known : ℕ → Type 0 = λ e. any (eqb e) (0 ∷ 1 ∷ 2 ∷ 3 ∷ 11 ∷ 5 ∷ 6 ∷ 7 ∷ 8 ∷ 9 ∷ 10 ∷ []) ≡ true in
+    unpacked-in known refl refl refl refl tb wb n m refl refl refl refl refl refl refl
 
 -- "A refused call gives its number, zero for every count and value, and leaves the lent memory as found"
 pub packed-refused-keeps : (tb pb m : List ℕ) → (packed tb pb m .answer .number ≡ 0 → ⊥) → Kept m (packed tb pb m)
 packed-refused-keeps = packed-kept
 
-pub unpacked-refused-keeps : (tb wb : List ℕ) (n : ℕ) (m : List ℕ) → (unpacked tb wb n m .answer .number ≡ 0 → ⊥) → Kept m (unpacked tb wb n m)
+pub unpacked-refused-keeps : (tb wb : List ℕ) (n : ℕ) (m : List ℕ) → (unpacked tb wb n m .answer .number ≡ 0 → ⊥)
+    → Kept m (unpacked tb wb n m)
 unpacked-refused-keeps = unpacked-kept
 
 -- "A done call writes only the pixels, words or bytes that it counts"

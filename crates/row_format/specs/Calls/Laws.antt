@@ -30,6 +30,9 @@ pub unless-number : (e : ℕ) (m : List ℕ) (o : Outcome) → o .answer .number
 unless-number zero m o h = h
 unless-number (suc e) m o h = refl
 
+tooMany-zero : (n : ℕ) → tooMany n ≡ 0 → n ≤ 4096
+tooMany-zero n e = ltb-false 4096 n (cond-zero-test (ltb 4096 n) 10 0 e)
+
 -- ---- packing
 -- what the refusals before the one for room ask of a table and a row
 pub record Packable (tb ps : List ℕ) : Type 0 where
@@ -52,14 +55,16 @@ packable tb ps roomWords e =
     let after-few = orElse-zero-right (tooMany (length ps)) rest after-table in
     record {
       table = orElse-zero-left (tableNumber tb) (tooMany (length ps) orElse rest) e;
-      few = ltb-false 4096 (length ps) (cond-zero-test (ltb 4096 (length ps)) 10 0 (orElse-zero-left (tooMany (length ps)) rest after-table));
+      few = tooMany-zero (length ps) (orElse-zero-left (tooMany (length ps)) rest after-table);
       pixels = cond-zero-test (any (ltb 4095) ps) 3 0 (orElse-zero-left (refuseIf (any (ltb 4095) ps) 4) full after-few);
     }
 
-pub packNumber-zero-room : (tb ps : List ℕ) (roomWords : ℕ) → packNumber tb ps roomWords ≡ 0 → wordsFor (length (rowBits (wordsOf tb) ps)) ≤ roomWords
+pub packNumber-zero-room : (tb ps : List ℕ) (roomWords : ℕ) → packNumber tb ps roomWords ≡ 0
+    → wordsFor (length (rowBits (wordsOf tb) ps)) ≤ roomWords
 packNumber-zero-room tb ps roomWords e =
     let need = wordsFor (length (rowBits (wordsOf tb) ps)) in
-    ltb-false roomWords need (cond-zero-test (ltb roomWords need) 4 0 (sym (packNumber-packable tb ps roomWords (packable tb ps roomWords e)) ∙ e))
+    let left = sym (packNumber-packable tb ps roomWords (packable tb ps roomWords e)) ∙ e in
+    ltb-false roomWords need (cond-zero-test (ltb roomWords need) 4 0 left)
 
 -- the bytes that packing writes for a row
 abbrev pub rowBytes : List ℕ → List ℕ → List ℕ
@@ -70,22 +75,25 @@ pub packed-done : (tb pb m : List ℕ) → packNumber tb (halvesOf pb) (length m
 unfolding packed packedRow
 packed-done tb pb m e = rw e
 
-pub packed-refused : (tb pb m : List ℕ) (e : ℕ) → packNumber tb (halvesOf pb) (length m / 4) ≡ suc e → packed tb pb m ≡ refused (suc e) m
+pub packed-refused : (tb pb m : List ℕ) (e : ℕ) → packNumber tb (halvesOf pb) (length m / 4) ≡ suc e
+    → packed tb pb m ≡ refused (suc e) m
 unfolding packed
 packed-refused tb pb m e h = rw h
 
 -- the number that a packing answers is that of its refusals
 pub packed-number : (tb pb m : List ℕ) → packed tb pb m .answer .number ≡ packNumber tb (halvesOf pb) (length m / 4)
 unfolding packed packedRow
-packed-number tb pb m = unless-number (packNumber tb (halvesOf pb) (length m / 4)) m (packedRow (wordsOf tb) (halvesOf pb) m) refl
+packed-number tb pb m =
+    unless-number (packNumber tb (halvesOf pb) (length m / 4)) m (packedRow (wordsOf tb) (halvesOf pb) m) refl
 
 -- the words that a done packing wrote
 pub packed-front : (tb pb m : List ℕ) → packNumber tb (halvesOf pb) (length m / 4) ≡ 0
     → take (4 * wordsFor (packed tb pb m .answer .count)) (packed tb pb m .memory) ≡ rowBytes (wordsOf tb) (halvesOf pb)
 packed-front tb pb m e =
     let b = rowBits (wordsOf tb) (halvesOf pb) in
+    let k = 4 * wordsFor (length b) in
     let front = rowBytes (wordsOf tb) (halvesOf pb) in
-    rw (packed-done tb pb m e) (take-at front (drop (length front) m) (4 * wordsFor (length b)) (length-cut 8 (4 * wordsFor (length b)) b))
+    rw (packed-done tb pb m e) (take-at front (drop (length front) m) k (length-cut 8 k b))
 
 -- ---- unpacking
 pub record Unpackable (tb : List ℕ) (n roomPixels : ℕ) : Type 0 where
@@ -104,6 +112,6 @@ unpackable tb n roomPixels e =
     let after-table = orElse-zero-right (tableNumber tb) (tooMany n orElse full) e in
     record {
       table = orElse-zero-left (tableNumber tb) (tooMany n orElse full) e;
-      few = ltb-false 4096 n (cond-zero-test (ltb 4096 n) 10 0 (orElse-zero-left (tooMany n) full after-table));
+      few = tooMany-zero n (orElse-zero-left (tooMany n) full after-table);
       room = ltb-false roomPixels n (cond-zero-test (ltb roomPixels n) 4 0 (orElse-zero-right (tooMany n) full after-table));
     }

@@ -48,11 +48,18 @@ cond-zero-rest false e d z = z
 
 -- ---- any
 module _ {A : Type 0} (f : A → Bool) where
-  pub any-false-at : (xs : List A) (i : ℕ) (d : A) → any f xs ≡ false → i < length xs → f (getD xs i d) ≡ false
+  pub any-false-head : (x : A) (xs : List A) → any f (x ∷ xs) ≡ false → f x ≡ false
   unfolding any
+  any-false-head x xs e = or-false-left (f x) (any f xs) e
+
+  pub any-false-tail : (x : A) (xs : List A) → any f (x ∷ xs) ≡ false → any f xs ≡ false
+  unfolding any
+  any-false-tail x xs e = or-false-right (f x) (any f xs) e
+
+  pub any-false-at : (xs : List A) (i : ℕ) (d : A) → any f xs ≡ false → i < length xs → f (getD xs i d) ≡ false
   any-false-at [] i d e h = absurd (omega arith)
-  any-false-at (x ∷ xs) zero d e h = or-false-left (f x) (any f xs) e
-  any-false-at (x ∷ xs) (suc i) d e h = any-false-at xs i d (or-false-right (f x) (any f xs) e) (omega arith)
+  any-false-at (x ∷ xs) zero d e h = any-false-head x xs e
+  any-false-at (x ∷ xs) (suc i) d e h = any-false-at xs i d (any-false-tail x xs e) (omega arith)
 
   pub any-false : (xs : List A) (d : A) → ((i : ℕ) → i < length xs → f (getD xs i d) ≡ false) → any f xs ≡ false
   unfolding any
@@ -60,27 +67,39 @@ module _ {A : Type 0} (f : A → Bool) where
   any-false (x ∷ xs) d each = rw (each 0 (omega arith)) (any-false xs d (λ i h. each (suc i) (omega arith)))
 
 -- ---- least
-pub least-within : (f : ℕ → Bool) (n : ℕ) → least f n ≤ n
-unfolding least
-least-within f zero = omega arith
-least-within f (suc n) = by-test (f 0) (λ e. rw e (omega arith)) (λ e. rw e (let q : least (λ k. f (suc k)) n ≤ n = least-within (λ k. f (suc k)) n in omega arith))
-
-pub least-most : (f : ℕ → Bool) (n k : ℕ) → f k ≡ true → least f n ≤ k
-unfolding least
-least-most f zero k e = omega arith
-least-most f (suc n) zero e = rw e (omega arith)
-least-most f (suc n) (suc k) e = by-test (f 0) (λ z. rw z (omega arith)) (λ z. rw z (let q : least (λ k. f (suc k)) n ≤ k = least-most (λ k. f (suc k)) n k e in omega arith))
-
+-- where the test passes at 0, and where it doesn't
 least-zero : (f : ℕ → Bool) (n : ℕ) → f 0 ≡ true → least f n ≡ 0
 unfolding least
 least-zero f zero e = refl
 least-zero f (suc n) e = rw e
 
+least-suc : (f : ℕ → Bool) (n : ℕ) → f 0 ≡ false → least f (suc n) ≡ suc (least (λ k. f (suc k)) n)
+unfolding least
+least-suc f n e = rw e
+
+pub least-within : (f : ℕ → Bool) (n : ℕ) → least f n ≤ n
+unfolding least
+least-within f zero = omega arith
+least-within f (suc n) =
+    let rest = least-within (λ k. f (suc k)) n in
+    by-test (f 0) (λ e. omega (arith, least-zero f (suc n) e)) (λ e. omega (arith, least-suc f n e))
+
+pub least-most : (f : ℕ → Bool) (n k : ℕ) → f k ≡ true → least f n ≤ k
+unfolding least
+least-most f zero k e = omega arith
+least-most f (suc n) zero e = omega (arith, least-zero f (suc n) e)
+least-most f (suc n) (suc k) e =
+    let rest = least-most (λ j. f (suc j)) n k e in
+    by-test (f 0) (λ z. omega (arith, least-zero f (suc n) z)) (λ z. omega (arith, least-suc f n z))
+
 -- two tests that agree as far as a number that passes have the same least
-pub least-same : (f g : ℕ → Bool) (m n k : ℕ) → k ≤ m → k ≤ n → ((j : ℕ) → j ≤ k → f j ≡ g j) → f k ≡ true → least f m ≡ least g n
+pub least-same : (f g : ℕ → Bool) (m n k : ℕ) → k ≤ m → k ≤ n → ((j : ℕ) → j ≤ k → f j ≡ g j) → f k ≡ true
+    → least f m ≡ least g n
 unfolding least
 least-same f g m n zero hm hn same e = least-zero f m e ∙ sym (least-zero g n (sym (same 0 (omega arith)) ∙ e))
 least-same f g zero n (suc k) hm hn same e = absurd (omega arith)
 least-same f g (suc m) zero (suc k) hm hn same e = absurd (omega arith)
 least-same f g (suc m) (suc n) (suc k) hm hn same e =
-    rw (same 0 (omega arith), least-same (λ j. f (suc j)) (λ j. g (suc j)) m n k (omega arith) (omega arith) (λ j h. same (suc j) (omega arith)) e)
+    let rest : least (λ j. f (suc j)) m ≡ least (λ j. g (suc j)) n =
+    least-same (λ j. f (suc j)) (λ j. g (suc j)) m n k (omega arith) (omega arith) (λ j h. same (suc j) (omega arith)) e in
+    rw (same 0 (omega arith), rest)

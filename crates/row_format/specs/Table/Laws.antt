@@ -3,7 +3,7 @@ use Prim.Native.Nat.{ℕ, zero, suc, _+_, _-_, _/_, _%_, _^_, _≤_, _<_}
 use native.Mathlib.Nat.{le-max-left, le-max-right, max-le}
 use native.Mathlib.Omega.{arith}
 use mathlib.Core.Path.{_≡_, ap, _∙_}
-use mathlib.Core.Bool.{true, false, cond, _||_}
+use mathlib.Core.Bool.{Bool, true, false, cond, _||_}
 use mathlib.Core.List.{List, [], _∷_}
 use lib.ListN.{length, drop, getD, length-map, length-drop, List·getD-map}
 use lib.Seq.{getD-drop}
@@ -54,27 +54,24 @@ longest-maxItemBits t = le-max-left (longest (codewords t)) (escapeLength t + 12
 
 pub length-codewordAt-most : (t : List ℕ) (j : ℕ) → length (codewordAt t j) ≤ maxItemBits t
 length-codewordAt-most t j =
-    let most : length (codewordAt t j) ≤ longest (codewords t) = rw (getD-codewords t j) at (length-longest (codewords t) j) in
-    omega (arith, longest-maxItemBits t)
+    omega (arith, rw (getD-codewords t j) at (length-longest (codewords t) j), longest-maxItemBits t)
 
 pub escapeLength-most : (t : List ℕ) → escapeLength t + 12 ≤ maxItemBits t
 unfolding maxItemBits
 escapeLength-most t = le-max-right (longest (codewords t)) (escapeLength t + 12)
 
 -- ---- a clash of strings
-by-order : (i j : ℕ) → (i < j → ⊥) → (j < i → ⊥) → i ≡ j
-by-order i j less more = by-test (ltb i j) (λ e. absurd (less (ltb-true i j e)))
-    (λ e. by-test (ltb j i) (λ d. absurd (more (ltb-true j i d))) (λ d. omega (arith, ltb-false i j e, ltb-false j i d)))
-
 pub clash-false-at : (ss : List (List ℕ)) (i j : ℕ) → clash ss ≡ false → i < j → j < length ss
     → (begins (getD ss i []) (getD ss j []) || begins (getD ss j []) (getD ss i [])) ≡ false
 unfolding clash
 clash-false-at [] i j e below h = absurd (omega arith)
 clash-false-at (s ∷ ss) i zero e below h = absurd (omega arith)
 clash-false-at (s ∷ ss) zero (suc j) e below h =
-    any-false-at (λ u. begins s u || begins u s) ss j [] (or-false-left (any (λ u. begins s u || begins u s) ss) (clash ss) e) (omega arith)
+    let meets : List ℕ → Bool = λ u. begins s u || begins u s in
+    any-false-at meets ss j [] (or-false-left (any meets ss) (clash ss) e) (omega arith)
 clash-false-at (s ∷ ss) (suc i) (suc j) e below h =
-    clash-false-at ss i j (or-false-right (any (λ u. begins s u || begins u s) ss) (clash ss) e) (omega arith) (omega arith)
+    let meets : List ℕ → Bool = λ u. begins s u || begins u s in
+    clash-false-at ss i j (or-false-right (any meets ss) (clash ss) e) (omega arith) (omega arith)
 
 -- ---- differences
 -- the signed number that a count from -4093 stands for
@@ -91,20 +88,21 @@ signed-most k h = by-test (ltb k 4093)
 -- pixel minus previous, as a count from -4093, stands for that difference
 pub signed-differenceTo : (p q : ℕ) → q ≤ 4093 → signed (p + 4093 - q) ≡ pos p -ℤ pos q
 signed-differenceTo p zero h =
-    let k = p + 4093 - 0 in
     let value : p + 4093 - 0 - 4093 ≡ p + 0 = omega arith in
-    rw (le-ltb k 4093 (omega arith)) (ap pos value)
-signed-differenceTo p (suc q) h =
-    let k = p + 4093 - suc q in
-    by-test (ltb p (suc q))
-    (λ e.
-    let less = ltb-true p (suc q) e in
-    let value : 4093 - suc (p + 4093 - suc q) ≡ suc q - suc p = omega arith in
-    rw (e, lt-ltb k 4093 (omega arith)) (ap negsuc value))
-    (λ e.
-    let more = ltb-false p (suc q) e in
-    let value : p + 4093 - suc q - 4093 ≡ p - suc q = omega arith in
-    rw (e, le-ltb k 4093 (omega arith)) (ap pos value))
+    rw (le-ltb (p + 4093 - 0) 4093 (omega arith)) (ap pos value)
+signed-differenceTo p (suc q) h = by-test (ltb p (suc q)) down up
+  where
+    down : ltb p (suc q) ≡ true → signed (p + 4093 - suc q) ≡ pos p -ℤ pos (suc q)
+    down e =
+        let less = ltb-true p (suc q) e in
+        let value : 4093 - suc (p + 4093 - suc q) ≡ suc q - suc p = omega arith in
+        rw (e, lt-ltb (p + 4093 - suc q) 4093 (omega arith)) (ap negsuc value)
+
+    up : ltb p (suc q) ≡ false → signed (p + 4093 - suc q) ≡ pos p -ℤ pos (suc q)
+    up e =
+        let more = ltb-false p (suc q) e in
+        let value : p + 4093 - suc q - 4093 ≡ p - suc q = omega arith in
+        rw (e, le-ltb (p + 4093 - suc q) 4093 (omega arith)) (ap pos value)
 
 -- ---- accepted tables
 -- a codeword's word: "Lengths are 1 to 27 .. No bit is set above the string"
@@ -141,20 +139,22 @@ pub record Sized (t : List ℕ) : Type 0 where
 pub sized : (t : List ℕ) → wrongSize t ≡ false → Sized t
 unfolding wrongSize
 sized t e =
-    let parts = and-true-all (leb 1 (tableSize t)) (leb (lowLimit t + tableSize t) 8187) (eqb (length t) (6 + tableSize t)) (not-false _ e) in
+    let sum = lowLimit t + tableSize t in
+    let parts = and-true-all (leb 1 (tableSize t)) (leb sum 8187) (eqb (length t) (6 + tableSize t)) (not-false _ e) in
     record {
       least = leb-true 1 (tableSize t) (parts .0);
-      most = leb-true (lowLimit t + tableSize t) 8187 (parts .1);
+      most = leb-true sum 8187 (parts .1);
       words = eqb-true (length t) (6 + tableSize t) (parts .2);
     }
 
 pub accepted : (t : List ℕ) → verdict t ≡ 0 → Accepted t
 unfolding verdict wrongCodeword
 accepted t e =
+    let free : ℕ = cond (clash (codewords t)) 3 0 in
     let size = sized t (cond-zero-test (wrongSize t) 0 _ e) in
-    let rest = cond-zero-rest (wrongSize t) 0 (cond (wrongCodeword t) 2 (cond (clash (codewords t)) 3 0)) e in
-    let right = cond-zero-test (wrongCodeword t) 1 _ rest in
-    let free = cond-zero-rest (wrongCodeword t) 1 (cond (clash (codewords t)) 3 0) rest in
+    let after-size = cond-zero-rest (wrongSize t) 0 (cond (wrongCodeword t) 2 free) e in
+    let right = cond-zero-test (wrongCodeword t) 1 _ after-size in
+    let right-words = or-false-right (ltb 15 (escapeLength t)) (any wrongWord (drop 3 t)) right in
     record {
       size-least = size .least;
       size-most = omega (arith, size .most);
@@ -163,34 +163,38 @@ accepted t e =
       escape-most = ltb-false 15 (escapeLength t) (or-false-left (ltb 15 (escapeLength t)) (any wrongWord (drop 3 t)) right);
       word = λ j h.
           let inside : j < length (drop 3 t) = omega (arith, length-drop 3 t, size .words) in
-          right-word (getD t (3 + j) 0) (rw (getD-drop 3 t j 0) at
-          (any-false-at wrongWord (drop 3 t) j 0 (or-false-right (ltb 15 (escapeLength t)) (any wrongWord (drop 3 t)) right) inside));
-      apart = cond-zero-test (clash (codewords t)) 2 0 free;
+          let right-at = any-false-at wrongWord (drop 3 t) j 0 right-words inside in
+          right-word (getD t (3 + j) 0) (rw (getD-drop 3 t j 0) at right-at);
+      apart = cond-zero-test (clash (codewords t)) 2 0 (cond-zero-rest (wrongCodeword t) 1 free after-size);
     }
 
 -- and a table of which all that is true is accepted
 wrongWord-right : (w : ℕ) → RightWord w → wrongWord w ≡ false
 unfolding wrongWord
-wrongWord-right w h = rw (le-leb 1 (w % 32) (h .least), le-leb (w % 32) 27 (h .most), lt-ltb (w / 32) (2 ^ (w % 32)) (h .above))
+wrongWord-right w h =
+    rw (le-leb 1 (w % 32) (h .least), le-leb (w % 32) 27 (h .most), lt-ltb (w / 32) (2 ^ (w % 32)) (h .above))
 
 pub verdict-accepted : (t : List ℕ) → Accepted t → verdict t ≡ 0
 unfolding verdict wrongSize wrongCodeword
-verdict-accepted t ok =
-    let words : any wrongWord (drop 3 t) ≡ false = any-false wrongWord (drop 3 t) 0
-    (λ j h. rw (getD-drop 3 t j 0) (wrongWord-right (getD t (3 + j) 0) (ok .word j (omega (arith, length-drop 3 t, ok .words))))) in
-    rw (
-      le-leb 1 (tableSize t) (ok .size-least),
-      le-leb (lowLimit t + tableSize t) 8187 (ok .sum-most),
-      eq-eqb (length t) (6 + tableSize t) (ok .words),
-      le-ltb 15 (escapeLength t) (ok .escape-most),
-      words,
-      ok .apart,
-    )
+verdict-accepted t ok = rw (
+  le-leb 1 (tableSize t) (ok .size-least),
+  le-leb (lowLimit t + tableSize t) 8187 (ok .sum-most),
+  eq-eqb (length t) (6 + tableSize t) (ok .words),
+  le-ltb 15 (escapeLength t) (ok .escape-most),
+  any-false wrongWord (drop 3 t) 0 right,
+  ok .apart,
+)
+  where
+    right : (j : ℕ) → j < length (drop 3 t) → wrongWord (getD (drop 3 t) j 0) ≡ false
+    right j h =
+        let inside : j < 3 + tableSize t = omega (arith, length-drop 3 t, ok .words) in
+        rw (getD-drop 3 t j 0) (wrongWord-right (getD t (3 + j) 0) (ok .word j inside))
 
 -- of a table's bytes
 pub tableNumber-whole : (b : List ℕ) → tableNumber b ≡ 0 → length b % 4 ≡ 0
 unfolding tableNumber
-tableNumber-whole b e = by-test (eqb (length b % 4) 0) (eqb-true (length b % 4) 0) (λ odd. absurd (omega (arith, rw odd at e)))
+tableNumber-whole b e =
+    by-test (eqb (length b % 4) 0) (eqb-true (length b % 4) 0) (λ odd. absurd (omega (arith, rw odd at e)))
 
 pub tableNumber-verdict : (b : List ℕ) → tableNumber b ≡ 0 → verdict (wordsOf b) ≡ 0
 unfolding tableNumber
@@ -215,13 +219,16 @@ module _ (t : List ℕ) (ok : Accepted t) where
   codewordAt-below : (i j : ℕ) (r : List ℕ) → i < j → j < 3 + tableSize t
       → begins (codewordAt t i) r ≡ true → begins (codewordAt t j) r ≡ true → ⊥
   codewordAt-below i j r below h p q =
-      true-false (begins-both (codewordAt t i) (codewordAt t j) r p q)
-      (rw (getD-codewords t i, getD-codewords t j) at
-      (clash-false-at (codewords t) i j (ok .apart) below (omega (arith, length-codewords-size))))
+      let inside : j < length (codewords t) = omega (arith, length-codewords-size) in
+      let apart = clash-false-at (codewords t) i j (ok .apart) below inside in
+      true-false (begins-both (codewordAt t i) (codewordAt t j) r p q) (rw (getD-codewords t i, getD-codewords t j) at apart)
 
   pub codewordAt-only : (i j : ℕ) (r : List ℕ) → i < 3 + tableSize t → j < 3 + tableSize t
       → begins (codewordAt t i) r ≡ true → begins (codewordAt t j) r ≡ true → i ≡ j
-  codewordAt-only i j r hi hj p q = by-order i j (λ below. codewordAt-below i j r below hj p q) (λ below. codewordAt-below j i r below hi q p)
+  codewordAt-only i j r hi hj p q =
+      let not-less : i < j → ⊥ = λ below. codewordAt-below i j r below hj p q in
+      let not-more : j < i → ⊥ = λ below. codewordAt-below j i r below hi q p in
+      omega arith
 
   -- M
   pub maxItemBits-least : 13 ≤ maxItemBits t
@@ -229,10 +236,10 @@ module _ (t : List ℕ) (ok : Accepted t) where
 
   pub maxItemBits-most : maxItemBits t ≤ 27
   unfolding maxItemBits
-  maxItemBits-most =
-      let each : longest (codewords t) ≤ 27 = longest-most (codewords t) 27
-      (λ j h. rw (getD-codewords t j) (codewordAt-most j (omega (arith, length-codewords-size)))) in
-      omega (arith, ok .escape-most)
+  maxItemBits-most = omega (arith, ok .escape-most, longest-most (codewords t) 27 each)
+    where
+      each : (j : ℕ) → j < length (codewords t) → length (getD (codewords t) j []) ≤ 27
+      each j h = rw (getD-codewords t j) (codewordAt-most j (omega (arith, length-codewords-size)))
 
   -- "So steps lie within -4093 to 4093"
   pub entryDifference-most : (i : ℕ) → i < tableSize t → entryDifference t i ≤ 8186

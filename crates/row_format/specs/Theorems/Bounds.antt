@@ -9,15 +9,17 @@ use mathlib.Core.List.{List, [], _∷_}
 use lib.ListN.{length, take, drop, length-append}
 use lib.Dec.{ltb}
 use borrow.Author.Tests.{ltb-true, ltb-false}
-use Rattle.bitstream.specs.Bits.{digits, numOf, begins, wordsOf, stream}
+use Rattle.bitstream.specs.Bits.{digits, begins, wordsOf, stream}
 use Rattle.bitstream.specs.Bits.Laws.{length-digits}
-use Rattle.row_format.specs.Lists.{any}
+use Rattle.row_format.specs.Lists.{any, least}
 use Rattle.row_format.specs.Lists.Laws.{by-test, true-false, least-within, least-most}
 use Rattle.row_format.specs.BitLaws.{begins-length}
 use Rattle.row_format.specs.Table.{lowLimit, codewords, codewordAt, longest, maxItemBits, escapeLength}
 use Rattle.row_format.specs.Table.Laws.{length-codewordAt, length-codewordAt-most, escapeLength-most, longest-maxItemBits}
-use Rattle.row_format.specs.Row.{Item, difference, badPixel, badBias, escape, State, fresh, after, itemFor, itemBits, itemsFor, bits, rowBits}
-use Rattle.row_format.specs.Reading.{Match, none, found, find, Reading, item, fault, unmatched, rawHeight, inside, matched, taken, readItem, Run, done, stop, prepend, follow, readBy, readItems}
+use Rattle.row_format.specs.Row.{Item, difference, badPixel, badBias, escape, State, fresh, after, itemBits, itemsFor, bits, rowBits}
+use Rattle.row_format.specs.Row.Laws.{length-itemsFor}
+use Rattle.row_format.specs.Reading.Laws.{unmatched-cases, rawHeight-cases, matched-cases}
+use Rattle.row_format.specs.Reading.{Match, none, found, find, Reading, item, fault, unmatched, rawHeight, matched, taken, readItem, Run, done, stop, prepend, follow, readBy, readItems}
 use Rattle.row_format.specs.Calls.{unpackNumber, usedByRun, usedUnless, bitsUsed}
 use Rattle.row_format.specs.Theorems.Search.{Found, find-found, any-begins-none-take}
 
@@ -35,31 +37,34 @@ any-begins-length (s ∷ ss) r e = by-test (begins r s)
     (λ p. omega (arith, any-begins-length ss r (rw p at e)))
 
 -- refused 6, the rest is a beginning of some string; refused 7, as many of its bits as the longest string has begin none
-unmatched-uses : (ss : List (List ℕ)) (r : List ℕ) → any (λ s. begins s r) ss ≡ false → bitsOfReading (unmatched ss r) ≤ longest ss
-unfolding unmatched
-unmatched-uses ss r e =
-    let passes : ℕ → Bool = λ k. not (any (begins (take k r)) ss) in
-    by-test (any (begins r) ss)
-    (λ p. rw p (any-begins-length ss r p))
-    (λ p. rw p (by-test (ltb (length r) (longest ss))
-    (λ short. omega (arith, least-within passes (length r), ltb-true (length r) (longest ss) short))
-    (λ long. least-most passes (length r) (longest ss)
-    (ap not (any-begins-none-take ss r (longest ss) (omega arith) (ltb-false (length r) (longest ss) long) e)))))
+module _ (ss : List (List ℕ)) (r : List ℕ) (miss : any (λ s. begins s r) ss ≡ false) where
+  least-unmatched : least (λ k. not (any (begins (take k r)) ss)) (length r) ≤ longest ss
+  least-unmatched =
+      let passes : ℕ → Bool = λ k. not (any (begins (take k r)) ss) in
+      by-test (ltb (length r) (longest ss))
+      (λ e. omega (arith, least-within passes (length r), ltb-true (length r) (longest ss) e))
+      (λ e.
+      let long = ltb-false (length r) (longest ss) e in
+      least-most passes (length r) (longest ss) (ap not (any-begins-none-take ss r (longest ss) (omega arith) long miss)))
+
+  unmatched-uses : bitsOfReading (unmatched ss r) ≤ longest ss
+  unmatched-uses =
+      unmatched-cases (λ x. bitsOfReading x ≤ longest ss) ss r (any-begins-length ss r) (λ e. least-unmatched)
 
 rawHeight-uses : (n : ℕ) (r : List ℕ) → bitsOfReading (rawHeight n r) ≤ n + 12
-unfolding rawHeight
-rawHeight-uses n r = by-test (ltb (length r) (n + 12))
-    (λ e. rw e (omega (arith, ltb-true (length r) (n + 12) e)))
-    (λ e. rw e (by-test (ltb (numOf (take 12 (drop n r))) 4094) (λ d. rw d (omega arith)) (λ d. rw d (omega arith))))
+rawHeight-uses n r =
+    rawHeight-cases (λ x. bitsOfReading x ≤ n + 12) n r (λ h. omega arith) (λ h g. omega arith) (λ h g. omega arith)
 
 -- at the raw string 12 bits may follow, at the others none
 matched-uses : (t : List ℕ) (s : State) (r : List ℕ) (j n : ℕ) → bitsOfReading (matched t s r (suc j) n) ≤ n
 unfolding matched
 matched-uses t s r zero n = omega arith
 matched-uses t s r (suc zero) n = omega arith
-matched-uses t s r (suc (suc i)) n = by-test (inside s (i + lowLimit t)) (λ e. rw e (omega arith)) (λ e. rw e (omega arith))
+matched-uses t s r (suc (suc i)) n =
+    matched-cases (λ x. bitsOfReading x ≤ n) t s r i n (λ e. omega arith) (λ e. omega arith)
 
-taken-uses : (t : List ℕ) (s : State) (r : List ℕ) (m : Match) → Found (codewords t) r m → bitsOfReading (taken t s r m) ≤ maxItemBits t
+taken-uses : (t : List ℕ) (s : State) (r : List ℕ) (m : Match) → Found (codewords t) r m
+    → bitsOfReading (taken t s r m) ≤ maxItemBits t
 unfolding matched
 taken-uses t s r none e = omega (arith, unmatched-uses (codewords t) r e, longest-maxItemBits t)
 taken-uses t s r (found zero) q =
@@ -76,8 +81,8 @@ prepend-uses : (i : Item) (u : ℕ) (x : Run) → usedByRun (prepend i u x) ≡ 
 prepend-uses i u (done is v) = refl
 prepend-uses i u (stop e at v) = refl
 
-follow-uses : (x : Reading) (f : Item → ℕ → Run) (m n : ℕ) → bitsOfReading x ≤ m → ((i : Item) (u : ℕ) → usedByRun (f i u) ≤ n)
-    → usedByRun (follow x f) ≤ n + m
+follow-uses : (x : Reading) (f : Item → ℕ → Run) (m n : ℕ) → bitsOfReading x ≤ m
+    → ((i : Item) (u : ℕ) → usedByRun (f i u) ≤ n) → usedByRun (follow x f) ≤ n + m
 follow-uses (item i u) f m n h rest = omega (arith, prepend-uses i u (f i u), rest i u)
 follow-uses (fault e u) f m n h rest = omega arith
 
@@ -86,8 +91,9 @@ pub readBy-uses : (f : State → List ℕ → Reading) (m : ℕ) → ((s : State
 unfolding readBy
 readBy-uses f m each s zero r = omega arith
 readBy-uses f m each s (suc n) r =
-    let rest = follow-uses (f s r) (λ i u. readBy f (after s i) n (drop u r)) m (n * m) (each s r) (λ i u. readBy-uses f m each (after s i) n (drop u r)) in
-    rw (suc-mul n m) rest
+    rw (suc-mul n m)
+    (follow-uses (f s r) (λ i u. readBy f (after s i) n (drop u r)) m (n * m) (each s r)
+    (λ i u. readBy-uses f m each (after s i) n (drop u r)))
 
 pub readItems-uses : (t : List ℕ) (n : ℕ) (r : List ℕ) → usedByRun (readItems t n r) ≤ n * maxItemBits t
 unfolding readItems
@@ -99,7 +105,8 @@ usedUnless-most (suc e) u m h = omega arith
 
 pub bitsUsed-most : (tb wb : List ℕ) (n : ℕ) (m : List ℕ) → bitsUsed tb wb n m ≤ n * maxItemBits (wordsOf tb)
 unfolding bitsUsed
-bitsUsed-most tb wb n m = usedUnless-most (unpackNumber tb n (length m / 2)) _ _ (readItems-uses (wordsOf tb) n (stream wb))
+bitsUsed-most tb wb n m =
+    usedUnless-most (unpackNumber tb n (length m / 2)) _ _ (readItems-uses (wordsOf tb) n (stream wb))
 
 -- ---- a row, under every table and of whatever pixels
 pub length-itemBits-escape : (t : List ℕ) (h : ℕ) → length (itemBits t (escape h)) ≡ escapeLength t + 12
@@ -115,12 +122,8 @@ pub length-bits : (t : List ℕ) (is : List Item) → length (bits t is) ≤ len
 unfolding bits
 length-bits t [] = omega arith
 length-bits t (i ∷ is) =
-    rw (suc-mul (length is) (maxItemBits t)) (omega (arith, length-append (itemBits t i) (bits t is), length-itemBits t i, length-bits t is))
-
-pub length-itemsFor : (t : List ℕ) (s : State) (ps : List ℕ) → length (itemsFor t s ps) ≡ length ps
-unfolding itemsFor
-length-itemsFor t s [] = refl
-length-itemsFor t s (p ∷ ps) = ap suc (length-itemsFor t (after s (itemFor t s p)) ps)
+    rw (suc-mul (length is) (maxItemBits t), length-append (itemBits t i) (bits t is))
+    (omega (arith, length-itemBits t i, length-bits t is))
 
 pub length-rowBits : (t ps : List ℕ) → length (rowBits t ps) ≤ length ps * maxItemBits t
 unfolding rowBits

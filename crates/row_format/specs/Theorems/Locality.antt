@@ -1,10 +1,10 @@
 -- Demand 3: runs of words that are alike in their first n times M bits, rounded up to whole words, are unpacked alike. This
 -- holds under every table, accepted or not. Assumes nothing.
-use Prim.Native.Nat.{ℕ, zero, suc, _+_, _-_, _*_, _≤_}
+use Prim.Native.Nat.{_/_, ℕ, zero, suc, _+_, _-_, _*_, _≤_}
 use native.Mathlib.Nat.{suc-mul, sub-zero, zero-sub, suc-sub-suc}
 use native.Mathlib.Omega.{arith}
 use mathlib.Core.Path.{_≡_, refl, sym, ap, _∙_}
-use mathlib.Core.Bool.{false, not}
+use mathlib.Core.Bool.{Bool, true, false, not}
 use mathlib.Core.List.{List, [], _∷_}
 use lib.ListN.{length, take, drop, length-drop}
 use lib.Seq.{length-take-le, take-take, take-nil}
@@ -17,7 +17,8 @@ use Rattle.row_format.specs.Table.{codewords, codewordAt, longest, maxIt
 use Rattle.row_format.specs.Table.Laws.{length-codewordAt, longest-maxItemBits, escapeLength-most}
 use Rattle.row_format.specs.Row.{Item, State, fresh, after}
 use Rattle.row_format.specs.Reading.{Match, none, found, find, Reading, item, fault, unmatched, rawHeight, matched, taken, readItem, Run, done, stop, follow, readBy, readItems, stray}
-use Rattle.row_format.specs.Calls.{usedByRun, afterRun, unpacked}
+use Rattle.answer.specs.Outcome.{Outcome, unless}
+use Rattle.row_format.specs.Calls.{unpackNumber, usedByRun, afterRun, unpacked}
 use Rattle.row_format.specs.Theorems.Search.{Found, find-found, find-take, any-begins-none, any-begins-none-take}
 use Rattle.row_format.specs.Theorems.Bounds.{bitsOfReading, readItem-uses, readItems-uses}
 
@@ -36,12 +37,13 @@ unmatched-take : (ss : List (List ℕ)) (r : List ℕ) (k : ℕ) → longest ss 
     → unmatched ss (take k r) ≡ unmatched ss r
 unfolding unmatched
 unmatched-take ss r k h within e =
-    let size = length-take-le k r within in
-    let same : (j : ℕ) → j ≤ longest ss → not (any (begins (take j (take k r))) ss) ≡ not (any (begins (take j r)) ss) =
-    λ j low. rw (take-take j k r (omega arith)) in
-    rw (any-begins-none-take ss r k h within e, any-begins-none ss r (omega arith) e, size)
-    (ap (fault 7) (least-same (λ j. not (any (begins (take j (take k r))) ss)) (λ j. not (any (begins (take j r)) ss)) k (length r) (longest ss) h (omega arith) same
-    (same (longest ss) (omega arith) ∙ ap not (any-begins-none-take ss r (longest ss) (omega arith) (omega arith) e))))
+    let short : ℕ → Bool = λ j. not (any (begins (take j (take k r))) ss) in
+    let long : ℕ → Bool = λ j. not (any (begins (take j r)) ss) in
+    let same : (j : ℕ) → j ≤ longest ss → short j ≡ long j = λ j low. rw (take-take j k r (omega arith)) in
+    let none-longer = ap not (any-begins-none-take ss r (longest ss) (omega arith) (omega arith) e) in
+    let passes : short (longest ss) ≡ true = same (longest ss) (omega arith) ∙ none-longer in
+    rw (any-begins-none-take ss r k h within e, any-begins-none ss r (omega arith) e, length-take-le k r within)
+    (ap (fault 7) (least-same short long k (length r) (longest ss) h (omega arith) same passes))
 
 rawHeight-take : (n : ℕ) (r : List ℕ) (k : ℕ) → n + 12 ≤ k → k ≤ length r → rawHeight n (take k r) ≡ rawHeight n r
 unfolding rawHeight
@@ -66,28 +68,33 @@ module _ (t : List ℕ) (s : State) (r : List ℕ) (k : ℕ) (enough : maxItemBi
   pub readItem-take : readItem t s (take k r) ≡ readItem t s r
   unfolding readItem
   readItem-take =
-      rw (find-take (codewords t) r k (omega (arith, longest-maxItemBits t))) (taken-take (find (codewords t) r) (find-found (codewords t) r))
+      rw (find-take (codewords t) r k (omega (arith, longest-maxItemBits t)))
+      (taken-take (find (codewords t) r) (find-found (codewords t) r))
 
 -- ---- a run of items, by any way of reading one that looks at no more than m bits
-follow-same : (x : Reading) (f g : Item → ℕ → Run) (m : ℕ) → bitsOfReading x ≤ m → ((i : Item) (u : ℕ) → u ≤ m → f i u ≡ g i u) → follow x f ≡ follow x g
+follow-same : (x : Reading) (f g : Item → ℕ → Run) (m : ℕ) → bitsOfReading x ≤ m
+    → ((i : Item) (u : ℕ) → u ≤ m → f i u ≡ g i u) → follow x f ≡ follow x g
 follow-same (item i u) f g m h same = rw (same i u h)
 follow-same (fault e u) f g m h same = refl
 
 module _ (f : State → List ℕ → Reading) (m : ℕ) (uses : (s : State) (r : List ℕ) → bitsOfReading (f s r) ≤ m)
     (local : (s : State) (r : List ℕ) (k : ℕ) → m ≤ k → k ≤ length r → f s (take k r) ≡ f s r) where
-  pub readBy-take : (s : State) (n : ℕ) (r : List ℕ) (k : ℕ) → n * m ≤ k → k ≤ length r → readBy f s n (take k r) ≡ readBy f s n r
+  pub readBy-take : (s : State) (n : ℕ) (r : List ℕ) (k : ℕ) → n * m ≤ k → k ≤ length r
+      → readBy f s n (take k r) ≡ readBy f s n r
   unfolding readBy
   readBy-take s zero r k enough within = refl
   readBy-take s (suc n) r k enough within =
       let room : n * m + m ≤ k = rw (suc-mul n m) at enough in
-      rw (local s r k (omega arith) within)
-      (follow-same (f s r) (λ i u. readBy f (after s i) n (drop u (take k r))) (λ i u. readBy f (after s i) n (drop u r)) m (uses s r)
-      (λ i u h. rw (drop-take u k r)
-      (readBy-take (after s i) n (drop u r) (k - u) (omega arith) (omega (arith, length-drop u r)))))
+      let short : Item → ℕ → Run = λ i u. readBy f (after s i) n (drop u (take k r)) in
+      let long : Item → ℕ → Run = λ i u. readBy f (after s i) n (drop u r) in
+      let same : (i : Item) (u : ℕ) → u ≤ m → short i u ≡ long i u = λ i u h.
+      rw (drop-take u k r) (readBy-take (after s i) n (drop u r) (k - u) (omega arith) (omega (arith, length-drop u r))) in
+      rw (local s r k (omega arith) within) (follow-same (f s r) short long m (uses s r) same)
 
-pub readItems-take : (t : List ℕ) (n : ℕ) (r : List ℕ) (k : ℕ) → n * maxItemBits t ≤ k → k ≤ length r → readItems t n (take k r) ≡ readItems t n r
+pub readItems-take : (t : List ℕ) (n : ℕ) (r : List ℕ) (k : ℕ) → n * maxItemBits t ≤ k → k ≤ length r
+    → readItems t n (take k r) ≡ readItems t n r
 unfolding readItems
-readItems-take t n r k enough within = readBy-take (readItem t) (maxItemBits t) (readItem-uses t) (readItem-take t) fresh n r k enough within
+readItems-take t n = readBy-take (readItem t) (maxItemBits t) (readItem-uses t) (readItem-take t) fresh n
 
 -- ---- the call
 -- only here it matters that the bits are rounded up to whole words
@@ -95,7 +102,8 @@ stray-take : (u : ℕ) (r : List ℕ) (k : ℕ) → 32 * wordsFor u ≤ k → st
 unfolding stray
 stray-take u r k h = rw (field-take u (32 * wordsFor u - u) k r (omega arith))
 
-afterRun-take : (r : List ℕ) (n : ℕ) (m : List ℕ) (x : Run) (k : ℕ) → 32 * wordsFor (usedByRun x) ≤ k → afterRun (take k r) n m x ≡ afterRun r n m x
+afterRun-take : (r : List ℕ) (n : ℕ) (m : List ℕ) (x : Run) (k : ℕ) → 32 * wordsFor (usedByRun x) ≤ k
+    → afterRun (take k r) n m x ≡ afterRun r n m x
 afterRun-take r n m (done is u) k h = rw (stray-take u r k h)
 afterRun-take r n m (stop e at u) k h = refl
 
@@ -113,9 +121,11 @@ unfolding unpacked
 unpacked-alike tb wb wb′ n m h h′ e =
     let t = wordsOf tb in
     let k = wordsFor (n * maxItemBits t) in
-    let same : take (32 * k) (stream wb) ≡ take (32 * k) (stream wb′) = stream-take wb k h ∙ ap (flat 8) e ∙ sym (stream-take wb′ k h′) in
-    let runs : afterRun (stream wb) n m (readItems t n (stream wb)) ≡ afterRun (stream wb′) n m (readItems t n (stream wb′)) =
+    let left : List ℕ → Outcome = λ r. afterRun r n m (readItems t n r) in
+    let same : take (32 * k) (stream wb) ≡ take (32 * k) (stream wb′) =
+    stream-take wb k h ∙ ap (flat 8) e ∙ sym (stream-take wb′ k h′) in
+    let alike : left (stream wb) ≡ left (stream wb′) =
     sym (front t n (stream wb) m k (omega arith) (omega (arith, length-stream wb)))
-    ∙ ap (λ (r : List ℕ). afterRun r n m (readItems t n r)) same
+    ∙ ap left same
     ∙ front t n (stream wb′) m k (omega arith) (omega (arith, length-stream wb′)) in
-    rw runs
+    ap (unless (unpackNumber tb n (length m / 2)) m) alike

@@ -29,7 +29,9 @@ unless-kept (suc e) m o h = λ n. record { count = refl; memory = refl }
 
 pub packed-kept : (tb pb m : List ℕ) → KeptUnlessDone m (packed tb pb m)
 unfolding packed packedRow
-packed-kept tb pb m = unless-kept (packNumber tb (halvesOf pb) (length m / 4)) m (packedRow (wordsOf tb) (halvesOf pb) m) (λ n. absurd (n refl))
+packed-kept tb pb m =
+    let e = packNumber tb (halvesOf pb) (length m / 4) in
+    unless-kept e m (packedRow (wordsOf tb) (halvesOf pb) m) (λ n. absurd (n refl))
 
 afterRun-kept : (r : List ℕ) (n : ℕ) (m : List ℕ) (x : Run) → KeptUnlessDone m (afterRun r n m x)
 afterRun-kept r n m (done is u) =
@@ -38,7 +40,9 @@ afterRun-kept r n m (stop e at u) = λ k. record { count = refl; memory = refl }
 
 pub unpacked-kept : (tb wb : List ℕ) (n : ℕ) (m : List ℕ) → KeptUnlessDone m (unpacked tb wb n m)
 unfolding unpacked
-unpacked-kept tb wb n m = unless-kept (unpackNumber tb n (length m / 2)) m _ (afterRun-kept (stream wb) n m (readItems (wordsOf tb) n (stream wb)))
+unpacked-kept tb wb n m =
+    let e = unpackNumber tb n (length m / 2) in
+    unless-kept e m _ (afterRun-kept (stream wb) n m (readItems (wordsOf tb) n (stream wb)))
 
 -- ---- done or refused: the memory keeps its length, and past its first k bytes its bytes
 pub record Within (k : ℕ) (m : List ℕ) (o : Outcome) : Type 0 where
@@ -61,18 +65,22 @@ unless-within (suc e) k m o h = refused-within (suc e) k m
 pub packed-within : (tb pb m : List ℕ) → Within (4 * wordsFor (packed tb pb m .answer .count)) m (packed tb pb m)
 packed-within tb pb m = by-number (packNumber tb (halvesOf pb) (length m / 4)) refl
   where
-    by-number : (e : ℕ) → packNumber tb (halvesOf pb) (length m / 4) ≡ e → Within (4 * wordsFor (packed tb pb m .answer .count)) m (packed tb pb m)
+    by-number : (e : ℕ) → packNumber tb (halvesOf pb) (length m / 4) ≡ e
+        → Within (4 * wordsFor (packed tb pb m .answer .count)) m (packed tb pb m)
     by-number zero e =
         let b = rowBits (wordsOf tb) (halvesOf pb) in
+        let k = 4 * wordsFor (length b) in
+        let room = packNumber-zero-room tb (halvesOf pb) (length m / 4) e in
         rw (packed-done tb pb m e)
-        (wrote-within (length b) (4 * wordsFor (length b)) (rowBytes (wordsOf tb) (halvesOf pb)) m (length-cut 8 (4 * wordsFor (length b)) b)
-        (omega (arith, packNumber-zero-room tb (halvesOf pb) (length m / 4) e)))
+        (wrote-within (length b) k (rowBytes (wordsOf tb) (halvesOf pb)) m (length-cut 8 k b) (omega arith))
     by-number (suc k) e = rw (packed-refused tb pb m k e) (refused-within (suc k) 0 m)
 
 afterRun-within : (r : List ℕ) (n : ℕ) (m : List ℕ) (x : Run) → 2 * n ≤ length m → Within (2 * n) m (afterRun r n m x)
 afterRun-within r n m (done is u) h =
-    let b = bytesOf (2 * n) (flat 16 (pixelsOf fresh is)) in
-    unless-within (refuseIf (stray u r) 10) (2 * n) m (wrote u b m) (λ e. wrote-within u (2 * n) b m (length-cut 8 (2 * n) (flat 16 (pixelsOf fresh is))) h)
+    let ps = flat 16 (pixelsOf fresh is) in
+    let b = bytesOf (2 * n) ps in
+    unless-within (refuseIf (stray u r) 10) (2 * n) m (wrote u b m)
+    (λ e. wrote-within u (2 * n) b m (length-cut 8 (2 * n) ps) h)
 afterRun-within r n m (stop e at u) h = refused-within e (2 * n) m
 
 pub unpacked-within : (tb wb : List ℕ) (n : ℕ) (m : List ℕ) → Within (2 * n) m (unpacked tb wb n m)

@@ -1,17 +1,18 @@
 -- Demand 1: packing and unpacking answer a number from document 01, and only those that it lists for the call. Each law is
 -- over any property P that these numbers have. Assumes nothing.
-use Prim.Native.Nat.{ℕ, zero, suc, _+_, _/_, _%_}
+use Prim.Native.Nat.{ℕ, zero, suc, _/_, _%_}
 use mathlib.Core.Bool.{Bool, true, false}
 use mathlib.Core.List.{List}
-use lib.ListN.{length, take, drop}
+use lib.ListN.{length, drop}
 use lib.Dec.{ltb, eqb}
-use Rattle.bitstream.specs.Bits.{numOf, begins, wordsOf, stream, wordsFor}
+use Rattle.bitstream.specs.Bits.{wordsOf, stream, wordsFor}
 use Rattle.answer.specs.Outcome.{Outcome, _orElse_, refuseIf, unless}
 use Rattle.row_format.specs.Lists.{any}
 use Rattle.row_format.specs.Lists.Laws.{by-test}
-use Rattle.row_format.specs.Table.{lowLimit, wrongSize, wrongCodeword, clash, codewords, codewordAt, verdict, tableNumber}
+use Rattle.row_format.specs.Table.{wrongSize, wrongCodeword, clash, codewords, codewordAt, verdict, tableNumber}
 use Rattle.row_format.specs.Row.{Item, State, fresh, after, rowBits}
-use Rattle.row_format.specs.Reading.{Match, none, found, find, Reading, item, fault, unmatched, rawHeight, inside, matched, taken, readItem, Run, done, stop, prepend, follow, readBy, readItems, stray}
+use Rattle.row_format.specs.Reading.Laws.{unmatched-cases, rawHeight-cases, matched-cases}
+use Rattle.row_format.specs.Reading.{Match, none, found, find, Reading, item, fault, matched, taken, readItem, Run, done, stop, prepend, follow, readBy, readItems, stray}
 use Rattle.row_format.specs.Calls.{tooMany, packNumber, unpackNumber, afterRun, unpacked}
 
 module _ (P : ℕ → Type 0) where
@@ -36,7 +37,8 @@ module _ (P : ℕ → Type 0) where
       (λ d. rw d (by-test (wrongCodeword t) (λ c. rw c p2) (λ c. rw c (refuseIf-in (clash (codewords t)) 3 p0 p3))))))
       (λ e. rw e p1)
 
-  pub packNumber-in : (tb ps : List ℕ) (roomWords : ℕ) → P 0 → P 1 → P 2 → P 3 → P 11 → P 4 → P 5 → P (packNumber tb ps roomWords)
+  pub packNumber-in : (tb ps : List ℕ) (roomWords : ℕ) → P 0 → P 1 → P 2 → P 3 → P 11 → P 4 → P 5
+      → P (packNumber tb ps roomWords)
   unfolding packNumber
   packNumber-in tb ps roomWords p0 p1 p2 p3 p11 p4 p5 =
       orElse-in (tableNumber tb) _ (tableNumber-in tb p0 p1 p2 p3)
@@ -54,19 +56,13 @@ module _ (P : ℕ → Type 0) where
   StopIn (stop e at u) = P e
 
   module _ (p6 : P 6) (p7 : P 7) (p8 : P 8) (p9 : P 9) where
-    rawHeight-in : (n : ℕ) (r : List ℕ) → FaultIn (rawHeight n r)
-    unfolding rawHeight
-    rawHeight-in n r = by-test (ltb (length r) (n + 12))
-        (λ e. rw e p6)
-        (λ e. rw e (by-test (ltb (numOf (take 12 (drop n r))) 4094) (λ d. rw d tt) (λ d. rw d p9)))
-
     taken-in : (t : List ℕ) (s : State) (r : List ℕ) (m : Match) → FaultIn (taken t s r m)
-    unfolding unmatched matched
-    taken-in t s r none = by-test (any (begins r) (codewords t)) (λ e. rw e p6) (λ e. rw e p7)
-    taken-in t s r (found zero) = rawHeight-in (length (codewordAt t 0)) r
+    unfolding matched
+    taken-in t s r none = unmatched-cases FaultIn (codewords t) r (λ e. p6) (λ e. p7)
+    taken-in t s r (found zero) = rawHeight-cases FaultIn (length (codewordAt t 0)) r (λ h. p6) (λ h g. tt) (λ h g. p9)
     taken-in t s r (found (suc zero)) = tt
     taken-in t s r (found (suc (suc zero))) = tt
-    taken-in t s r (found (suc (suc (suc i)))) = by-test (inside s (i + lowLimit t)) (λ e. rw e tt) (λ e. rw e p8)
+    taken-in t s r (found (suc (suc (suc i)))) = matched-cases FaultIn t s r i _ (λ e. tt) (λ e. p8)
 
     pub readItem-in : (t : List ℕ) (s : State) (r : List ℕ) → FaultIn (readItem t s r)
     unfolding readItem
@@ -93,7 +89,8 @@ module _ (P : ℕ → Type 0) where
     afterRun-in r n m (done is u) p0 p10 h = unless-in (refuseIf (stray u r) 10) m _ (refuseIf-in (stray u r) 10 p0 p10) p0
     afterRun-in r n m (stop e at u) p0 p10 h = h
 
-    pub unpacked-in : (tb wb : List ℕ) (n : ℕ) (m : List ℕ) → P 0 → P 1 → P 2 → P 3 → P 11 → P 5 → P 10 → P (unpacked tb wb n m .answer .number)
+    pub unpacked-in : (tb wb : List ℕ) (n : ℕ) (m : List ℕ) → P 0 → P 1 → P 2 → P 3 → P 11 → P 5 → P 10
+        → P (unpacked tb wb n m .answer .number)
     unfolding unpacked unpackNumber
     unpacked-in tb wb n m p0 p1 p2 p3 p11 p5 p10 =
         unless-in (unpackNumber tb n (length m / 2)) m _

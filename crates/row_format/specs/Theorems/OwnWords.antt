@@ -1,43 +1,35 @@
 -- Document 01: "The used words of an accepted reading are the very words packing would write exactly when no raw item was
 -- needless". Assumes nothing.
-use Prim.Native.Nat.{ℕ, suc, _+_, _-_, _*_, _/_, _≤_}
+use Prim.Native.Nat.{ℕ, _+_, _-_, _*_, _/_, _≤_}
 use native.Mathlib.Omega.{arith}
 use mathlib.Core.Path.{_≡_, refl, sym, ap, _∙_}
-use mathlib.Core.Bool.{true, false}
+use mathlib.Core.Bool.{false}
 use mathlib.Core.List.{List, [], _∷_, _++_}
 use mathlib.Core.Logic.{_↔_}
 use lib.ListN.{length, take, drop, replicate, length-drop, length-append}
 use lib.Seq.{length-take-le, take-append-add, take-at}
-use lib.Dec.{leb, ltb, eqb}
-use borrow.Author.Tests.{leb-true, le-ltb, ltb-false, eqb-false, ne-eqb}
+use lib.Dec.{ltb, eqb}
+use borrow.Author.Tests.{le-ltb, ltb-false, eqb-false, ne-eqb}
 use Rattle.bitstream.specs.Bits.{flat, bitsOf, bytesOf, wordsOf, halvesOf, stream, wordsFor}
-use Rattle.bitstream.specs.Bits.Laws.{Below, below-nil, below-cons, below-head, below-tail, below-take, below-drop, below-flat, below-cut, length-cut, flat-cut, pad-all}
+use Rattle.bitstream.specs.Bits.Laws.{Below, below-nil, below-cons, below-head, below-tail, below-take, below-drop, below-flat, below-cut, length-cut}
 use Rattle.row_format.specs.Lists.{any}
-use Rattle.row_format.specs.Lists.Laws.{by-test, and-true-left, and-true-right, or-false-left, or-false-right}
-use Rattle.row_format.specs.BitLaws.{bitsOf-inj, stream-take, length-stream}
+use Rattle.row_format.specs.Lists.Laws.{any-false-head, any-false-tail, or-false-left, or-false-right}
+use Rattle.row_format.specs.BitLaws.{bitsOf-inj, bitsOf-bytesOf, stream-take, length-stream}
 use Rattle.row_format.specs.Table.Laws.{Accepted, accepted, tableNumber-verdict}
 use Rattle.row_format.specs.Row.{Item, difference, badPixel, badBias, escape, State, fresh, previous, differenceTo, byDifference, itemFor, pixelOf, after, itemsFor, pixelsOf, bits, rowBits}
-use Rattle.row_format.specs.Reading.{inside, done, readItems, stray, needless, anyNeedless}
+use Rattle.row_format.specs.Reading.{done, readItems, stray, needless, anyNeedless}
 use Rattle.row_format.specs.Calls.{packNumber, packed, unpacked}
 use Rattle.row_format.specs.Calls.Laws.{rowBytes, packed-front}
 use Rattle.row_format.specs.Theorems.Done.{Accepts}
-use Rattle.row_format.specs.Theorems.RoundTrip.{Fits, FitAll, after-height, itemFor-escape, readBy-own, readItems-rowBits}
+use Rattle.row_format.specs.Theorems.Items.{Fits, FitAll, reached, after-height}
+use Rattle.row_format.specs.Theorems.RoundTrip.{readBy-own, readItems-rowBits}
+use Rattle.row_format.specs.Row.Laws.{itemFor-cases, itemFor-escape, length-pixelsOf}
 use Rattle.row_format.specs.Theorems.Words.{below-bits, below-rowBits, halvesOf-bytesOf}
 use Rattle.row_format.specs.Theorems.Standing.{RunStands, readItems-stands}
 
 -- ---- an item that fits and isn't needless is the one that packing gives for its pixel
--- the heights that a difference may lead to
-record Reached (s : State) (k : ℕ) : Type 0 where
-  pub least : 4093 ≤ previous s + k
-  pub most : previous s + k ≤ 8186
-
-reached : (s : State) (k : ℕ) → inside s k ≡ true → Reached s k
-reached s k e = record {
-  least = leb-true 4093 (previous s + k) (and-true-left (leb 4093 (previous s + k)) (leb (previous s + k) 8186) e);
-  most = leb-true (previous s + k) 8186 (and-true-right (leb 4093 (previous s + k)) (leb (previous s + k) 8186) e);
-}
-
-itemFor-pixelOf : (t : List ℕ) (s : State) (i : Item) → previous s ≤ 4093 → Fits t s i → needless t s i ≡ false → itemFor t s (pixelOf s i) ≡ i
+itemFor-pixelOf : (t : List ℕ) (s : State) (i : Item) → previous s ≤ 4093 → Fits t s i → needless t s i ≡ false
+    → itemFor t s (pixelOf s i) ≡ i
 unfolding itemFor byDifference
 itemFor-pixelOf t s (difference k) height fits e =
     let to = reached s k (fits .1) in
@@ -48,36 +40,31 @@ itemFor-pixelOf t s badPixel height fits e = refl
 itemFor-pixelOf t s badBias height fits e = refl
 itemFor-pixelOf t s (escape h) height fits e = itemFor-escape t s h (omega arith) e
 
-itemsFor-pixelsOf : (t : List ℕ) (s : State) (is : List Item) → previous s ≤ 4093 → FitAll t s is → anyNeedless t s is ≡ false
-    → itemsFor t s (pixelsOf s is) ≡ is
+itemsFor-pixelsOf : (t : List ℕ) (s : State) (is : List Item) → previous s ≤ 4093 → FitAll t s is
+    → anyNeedless t s is ≡ false → itemsFor t s (pixelsOf s is) ≡ is
 unfolding itemsFor pixelsOf anyNeedless
 itemsFor-pixelsOf t s [] height fits e = refl
 itemsFor-pixelsOf t s (i ∷ is) height fits e =
+    let needful = or-false-left (needless t s i) (anyNeedless t (after s i) is) e in
+    let rest = or-false-right (needless t s i) (anyNeedless t (after s i) is) e in
     rw (
-      itemFor-pixelOf t s i height (fits .0) (or-false-left (needless t s i) (anyNeedless t (after s i) is) e),
-      itemsFor-pixelsOf t (after s i) is (after-height t s i height (fits .0)) (fits .1) (or-false-right (needless t s i) (anyNeedless t (after s i) is) e),
+      itemFor-pixelOf t s i height (fits .0) needful,
+      itemsFor-pixelsOf t (after s i) is (after-height t s i height (fits .0)) (fits .1) rest,
     )
 
 -- and packing gives no needless item
 needless-itemFor : (t : List ℕ) (s : State) (p : ℕ) → needless t s (itemFor t s p) ≡ false
-unfolding itemFor
-needless-itemFor t s p = by-test (eqb p 4095)
-    (λ e. rw e)
-    (λ e. rw e (by-test (eqb p 4094) (λ d. rw d) (λ d. rw d (by-test (byDifference t s p) (λ has. rw has) (λ has. rw has has)))))
+needless-itemFor t s p =
+    itemFor-cases (λ i. needless t s i ≡ false) t s p (λ e. refl) (λ e. refl) (λ d e has. refl) (λ d e lacks. lacks)
 
 anyNeedless-itemsFor : (t : List ℕ) (s : State) (ps : List ℕ) → anyNeedless t s (itemsFor t s ps) ≡ false
 unfolding itemsFor anyNeedless
 anyNeedless-itemsFor t s [] = refl
 anyNeedless-itemsFor t s (p ∷ ps) = rw (needless-itemFor t s p) (anyNeedless-itemsFor t (after s (itemFor t s p)) ps)
 
--- the pixels of items that fit
-length-pixelsOf : (s : State) (is : List Item) → length (pixelsOf s is) ≡ length is
-unfolding pixelsOf
-length-pixelsOf s [] = refl
-length-pixelsOf s (i ∷ is) = ap suc (length-pixelsOf (after s i) is)
-
+-- ---- the pixels of items that fit are pixels
 pixelOf-most : (t : List ℕ) (s : State) (i : Item) → Fits t s i → pixelOf s i ≤ 4095
-pixelOf-most t s (difference k) fits = let to = reached s k (fits .1) in omega arith
+pixelOf-most t s (difference k) fits = omega (arith, reached s k (fits .1))
 pixelOf-most t s badPixel fits = omega arith
 pixelOf-most t s badBias fits = omega arith
 pixelOf-most t s (escape h) fits = omega arith
@@ -85,38 +72,35 @@ pixelOf-most t s (escape h) fits = omega arith
 any-pixelsOf : (t : List ℕ) (s : State) (is : List Item) → FitAll t s is → any (ltb 4095) (pixelsOf s is) ≡ false
 unfolding pixelsOf any
 any-pixelsOf t s [] fits = refl
-any-pixelsOf t s (i ∷ is) fits = rw (le-ltb 4095 (pixelOf s i) (pixelOf-most t s i (fits .0))) (any-pixelsOf t (after s i) is (fits .1))
+any-pixelsOf t s (i ∷ is) fits =
+    rw (le-ltb 4095 (pixelOf s i) (pixelOf-most t s i (fits .0))) (any-pixelsOf t (after s i) is (fits .1))
 
--- pixels, as numbers of 16 bits
 any-false-below : (ps : List ℕ) → any (ltb 4095) ps ≡ false → Below 65536 ps
-unfolding any
 any-false-below [] e = below-nil (omega arith)
 any-false-below (p ∷ ps) e =
-    let most = ltb-false 4095 p (or-false-left (ltb 4095 p) (any (ltb 4095) ps) e) in
-    below-cons (omega arith) (any-false-below ps (or-false-right (ltb 4095 p) (any (ltb 4095) ps) e))
+    let most = ltb-false 4095 p (any-false-head (ltb 4095) p ps e) in
+    below-cons (omega arith) (any-false-below ps (any-false-tail (ltb 4095) p ps e))
 
 -- ---- words
 -- bits none of which is 1
 any-false-zeros : (b : List ℕ) → Below 2 b → any (eqb 1) b ≡ false → b ≡ replicate (length b) 0
-unfolding any
 any-false-zeros [] bin e = refl
 any-false-zeros (x ∷ b) bin e =
-    let zero′ : x ≡ 0 = omega (arith, below-head bin, eqb-false 1 x (or-false-left (eqb 1 x) (any (eqb 1) b) e)) in
-    rw zero′ (ap (0 ∷_) (any-false-zeros b (below-tail bin) (or-false-right (eqb 1 x) (any (eqb 1) b) e)))
+    let off : x ≡ 0 = omega (arith, below-head bin, eqb-false 1 x (any-false-head (eqb 1) x b e)) in
+    rw off (ap (0 ∷_) (any-false-zeros b (below-tail bin) (any-false-tail (eqb 1) x b e)))
 
 -- the used words of a stream that has the bits b in front and no stray bit hold b and then zeros
 module _ (b wb : List ℕ) (u : ℕ) (size : u ≡ length b) (there : stream wb ≡ b ++ drop u (stream wb)) where
   length-used : 4 * wordsFor u ≤ length wb
-  length-used =
-      let whole : length (stream wb) ≡ length b + length (drop u (stream wb)) = ap length there ∙ length-append b (drop u (stream wb)) in
-      omega (arith, length-stream wb)
+  length-used = omega (arith, ap length there, length-append b (drop u (stream wb)), length-stream wb)
 
   used-words : stray u (stream wb) ≡ false → bitsOf (take (4 * wordsFor u) wb) ≡ b ++ replicate (32 * wordsFor u - u) 0
   unfolding stray
   used-words e =
       let rest = drop u (stream wb) in
       let k = 32 * wordsFor u - u in
-      let room : 32 * wordsFor u - u ≤ length (drop u (stream wb)) = omega (arith, length-used, length-drop u (stream wb), length-stream wb) in
+      let room : 32 * wordsFor u - u ≤ length (drop u (stream wb)) =
+      omega (arith, length-used, length-drop u (stream wb), length-stream wb) in
       let whole : 32 * wordsFor u ≡ length b + (32 * wordsFor u - u) = omega arith in
       let zeros : take k rest ≡ replicate k 0 =
       any-false-zeros (take k rest) (below-take k rest (below-drop u (stream wb) (below-flat 8 _))) e
@@ -126,13 +110,6 @@ module _ (b wb : List ℕ) (u : ℕ) (size : u ≡ length b) (there : stream wb 
       ∙ ap (take (length b + k)) there
       ∙ take-append-add b rest k
       ∙ ap (b ++_) zeros
-
--- the words that packing writes for some bits hold them and then zeros
-written-words : (b : List ℕ) (u : ℕ) → u ≡ length b → Below 2 b → bitsOf (bytesOf (4 * wordsFor u) b) ≡ b ++ replicate (32 * wordsFor u - u) 0
-written-words b u size bin =
-    let place : 8 * (4 * wordsFor u) ≡ 32 * wordsFor u = omega arith in
-    flat-cut 8 (4 * wordsFor u) b bin
-    ∙ rw place (pad-all (32 * wordsFor u) b (omega arith) ∙ ap (λ (n : ℕ). b ++ replicate (32 * wordsFor u - n) 0) (sym size))
 
 -- ---- the theorem, of a reading of n items from the words wb that was accepted
 module _ (t : List ℕ) (ok : Accepted t) (wb : List ℕ) (bytes : Below 256 wb) (n : ℕ) (is : List Item) (u : ℕ)
@@ -148,12 +125,14 @@ module _ (t : List ℕ) (ok : Accepted t) (wb : List ℕ) (bytes : Below 256 wb)
   unfolding rowBits
   own e =
       let b = bits t is in
-      let n = 4 * wordsFor u in
+      let k = 4 * wordsFor u in
+      let size = stands .front .size in
       let items : itemsFor t fresh (pixelsOf fresh is) ≡ is = itemsFor-pixelsOf t fresh is (omega arith) (stands .fits) e in
-      rw (items, ← (stands .front .size))
-      (bitsOf-inj n (take n wb) (bytesOf n b) (below-take n wb bytes) (below-cut 8 n b (below-bits t is))
-      (length-take-le n wb (length-used b wb u (stands .front .size) (stands .front .there))) (length-cut 8 n b)
-      (used-bits ∙ sym (written-words b u (stands .front .size) (below-bits t is))))
+      let whole = length-take-le k wb (length-used b wb u size (stands .front .there)) in
+      let same = used-bits ∙ sym (bitsOf-bytesOf b u size (below-bits t is)) in
+      rw (items, ← size)
+      (bitsOf-inj k (take k wb) (bytesOf k b) (below-take k wb bytes) (below-cut 8 k b (below-bits t is))
+      whole (length-cut 8 k b) same)
 
   -- own words: they are read both as the items and as those that packing gives
   none-needless : take (4 * wordsFor u) wb ≡ rowBytes t (pixelsOf fresh is) → anyNeedless t fresh is ≡ false
@@ -164,9 +143,10 @@ module _ (t : List ℕ) (ok : Accepted t) (wb : List ℕ) (bytes : Below 256 wb)
       let zeros : List ℕ = replicate (32 * wordsFor u - u) 0 in
       let zeros′ : List ℕ = replicate (32 * wordsFor (length b′) - length b′) 0 in
       let same : bits t is ++ zeros ≡ b′ ++ zeros′ =
-      sym used-bits ∙ ap (flat 8) e ∙ written-words b′ (length b′) refl (below-rowBits t ps) in
-      let read-items = readBy-own t ok fresh is zeros (stands .fits) in
-      let read-own = rw (length-pixelsOf fresh is) at (readItems-rowBits t ok ps zeros′ (any-pixelsOf t fresh is (stands .fits))) in
+      sym used-bits ∙ ap (flat 8) e ∙ bitsOf-bytesOf b′ (length b′) refl (below-rowBits t ps) in
+      let as-read = readBy-own t ok fresh is zeros (stands .fits) in
+      let as-packed = readItems-rowBits t ok ps zeros′ (any-pixelsOf t fresh is (stands .fits)) in
+      let size = length-pixelsOf fresh is in
       let items : is ≡ itemsFor t fresh ps = cc in
       rw items (anyNeedless-itemsFor t fresh ps)
 
@@ -180,16 +160,20 @@ module _ (tb wb : List ℕ) (n : ℕ) (m : List ℕ) (bytes : Below 256 wb) (got
 
   pixels-left : halvesOf (take (2 * n) (unpacked tb wb n m .memory)) ≡ pixelsOf fresh (got .items)
   pixels-left =
-      let ps = pixelsOf fresh (got .items) in
-      let there = readItems-stands (wordsOf tb) accepted-table n (stream wb) (got .items) (got .used) (below-flat 8 _) (got .read) in
+      let t = wordsOf tb in
+      let is = got .items in
+      let ps = pixelsOf fresh is in
       let b = bytesOf (2 * n) (flat 16 ps) in
+      let there = readItems-stands t accepted-table n (stream wb) is (got .used) (below-flat 8 _) (got .read) in
+      let low = any-false-below ps (any-pixelsOf t fresh is (there .fits)) in
       rw (got .left, take-at b (drop (length b) m) (2 * n) (length-cut 8 (2 * n) (flat 16 ps)))
-      (halvesOf-bytesOf n ps (length-pixelsOf fresh (got .items) ∙ there .count) (any-false-below ps (any-pixelsOf (wordsOf tb) fresh (got .items) (there .fits))))
+      (halvesOf-bytesOf n ps (length-pixelsOf fresh is ∙ there .count) low)
 
   pub own-words-packed : (mw : List ℕ)
       → let pb = take (2 * n) (unpacked tb wb n m .memory) in
       packNumber tb (halvesOf pb) (length mw / 4) ≡ 0
-      → (take (4 * wordsFor (unpacked tb wb n m .answer .count)) wb ≡ take (4 * wordsFor (packed tb pb mw .answer .count)) (packed tb pb mw .memory))
+      → (take (4 * wordsFor (unpacked tb wb n m .answer .count)) wb
+      ≡ take (4 * wordsFor (packed tb pb mw .answer .count)) (packed tb pb mw .memory))
       ↔ (anyNeedless (wordsOf tb) fresh (got .items) ≡ false)
   own-words-packed mw e =
       rw (packed-front tb (take (2 * n) (unpacked tb wb n m .memory)) mw e, pixels-left, got .left)

@@ -35,11 +35,13 @@ packNumber-done tb ps roomWords ok h =
     packNumber-packable tb ps roomWords ok ∙ rw (le-ltb roomWords (wordsFor (length (rowBits (wordsOf tb) ps))) h)
 
 -- the room question's answer
-pub room-done : (tb : List ℕ) (n : ℕ) → tableNumber tb ≡ 0 → n ≤ 4096 → room tb n ≡ answerOf 0 (wordsFor (n * maxItemBits (wordsOf tb)))
+pub room-done : (tb : List ℕ) (n : ℕ) → tableNumber tb ≡ 0 → n ≤ 4096
+    → room tb n ≡ answerOf 0 (wordsFor (n * maxItemBits (wordsOf tb)))
 unfolding room
 room-done tb n ok few = rw (ok, le-ltb 4096 n few)
 
-pub packNumber-room : (tb ps : List ℕ) (roomWords : ℕ) → Packable tb ps → room tb (length ps) .count ≤ roomWords → packNumber tb ps roomWords ≡ 0
+pub packNumber-room : (tb ps : List ℕ) (roomWords : ℕ) → Packable tb ps → room tb (length ps) .count ≤ roomWords
+    → packNumber tb ps roomWords ≡ 0
 packNumber-room tb ps roomWords ok h =
-    let enough : wordsFor (length ps * maxItemBits (wordsOf tb)) ≤ roomWords = rw (room-done tb (length ps) (ok .table) (ok .few)) at h in
+    let enough = rw (room-done tb (length ps) (ok .table) (ok .few)) at h in
     packNumber-done tb ps roomWords ok (omega (arith, length-rowBits (wordsOf tb) ps))

@@ -6,19 +6,17 @@ use mathlib.Core.Bool.{true}
 use mathlib.Core.List.{List, _++_, append-assoc}
 use lib.ListN.{length, take, drop, length-append, length-drop, take-append-drop}
 use lib.Seq.{drop-drop, length-take-le}
-use lib.Dec.{ltb}
-use borrow.Author.Tests.{ltb-true, ltb-false, lt-ltb, le-leb}
+use borrow.Author.Tests.{lt-ltb, le-leb}
 use Rattle.bitstream.specs.Bits.{digits, numOf, begins}
 use Rattle.bitstream.specs.Bits.Laws.{Below, below-take, below-drop, length-digits, digits-numOf}
-use Rattle.row_format.specs.Lists.{any}
-use Rattle.row_format.specs.Lists.Laws.{by-test}
 use Rattle.row_format.specs.BitLaws.{begins-drop}
 use Rattle.row_format.specs.Table.{lowLimit, tableSize, hasDifference, codewords, codewordAt}
 use Rattle.row_format.specs.Table.Laws.{Accepted, getD-codewords, length-codewords-size}
 use Rattle.row_format.specs.Row.{Item, difference, State, fresh, after, itemBits, bits}
-use Rattle.row_format.specs.Reading.{Match, none, found, find, Reading, item, fault, rawHeight, inside, unmatched, matched, taken, readItem, Run, done, stop, prepend, follow, readBy, readItems}
+use Rattle.row_format.specs.Reading.Laws.{unmatched-cases, rawHeight-cases, matched-cases}
+use Rattle.row_format.specs.Reading.{Match, none, found, find, Reading, item, fault, rawHeight, unmatched, matched, taken, readItem, Run, done, stop, prepend, follow, readBy, readItems}
 use Rattle.row_format.specs.Theorems.Search.{Found, find-found}
-use Rattle.row_format.specs.Theorems.RoundTrip.{Fits, FitAll}
+use Rattle.row_format.specs.Theorems.Items.{Fits, FitAll}
 
 -- ---- one item
 -- an item's bits stand at the front of the rest, and are u
@@ -43,44 +41,41 @@ field-front c r w bin p within =
     rw (length-take-le w rest room) at (digits-numOf (take w rest) (below-take w rest (below-drop (length c) r bin))) in
     let parts : rest ≡ digits w (numOf (take w rest)) ++ drop (length c + w) r =
     sym (take-append-drop w rest) ∙ rw (field, drop-drop w (length c) r) in
+    let number = digits w (numOf (take w rest)) in
     record {
-      there = begins-drop c r p ∙ ap (c ++_) parts ∙ sym (append-assoc c (digits w (numOf (take w rest))) (drop (length c + w) r));
-      size = sym (length-append c (digits w (numOf (take w rest))) ∙ rw (length-digits w (numOf (take w rest))));
+      there = begins-drop c r p ∙ ap (c ++_) parts ∙ sym (append-assoc c number (drop (length c + w) r));
+      size = sym (length-append c number ∙ rw (length-digits w (numOf (take w rest))));
     }
 
 rawHeight-stands : (t : List ℕ) (s : State) (r : List ℕ) → Below 2 r → begins (codewordAt t 0) r ≡ true
     → Stands t s r (rawHeight (length (codewordAt t 0)) r)
-unfolding rawHeight
-rawHeight-stands t s r bin p =
-    let n = length (codewordAt t 0) in
-    let height = numOf (take 12 (drop n r)) in
-    by-test (ltb (length r) (n + 12))
-    (λ e. rw e tt)
-    (λ e. rw e (by-test (ltb height 4094)
-    (λ d. rw d (ltb-true height 4094 d, field-front (codewordAt t 0) r 12 bin p (ltb-false (length r) (n + 12) e)))
-    (λ d. rw d tt)))
+rawHeight-stands t s r bin p = rawHeight-cases (Stands t s r) (length (codewordAt t 0)) r
+    (λ short. tt)
+    (λ long height. (height, field-front (codewordAt t 0) r 12 bin p long))
+    (λ long high. tt)
 
 -- entry i's string, at place 3 + i, is that of its difference
 itemBits-entry : (t : List ℕ) (i : ℕ) → itemBits t (difference (i + lowLimit t)) ≡ codewordAt t (suc (suc (suc i)))
 itemBits-entry t i = let place : 3 + (i + lowLimit t - lowLimit t) ≡ suc (suc (suc i)) = omega arith in rw place
 
 hasDifference-entry : (t : List ℕ) (i : ℕ) → i < tableSize t → hasDifference t (i + lowLimit t) ≡ true
-hasDifference-entry t i h = rw (le-leb (lowLimit t) (i + lowLimit t) (omega arith)) (lt-ltb (i + lowLimit t) (lowLimit t + tableSize t) (omega arith))
+hasDifference-entry t i h =
+    let k = i + lowLimit t in
+    rw (le-leb (lowLimit t) k (omega arith)) (lt-ltb k (lowLimit t + tableSize t) (omega arith))
 
 module _ (t : List ℕ) (ok : Accepted t) where
   taken-stands : (s : State) (r : List ℕ) → Below 2 r → (m : Match) → Found (codewords t) r m → Stands t s r (taken t s r m)
   unfolding matched unmatched
-  taken-stands s r bin none e = by-test (any (begins r) (codewords t)) (λ p. rw p tt) (λ p. rw p tt)
+  taken-stands s r bin none e = unmatched-cases (Stands t s r) (codewords t) r (λ six. tt) (λ seven. tt)
   taken-stands s r bin (found zero) q = rawHeight-stands t s r bin (rw (getD-codewords t 0) at (q .1))
   taken-stands s r bin (found (suc zero)) q = (tt, front-of (codewordAt t 1) r (rw (getD-codewords t 1) at (q .1)))
   taken-stands s r bin (found (suc (suc zero))) q = (tt, front-of (codewordAt t 2) r (rw (getD-codewords t 2) at (q .1)))
   taken-stands s r bin (found (suc (suc (suc i)))) q =
       let j = suc (suc (suc i)) in
+      let has = hasDifference-entry t i (omega (arith, q .0, length-codewords-size t ok)) in
       let front : Front (itemBits t (difference (i + lowLimit t))) r (length (codewordAt t j)) =
       rw (itemBits-entry t i) (front-of (codewordAt t j) r (rw (getD-codewords t j) at (q .1))) in
-      by-test (inside s (i + lowLimit t))
-      (λ e. rw e ((hasDifference-entry t i (omega (arith, q .0, length-codewords-size t ok)), e), front))
-      (λ e. rw e tt)
+      matched-cases (Stands t s r) t s r i (length (codewordAt t j)) (λ leads. ((has, leads), front)) (λ eight. tt)
 
   pub readItem-stands : (s : State) (r : List ℕ) → Below 2 r → Stands t s r (readItem t s r)
   unfolding readItem
@@ -102,8 +97,9 @@ front-append a b r u v p q = record {
   size = omega (arith, length-append a b, p .size, q .size);
 }
 
-prepend-stands : (t : List ℕ) (s : State) (n : ℕ) (r : List ℕ) (i : Item) (u : ℕ) (x : Run) → Fits t s i × Front (itemBits t i) r u
-    → DoneStands t (after s i) n (drop u r) x → DoneStands t s (suc n) r (prepend i u x)
+prepend-stands : (t : List ℕ) (s : State) (n : ℕ) (r : List ℕ) (i : Item) (u : ℕ) (x : Run)
+    → Fits t s i × Front (itemBits t i) r u → DoneStands t (after s i) n (drop u r) x
+    → DoneStands t s (suc n) r (prepend i u x)
 unfolding bits
 prepend-stands t s n r i u (done is v) p q = record {
   count = omega (arith, q .count);
@@ -117,12 +113,13 @@ follow-stands : (t : List ℕ) (s : State) (n : ℕ) (r : List ℕ) (x : Reading
 follow-stands t s n r (item i u) f p rest = prepend-stands t s n r i u (f i u) p (rest i u)
 follow-stands t s n r (fault e u) f p rest = tt
 
-pub readBy-stands : (t : List ℕ) (ok : Accepted t) (s : State) (n : ℕ) (r : List ℕ) → Below 2 r → DoneStands t s n r (readBy (readItem t) s n r)
+pub readBy-stands : (t : List ℕ) (ok : Accepted t) (s : State) (n : ℕ) (r : List ℕ) → Below 2 r
+    → DoneStands t s n r (readBy (readItem t) s n r)
 unfolding readBy bits
 readBy-stands t ok s zero r bin = record { count = refl; fits = tt; front = record { there = refl; size = refl } }
 readBy-stands t ok s (suc n) r bin =
-    follow-stands t s n r (readItem t s r) (λ i u. readBy (readItem t) (after s i) n (drop u r)) (readItem-stands t ok s r bin)
-    (λ i u. readBy-stands t ok (after s i) n (drop u r) (below-drop u r bin))
+    follow-stands t s n r (readItem t s r) (λ i u. readBy (readItem t) (after s i) n (drop u r))
+    (readItem-stands t ok s r bin) (λ i u. readBy-stands t ok (after s i) n (drop u r) (below-drop u r bin))
 
 pub readItems-stands : (t : List ℕ) (ok : Accepted t) (n : ℕ) (r : List ℕ) (is : List Item) (u : ℕ) → Below 2 r
     → readItems t n r ≡ done is u → RunStands t fresh n r is u

@@ -1,4 +1,5 @@
--- Demand 3: under some tables no smaller bound than n times M holds: the row 4093, then zeros, takes so many bits. Assumes nothing.
+-- Demand 3: under some tables no smaller bound than n times M holds: the row 4093, then zeros, takes so many bits.
+-- Assumes nothing.
 use Prim.Native.Nat.{ℕ, zero, suc, _+_, _*_, _≤_, _<_}
 use native.Mathlib.Nat.{suc-mul, max-eq-right}
 use native.Mathlib.Omega.{arith}
@@ -35,27 +36,32 @@ any-steep (suc n) = any-zeros n
 
 module _ (t : List ℕ) (no-least : hasDifference t 0 ≡ false) (no-most : hasDifference t 8186 ≡ false) where
   -- a raw item, and items that take so many bits each
-  length-raw : (h n : ℕ) (b : List ℕ) → length b ≡ n * (escapeLength t + 12) → length (itemBits t (escape h) ++ b) ≡ suc n * (escapeLength t + 12)
+  length-raw : (h n : ℕ) (b : List ℕ) → length b ≡ n * (escapeLength t + 12)
+      → length (itemBits t (escape h) ++ b) ≡ suc n * (escapeLength t + 12)
   length-raw h n b rest =
-      rw (length-append (itemBits t (escape h)) b, suc-mul n (escapeLength t + 12)) (omega (arith, length-itemBits-escape t h))
+      rw (length-append (itemBits t (escape h)) b, suc-mul n (escapeLength t + 12))
+      (omega (arith, length-itemBits-escape t h))
 
   -- after 4093 a zero is raw, and 4093 stays previous
   length-zeros : (n : ℕ) → length (bits t (itemsFor t (past 4093) (replicate n 0))) ≡ n * (escapeLength t + 12)
   unfolding bits itemsFor itemFor byDifference
   length-zeros zero = omega arith
-  length-zeros (suc n) = rw (no-least) (length-raw 0 n (bits t (itemsFor t (past 4093) (replicate n 0))) (length-zeros n))
+  length-zeros (suc n) = rw no-least (length-raw 0 n (bits t (itemsFor t (past 4093) (replicate n 0))) (length-zeros n))
 
   length-bits-steep : (n : ℕ) → length (rowBits t (steep n)) ≡ n * (escapeLength t + 12)
   unfolding rowBits steep itemsFor itemFor byDifference bits
   length-bits-steep zero = omega arith
-  length-bits-steep (suc n) = rw (no-most) (length-raw 4093 n (bits t (itemsFor t (past 4093) (replicate n 0))) (length-zeros n))
+  length-bits-steep (suc n) =
+      rw no-most (length-raw 4093 n (bits t (itemsFor t (past 4093) (replicate n 0))) (length-zeros n))
 
-  pub length-rowBits-steep : (n : ℕ) → longest (codewords t) ≤ escapeLength t + 12 → length (rowBits t (steep n)) ≡ n * maxItemBits t
+  pub length-rowBits-steep : (n : ℕ) → longest (codewords t) ≤ escapeLength t + 12
+      → length (rowBits t (steep n)) ≡ n * maxItemBits t
   unfolding maxItemBits
   length-rowBits-steep n most = length-bits-steep n ∙ ap (n *_) (sym (max-eq-right most))
 
 -- no string longer than the raw string and its height
-pub longest-escape : (t : List ℕ) (ok : Accepted t) → ((j : ℕ) → j < 3 + tableSize t → length (codewordAt t j) ≤ escapeLength t + 12)
+pub longest-escape : (t : List ℕ) (ok : Accepted t)
+    → ((j : ℕ) → j < 3 + tableSize t → length (codewordAt t j) ≤ escapeLength t + 12)
     → longest (codewords t) ≤ escapeLength t + 12
 longest-escape t ok most = longest-most (codewords t) (escapeLength t + 12)
     (λ j h. rw (getD-codewords t j) (most j (omega (arith, length-codewords-size t ok))))

@@ -4,14 +4,14 @@ use Prim.Native.Nat.{ℕ, zero, suc, _+_, _-_, _*_, _/_, _%_, _≤_}
 use native.Mathlib.Omega.{arith}
 use mathlib.Core.Path.{_≡_, refl, sym, ap, _∙_}
 use mathlib.Core.Bool.{false}
-use mathlib.Core.List.{List, [], _∷_, _++_, append-nil}
+use mathlib.Core.List.{List, [], _∷_, _++_}
 use lib.ListN.{length, take, getD, replicate, length-replicate}
 use lib.Seq.{drop-append-seam, take-at, take-all, length-take-le}
 use lib.Dec.{eqb}
-use Rattle.bitstream.specs.Bits.{digits, flat, cut, bitsOf, bytesOf, halvesOf, wordsFor}
-use Rattle.bitstream.specs.Bits.Laws.{Below, below-nil, below-append, below-take, below-digits, below-flat, length-flat, length-cut, flat-take, flat-cut, cut-flat}
+use Rattle.bitstream.specs.Bits.{digits, flat, bitsOf, bytesOf, halvesOf, wordsFor}
+use Rattle.bitstream.specs.Bits.Laws.{Below, below-nil, below-append, below-take, below-digits, below-flat, length-flat, length-cut, flat-take, flat-cut}
 use Rattle.row_format.specs.Lists.{any}
-use Rattle.row_format.specs.BitLaws.{pad-within, bytesOf-bitsOf}
+use Rattle.row_format.specs.BitLaws.{pad-within, cut-flat-all}
 use Rattle.row_format.specs.Table.{lowLimit, codeword, codewordAt}
 use Rattle.row_format.specs.Row.{Item, difference, badPixel, badBias, escape, fresh, itemBits, itemsFor, bits, rowBits}
 use Rattle.row_format.specs.Reading.{stray}
@@ -50,7 +50,8 @@ stray-zeros b r =
 
 -- ---- pixels as bytes
 -- the bytes of the pixels that some bytes hold are those bytes, but for half a pixel at the end
-pub bytesOf-halvesOf : (pb : List ℕ) → Below 256 pb → bytesOf (2 * length (halvesOf pb)) (flat 16 (halvesOf pb)) ≡ take (2 * length (halvesOf pb)) pb
+pub bytesOf-halvesOf : (pb : List ℕ) → Below 256 pb
+    → bytesOf (2 * length (halvesOf pb)) (flat 16 (halvesOf pb)) ≡ take (2 * length (halvesOf pb)) pb
 bytesOf-halvesOf pb bytes =
     let n = length pb / 2 in
     let place : 16 * (length pb / 2) ≡ 8 * (2 * (length pb / 2)) = omega arith in
@@ -61,7 +62,7 @@ bytesOf-halvesOf pb bytes =
     ∙ ap (λ (k : ℕ). take k (bitsOf pb)) place
     ∙ sym (flat-take 8 (2 * n) pb) in
     let size : length (take (2 * n) pb) ≡ 2 * n = length-take-le (2 * n) pb (omega arith) in
-    rw (length-cut 16 n (bitsOf pb), halves) (bytesOf-bitsOf (2 * n) (take (2 * n) pb) (below-take (2 * n) pb bytes) size)
+    rw (length-cut 16 n (bitsOf pb), halves) (cut-flat-all 8 (2 * n) (take (2 * n) pb) (below-take (2 * n) pb bytes) size)
 
 -- and the pixels that their bytes hold are the pixels
 pub halvesOf-bytesOf : (n : ℕ) (ps : List ℕ) → length ps ≡ n → Below 65536 ps → halvesOf (bytesOf (2 * n) (flat 16 ps)) ≡ ps
@@ -72,5 +73,4 @@ halvesOf-bytesOf n ps size low =
     let same : bitsOf (bytesOf (2 * n) (flat 16 ps)) ≡ flat 16 ps =
     flat-cut 8 (2 * n) (flat 16 ps) (below-flat 16 ps)
     ∙ rw place (pad-within (16 * n) (flat 16 ps) (omega arith) ∙ take-all (16 * n) (flat 16 ps) (omega arith)) in
-    rw (length-cut 8 (2 * n) (flat 16 ps), count, same)
-    (ap (λ (k : ℕ). cut 16 k (flat 16 ps)) (sym size) ∙ ap (cut 16 (length ps)) (sym (append-nil (flat 16 ps))) ∙ cut-flat 16 ps [] low)
+    rw (length-cut 8 (2 * n) (flat 16 ps), count, same) (cut-flat-all 16 n ps low size)

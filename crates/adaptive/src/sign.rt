@@ -1,0 +1,20 @@
+// The two places where a signed number is taken apart into its magnitude and its sign, and put together again.
+ghost use mathlib.Core.Path.{_≡_};
+ghost use Prim.Native.Nat.{_<_};
+ghost use lib.Signed.{mag};
+ghost use Rattle.adaptive.specs.Gather.{signedOf};
+
+// v where it is not negative, else -1 - v.
+pub fn magnitude(v: i32) -> u32
+    ensures { λ r. ⌜ r ≡ mag v ⌝ }
+{
+    if v < 0 { (-1 - v) as u32 } else { v as u32 }
+}
+
+// m, or -1 - m.
+pub fn with_sign(negative: bool, m: u32) -> i32
+    requires { ⌜ m < 2147483648 ⌝ }
+    ensures { λ r. ⌜ r ≡ signedOf negative m ⌝ }
+{
+    if negative { -1 - (m as i32) } else { m as i32 }
+}

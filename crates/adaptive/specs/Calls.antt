@@ -9,6 +9,7 @@ use Rattle.answer.specs.Outcome.{Outcome, wrote, refuseIf, unless}
 use Rattle.adaptive.specs.declared.SignedRead.{SignedRead}
 use Rattle.adaptive.specs.declared.UnsignedRead.{UnsignedRead}
 use Rattle.adaptive.specs.Number.{Reading, accepted, rejected, signed, unsigned, readAs, shortest}
+pub mod Laws
 
 -- "The answer is the value and the bytes used"
 abbrev pub signedAnswer : Reading ℤ → SignedRead

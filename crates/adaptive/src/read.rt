@@ -1,6 +1,10 @@
 // Reading a number from the front of some bytes.
 ghost use mathlib.Core.Path.{_≡_};
-ghost use Rattle.adaptive.specs.Calls.{signedRead, unsignedRead};
+ghost use mathlib.Core.Bool.{cond};
+ghost use lib.Dec.{leb};
+ghost use Rattle.adaptive.specs.Number.{accepted, rejected};
+ghost use Rattle.adaptive.specs.Calls.{signedAnswer, signedRead, unsignedRead};
+ghost use Rattle.adaptive.specs.Gather.{signedOf};
 use crate::SignedRead;
 use crate::UnsignedRead;
 use crate::gather::gather;
@@ -19,6 +23,16 @@ pub fn read_unsigned(s: &[u8]) -> UnsignedRead
     UnsignedRead { number: 0, value: g.raw as u32, used: g.used }
 }
 
+// The answer for a whole number of this sign and magnitude.
+fn signed_answer(negative: bool, m: u64, used: u32) -> SignedRead
+    ensures { λ r. ⌜ r ≡ signedAnswer (cond (leb m 2147483647) (accepted (signedOf negative m) used) (rejected 13)) ⌝ }
+{
+    if 2147483647 < m {
+        return SignedRead { number: 13, value: 0, used: 0 };
+    }
+    SignedRead { number: 0, value: with_sign(negative, m), used }
+}
+
 pub fn read_signed(s: &[u8]) -> SignedRead
     ensures { λ r. ⌜ r ≡ signedRead (now (s .entry)) ⌝ }
 {
@@ -26,10 +40,9 @@ pub fn read_signed(s: &[u8]) -> SignedRead
     if g.number != 0 {
         return SignedRead { number: g.number, value: 0, used: 0 };
     }
-    let negative = g.span / 2 <= g.raw;
-    let m = if negative { g.span - 1 - g.raw } else { g.raw };
-    if 2147483647 < m {
-        return SignedRead { number: 13, value: 0, used: 0 };
+    // the sign is the highest of the data bits
+    if g.raw < g.span / 2 {
+        return signed_answer(false, g.raw, g.used);
     }
-    SignedRead { number: 0, value: with_sign(negative, m as u32), used: g.used }
+    signed_answer(true, g.span - 1 - g.raw, g.used)
 }

@@ -7,6 +7,7 @@ ghost use Rattle.answer.specs.Outcome.{outcome};
 ghost use Rattle.adaptive.specs.Number.{laterBytes, bytesOf};
 ghost use Rattle.adaptive.specs.Calls.{written, signedWritten, unsignedWritten};
 use answer::Answer;
+use crate::sign::data_bits;
 use crate::sign::magnitude;
 
 // How many bytes follow the first, where the first alone holds magnitudes below `first`.
@@ -62,9 +63,6 @@ pub fn write_unsigned(value: u32, out: &mut [u8]) -> Answer
 pub fn write_signed(value: i32, out: &mut [u8]) -> Answer
     ensures { λ r. ⌜ outcome r (now (out .exit)) ≡ signedWritten value (now (out .entry)) ⌝ }
 {
-    let m = magnitude(value) as u64;
-    let k = later_bytes(64, m);
-    // two's complement in the 35 bits of five bytes
-    let d = if value < 0 { 34359738367 - m } else { m };
-    write_bytes(k, d, out)
+    let k = later_bytes(64, magnitude(value));
+    write_bytes(k, data_bits(value), out)
 }

@@ -16,6 +16,9 @@ use Rattle.adaptive.specs.Number.{Front, whole, fault, before, front, da
 pub pow-128-pos : (k : ℕ) → 0 < 128 ^ k
 pow-128-pos k = one-le-pow k 128 (lit< tt)
 
+pub pow-128-le : {k : ℕ} → k ≤ 4 → 128 ^ k ≤ 128 ^ 4
+pow-128-le h = pow-le-pow-right (lit< tt) h
+
 -- ---- data bits
 pub dataOf-lt : (bs : List ℕ) → dataOf bs < 128 ^ length bs
 unfolding dataOf
@@ -67,11 +70,11 @@ prefix-snoc : (xs : List ℕ) (b : ℕ) (f : Front) → prefix xs (before b f) �
 prefix-snoc xs b (whole bs) = ap whole (sym (append-assoc xs (b ∷ []) bs))
 prefix-snoc xs b (fault e) = refl
 
-front-more : (n b : ℕ) (s : List ℕ) → 128 ≤ b → front (suc n) (b ∷ s) ≡ before b (front n s)
+pub front-more : (n b : ℕ) (s : List ℕ) → 128 ≤ b → front (suc n) (b ∷ s) ≡ before b (front n s)
 unfolding front
 front-more n b s h = rw (le-leb 128 b h)
 
-front-last : (n b : ℕ) (s : List ℕ) → b < 128 → front (suc n) (b ∷ s) ≡ whole (b ∷ [])
+pub front-last : (n b : ℕ) (s : List ℕ) → b < 128 → front (suc n) (b ∷ s) ≡ whole (b ∷ [])
 unfolding front
 front-last n b s h = rw (lt-leb 128 b h)
 

@@ -6,7 +6,7 @@ use mathlib.Core.Path.{_≡_, refl, sym, ap, _∙_, subst}
 use mathlib.Core.Bool.{Bool, true, false, cond}
 use mathlib.Core.List.{List, _++_}
 use lib.ListN.{length, take}
-use Rattle.adaptive.specs.Number.{Front, whole, fault, front, Kind, Reading, accepted, rejected, judged, readAs, formOf, fewest, shortest}
+use Rattle.adaptive.specs.Number.{Front, whole, fault, front, Kind, Reading, accepted, rejected, judged, readAs, bytesOf, formOf, fewest, shortest}
 use Rattle.adaptive.specs.Number.Laws.{front-bytesOf, front-fair, Fair, Found, length-bytesOf, laterBytes-le, laterBytes-least, laterBytes-holds, holds-more}
 use Rattle.adaptive.specs.Number.Lawful.{Lawful}
 
@@ -48,6 +48,10 @@ module _ {A : Type 0} (K : Kind A) where
       let a = readAs-accepted s v n e in
       let f = accepted-found s v n a in
       (rw (← a .used) (f .some), rw (← a .used) (f .within), rw (← a .used) (f .there))
+
+  pub bytesOf-shortest : {k d : ℕ} (v : A) → k ≡ fewest K v → d ≡ K .dataFor v → bytesOf k d ≡ shortest K v
+  unfolding shortest
+  bytesOf-shortest v ek ed = cc
 
   pub length-shortest : (v : A) → length (shortest K v) ≡ suc (fewest K v)
   unfolding shortest

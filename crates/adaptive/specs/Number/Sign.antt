@@ -68,6 +68,10 @@ signed-negsuc {k} {m} h (set high e) =
     let same : 128 ^ suc k - suc (128 ^ suc k - suc m) ≡ m = omega arith in
     e ∙ ap negsuc same
 
+pub signed-set : {k d : ℕ} {v : ℤ} → 64 * 128 ^ k ≤ d → Signed k d v → v ≡ negsuc (128 ^ suc k - suc d)
+signed-set h (clear low e) = absurd (omega arith)
+signed-set h (set high e) = e
+
 -- the low data bits of -1 - m in the two's complement of 35 bits
 pub twos-low : (k m : ℕ) → k ≤ 4 → m < 128 ^ suc k → (128 ^ 5 - suc m) % 128 ^ suc k ≡ 128 ^ suc k - suc m
 twos-low k m hk hm =

@@ -9,6 +9,7 @@ use lib.Dec.{leb, ltb}
 use lib.IntN.{ℤ, pos, negsuc, _-ℤ_}
 use lib.Signed.{leZ, mag}
 pub mod Laws
+pub mod Own
 pub mod Sign
 pub mod Lawful
 pub mod Read

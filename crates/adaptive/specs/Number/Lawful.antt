@@ -12,23 +12,28 @@ use lib.IntN.{ℤ, pos, negsuc}
 use borrow.Author.Tests.{leb-true}
 use Rattle.adaptive.specs.Number.{Kind, unsigned, signed, formOf, dataOf, bytesOf, signedValue, twos}
 use Rattle.adaptive.specs.Number.Laws.{dataOf-lt, dataOf-bytesOf, length-bytesOf}
-use Rattle.adaptive.specs.Number.Sign.{Signed, signedValue-is, signed-mag, signed-pos, signed-negsuc, twos-low}
+use Rattle.adaptive.specs.Number.Sign.{Signed, signedValue-is, signed-mag, signed-pos, signed-negsuc, twos-low, signed-twos}
 
 pub record Lawful {A : Type 0} (K : Kind A) : Type 0 where
   -- a form with room for the value's magnitude stands for the value
   pub form-value : (k : ℕ) (v : A) → k ≤ 4 → K .magnitude v < K .first * 128 ^ k → K .valueOf (formOf K k v) ≡ v
   -- bytes stand for no value whose magnitude they have no room for
   pub value-fits : (bs : List ℕ) (k : ℕ) → length bs ≡ suc k → K .magnitude (K .valueOf bs) < K .first * 128 ^ k
+  -- and they have the data bits of their value
+  pub value-data : (bs : List ℕ) (k : ℕ) → length bs ≡ suc k → k ≤ 4 → K .dataFor (K .valueOf bs) % 128 ^ suc k ≡ dataOf bs
   -- five bytes have room for each value in range
   pub range-fits : (v : A) → K .inRange v ≡ true → K .magnitude v < K .first * 128 ^ 4
 
 pub unsigned-lawful : Lawful unsigned
-unsigned-lawful = record { form-value = form-value; value-fits = value-fits; range-fits = range-fits }
+unsigned-lawful =
+    record { form-value = form-value; value-fits = value-fits; value-data = value-data; range-fits = range-fits }
   where
     form-value : (k v : ℕ) → k ≤ 4 → v < 128 * 128 ^ k → dataOf (bytesOf k v) ≡ v
     form-value k v hk h = dataOf-bytesOf k v ∙ mod-eq-of-lt (rw (pow-succ' 128 k) h)
     value-fits : (bs : List ℕ) (k : ℕ) → length bs ≡ suc k → dataOf bs < 128 * 128 ^ k
     value-fits bs k e = rw (← pow-succ' 128 k, ← e) (dataOf-lt bs)
+    value-data : (bs : List ℕ) (k : ℕ) → length bs ≡ suc k → k ≤ 4 → dataOf bs % 128 ^ suc k ≡ dataOf bs
+    value-data bs k e h = mod-eq-of-lt (rw (← e) (dataOf-lt bs))
     range-fits : (v : ℕ) → leb v 4294967295 ≡ true → v < 34359738368
     range-fits v h = omega (arith, leb-true v 4294967295 h)
 
@@ -42,7 +47,8 @@ signed-range (negsuc m) = by-test (leb m 2147483647)
     by-test false = refl
 
 pub signed-lawful : Lawful signed
-signed-lawful = record { form-value = form-value; value-fits = value-fits; range-fits = range-fits }
+signed-lawful =
+    record { form-value = form-value; value-fits = value-fits; value-data = value-data; range-fits = range-fits }
   where
     room : (k m : ℕ) → m < 64 * 128 ^ k → m < 128 ^ suc k
     room k m h = rw (pow-succ' 128 k) (omega arith)
@@ -53,5 +59,7 @@ signed-lawful = record { form-value = form-value; value-fits = value-fits; range
     form-value k (negsuc m) hk h = signed-negsuc h (read k (128 ^ 5 - suc m) (128 ^ suc k - suc m) (twos-low k m hk (room k m h)))
     value-fits : (bs : List ℕ) (k : ℕ) → length bs ≡ suc k → mag (signedValue bs) < 64 * 128 ^ k
     value-fits bs k e = signed-mag (rw (← e) (dataOf-lt bs)) (signedValue-is bs k e)
+    value-data : (bs : List ℕ) (k : ℕ) → length bs ≡ suc k → k ≤ 4 → twos (signedValue bs) % 128 ^ suc k ≡ dataOf bs
+    value-data bs k e h = signed-twos k (dataOf bs) (signedValue bs) h (rw (← e) (dataOf-lt bs)) (signedValue-is bs k e)
     range-fits : (v : ℤ) → signed .inRange v ≡ true → mag v < 17179869184
     range-fits v h = omega (arith, leb-true (mag v) 2147483647 (sym (signed-range v) ∙ h))

@@ -1,13 +1,14 @@
 -- Laws of reading and writing, for every lawful kind of number. Assumes nothing.
-use Prim.Native.Nat.{ℕ, suc, _*_, _^_, _-_, _≤_, _<_}
+use Prim.Native.Nat.{ℕ, suc, _-_, _*_, _%_, _^_, _≤_, _<_}
 use native.Mathlib.Nat.{le-refl}
 use native.Mathlib.Omega.{arith}
 use mathlib.Core.Path.{_≡_, refl, sym, ap, _∙_, subst}
 use mathlib.Core.Bool.{Bool, true, false, cond}
 use mathlib.Core.List.{List, _++_}
 use lib.ListN.{length, take}
-use Rattle.adaptive.specs.Number.{Front, whole, fault, front, Kind, Reading, accepted, rejected, judged, readAs, bytesOf, formOf, fewest, shortest}
+use Rattle.adaptive.specs.Number.{Front, whole, fault, front, Kind, Reading, accepted, rejected, judged, readAs, dataOf, bytesOf, formOf, fewest, shortest}
 use Rattle.adaptive.specs.Number.Laws.{front-bytesOf, front-fair, Fair, Found, length-bytesOf, laterBytes-le, laterBytes-least, laterBytes-holds, holds-more}
+use Rattle.adaptive.specs.Number.Own.{Bytes, bytesOf-mod, whole-own}
 use Rattle.adaptive.specs.Number.Lawful.{Lawful}
 
 -- an accepted reading taken apart
@@ -49,6 +50,17 @@ module _ {A : Type 0} (K : Kind A) where
       let f = accepted-found s v n a in
       (rw (← a .used) (f .some), rw (← a .used) (f .within), rw (← a .used) (f .there))
 
+  pub readAs-rejected : (s : List ℕ) (x : ℕ) → readAs K s ≡ rejected x → 0 < x
+  unfolding readAs
+  readAs-rejected s x e = by-front (front 5 s) (front-fair 5 s) e
+    where
+      by-range : (bs : List ℕ) (t : Bool) → cond t (accepted (K .valueOf bs) (length bs)) (rejected 13) ≡ rejected x → 0 < x
+      by-range bs true e = let z : _≡_ {A = ℕ} 0 1 = cc in omega arith
+      by-range bs false e = let z : _≡_ {A = ℕ} 13 x = cc in omega arith
+      by-front : (f : Front) → Fair 5 s f → judged K f ≡ rejected x → 0 < x
+      by-front (whole bs) p e = by-range bs (K .inRange (K .valueOf bs)) e
+      by-front (fault y) p e = let z : y ≡ x = cc in omega arith
+
   pub bytesOf-shortest : {k d : ℕ} (v : A) → k ≡ fewest K v → d ≡ K .dataFor v → bytesOf k d ≡ shortest K v
   unfolding shortest
   bytesOf-shortest v ek ed = cc
@@ -59,6 +71,9 @@ module _ {A : Type 0} (K : Kind A) where
 
   pub fewest-le : (v : A) → fewest K v ≤ 4
   fewest-le v = laterBytes-le 4 (K .first) (K .magnitude v)
+
+  pub shortest-count : (v : A) → (0 < length (shortest K v)) × (length (shortest K v) ≤ 5)
+  shortest-count v = omega (arith, length-shortest v, fewest-le v)
 
   module _ (L : Lawful K) where
     -- a form with room for the value is read as the value
@@ -86,3 +101,15 @@ module _ {A : Type 0} (K : Kind A) where
         let fits : K .magnitude v < K .first * 128 ^ (n - 1) = rw (a .value) at (L .value-fits (a .bytes) (n - 1) count) in
         let least : fewest K v ≤ n - 1 = laterBytes-least 4 (K .first) (K .magnitude v) (n - 1) fits in
         rw (length-shortest v) (omega arith)
+
+    -- what is accepted, of bytes, is the form of the value in that many bytes
+    pub readAs-own : (s : List ℕ) (v : A) (n : ℕ) → Bytes s → readAs K s ≡ accepted v n → take n s ≡ formOf K (n - 1) v
+    readAs-own s v n h e =
+        let a = readAs-accepted s v n e in
+        let f = accepted-found s v n a in
+        let k : n - 1 ≤ 4 = omega (arith, a .used, f .within) in
+        let count : length (a .bytes) ≡ suc (n - 1) = omega (arith, a .used, f .some) in
+        let first : take n s ≡ a .bytes = ap (λ (m : ℕ). take m s) (sym (a .used)) ∙ f .same in
+        let own : a .bytes ≡ bytesOf (n - 1) (dataOf (a .bytes)) = rw (a .used) at (whole-own 5 s (a .bytes) h (a .found)) in
+        let bits : K .dataFor v % 128 ^ suc (n - 1) ≡ dataOf (a .bytes) = rw (a .value) at (L .value-data (a .bytes) (n - 1) count k) in
+        first ∙ own ∙ ap (bytesOf (n - 1)) (sym bits) ∙ bytesOf-mod (n - 1) (K .dataFor v)

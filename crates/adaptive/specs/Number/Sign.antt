@@ -12,7 +12,7 @@ use lib.Pow.{pow-add}
 use borrow.Author.Tests.{lt-ltb}
 use lib.Signed.{mag}
 use lib.IntN.{ℤ, pos, negsuc, _-ℤ_}
-use Rattle.adaptive.specs.Number.{dataOf, signedValue}
+use Rattle.adaptive.specs.Number.{dataOf, signedValue, twos}
 use Rattle.adaptive.specs.Number.Laws.{pow-128-pos, dataOf-lt}
 
 -- the value v of the data bits d in k later bytes
@@ -86,3 +86,10 @@ twos-low k m hk hm =
         let split : t - suc m ≡ c * q + (q - suc m) = omega arith in
         let low : q - suc m < q = omega arith in
         rw (split, mul-add-mod-self-right) (mod-eq-of-lt low)
+
+pub signed-twos : (k d : ℕ) (v : ℤ) → k ≤ 4 → d < 128 ^ suc k → Signed k d v → twos v % 128 ^ suc k ≡ d
+signed-twos k d v hk h (clear low e) = rw e (mod-eq-of-lt h)
+signed-twos k d v hk h (set high e) =
+    let below : 128 ^ suc k - suc d < 128 ^ suc k = omega arith in
+    let back : 128 ^ suc k - suc (128 ^ suc k - suc d) ≡ d = omega arith in
+    rw e (twos-low k (128 ^ suc k - suc d) hk below ∙ back)

@@ -1,0 +1,45 @@
+-- `adaptive::write::write_bytes` meets its contract. Assumes nothing.
+use native.Mathlib.Omega.{arith}
+use native.Mathlib.Numerals.{add-one}
+use Prim.Native.Nat.{_≤_}
+use lib.ListN.{length}
+use mathlib.Core.Path.{sym}
+use borrow.Author.Needs.{needs}
+use Rattle.adaptive.specs.Number.{bytesOf}
+use Rattle.adaptive.specs.Number.Laws.{length-bytesOf}
+use Rattle.adaptive.specs.Calls.Laws.{written-refused, written-done}
+use Rattle.adaptive.proofs.write.write_bytes.Statement.{statement}
+use Rattle.adaptive.proofs.write.write_bytes.Tie as tie
+use Rattle.adaptive.proofs.write.write_bytes.Reads as reads
+use Rattle.adaptive.proofs.write.write_bytes.Lts as lts
+use Rattle.adaptive.proofs.write.put_bytes.Reads as put-bytes-reads
+
+-- the lent memory is too small
+returns : tie.Need-returns
+returns c =
+    let a = c .before .before .args in
+    sym (written-refused (bytesOf (a .k) (a .d)) (a .out .now) (omega (arith, length-bytesOf (a .k) (a .d))))
+
+put-bytes-requires : tie.Need-put-bytes-requires
+put-bytes-requires c κs = search needs
+
+cast-t9 : tie.Need-cast-t9
+cast-t9 c = search needs
+
+add-t10 : tie.Need-add-t10
+add-t10 c = search needs
+
+same-length : tie.Need-same-length
+same-length c = search needs
+
+-- the bytes are written
+returns-2 : tie.Need-returns-2
+returns-2 c =
+    let a = c .before .before .before .before .before .before .args in
+    let long = length-bytesOf (a .k) (a .d) in
+    let fits : length (bytesOf (a .k) (a .d)) ≤ length (a .out .now) = omega arith in
+    rw (written-done (bytesOf (a .k) (a .d)) (a .out .now) fits, long, add-one (a .k), c .before .before .put-bytes .ensures)
+
+pub write-bytes-spec : {M : Type 1} → statement M
+write-bytes-spec =
+    tie.close (tie.spec returns put-bytes-requires cast-t9 add-t10 same-length returns-2)

@@ -1,0 +1,37 @@
+-- Document 01: what the four calls on adaptive-precision numbers answer, the memory lent for writing included.
+-- Assumes nothing.
+use Prim.Native.Nat.{ℕ}
+use mathlib.Core.List.{List}
+use lib.ListN.{length}
+use lib.Dec.{ltb}
+use lib.IntN.{ℤ, pos}
+use Rattle.answer.specs.Outcome.{Outcome, wrote, refuseIf, unless}
+use Rattle.adaptive.specs.declared.SignedRead.{SignedRead}
+use Rattle.adaptive.specs.declared.UnsignedRead.{UnsignedRead}
+use Rattle.adaptive.specs.Number.{Reading, accepted, rejected, signed, unsigned, readAs, shortest}
+pub mod Laws
+
+-- "The answer is the value and the bytes used"
+abbrev pub signedAnswer : Reading ℤ → SignedRead
+signedAnswer (accepted v n) = record { number = 0; value = v; used = n }
+signedAnswer (rejected e) = record { number = e; value = pos 0; used = 0 }
+
+abbrev pub unsignedAnswer : Reading ℕ → UnsignedRead
+unsignedAnswer (accepted v n) = record { number = 0; value = v; used = n }
+unsignedAnswer (rejected e) = record { number = e; value = 0; used = 0 }
+
+unfoldable pub signedRead : List ℕ → SignedRead
+signedRead s = signedAnswer (readAs signed s)
+
+unfoldable pub unsignedRead : List ℕ → UnsignedRead
+unsignedRead s = unsignedAnswer (readAs unsigned s)
+
+-- the bytes b at the front of the lent memory m; 5 where "lent room smaller than this call's output"
+unfoldable pub written : List ℕ → List ℕ → Outcome
+written b m = unless (refuseIf (ltb (length m) (length b)) 5) m (wrote (length b) b m)
+
+unfoldable pub signedWritten : ℤ → List ℕ → Outcome
+signedWritten v m = written (shortest signed v) m
+
+unfoldable pub unsignedWritten : ℕ → List ℕ → Outcome
+unsignedWritten v m = written (shortest unsigned v) m

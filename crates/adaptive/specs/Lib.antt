@@ -1,0 +1,5 @@
+pub mod Number
+pub mod Calls
+pub mod Theorems
+pub mod Cases
+pub mod Gather

@@ -1,0 +1,49 @@
+-- Worked readings that pin what the theorems leave to the definitions: which number a faulty item gets, and the bits that it
+-- uses. The table has the strings 0 (step 0), 10 (raw), 110 (bad pixel) and 1110 (bad bias); 1111 is an unused branch.
+-- Assumes nothing.
+use Prim.Native.Nat.{ℕ}
+use mathlib.Core.Path.{_≡_, refl}
+use mathlib.Core.List.{List, [], _∷_, _++_}
+use lib.ListN.{replicate}
+use Rattle.bitstream.specs.Bits.{digits, numOf, begins}
+use Rattle.row_format.specs.Lists.{any, least}
+use Rattle.row_format.specs.Table.{codeword, codewords, codewordAt, verdict, wrongSize, wrongWord, wrongCodeword, clash}
+use Rattle.row_format.specs.Row.{difference, badPixel, badBias, escape}
+use Rattle.row_format.specs.Reading.{Run, done, stop, find, unmatched, rawHeight, matched, readItem, readBy, readItems}
+
+abbrev small : List ℕ
+small = 7 ∷ 4093 ∷ 1 ∷ 34 ∷ 99 ∷ 228 ∷ 1 ∷ []
+
+pub small-accepted : verdict small ≡ 0
+unfolding digits begins any codeword codewords verdict wrongSize wrongWord wrongCodeword clash
+small-accepted = refl
+
+-- a reading of n items from some bits
+pub data Case : Type 0 where
+  reads : ℕ → List ℕ → Run → Case
+
+abbrev pub Holds : Case → Type 0
+Holds (reads n b r) = readItems small n b ≡ r
+
+abbrev pub Each : List Case → Type 0
+Each [] = Unit {0}
+Each (c ∷ cs) = Holds c × Each cs
+
+abbrev pub cases : List Case
+cases =
+    reads 4 (0 ∷ 1 ∷ 1 ∷ 0 ∷ 1 ∷ 1 ∷ 1 ∷ 0 ∷ 0 ∷ 1 ∷ []) (done (difference 4093 ∷ badPixel ∷ badBias ∷ difference 4093 ∷ []) 9)
+    -- 6: nothing is left; the rest is a proper beginning of a string; too few bits for the raw height: all bits left
+    ∷ reads 2 (0 ∷ []) (stop 6 1 1)
+    ∷ reads 1 (1 ∷ 1 ∷ 1 ∷ []) (stop 6 0 3)
+    ∷ reads 2 (0 ∷ 1 ∷ 0 ∷ 1 ∷ 1 ∷ []) (stop 6 1 5)
+    -- 7: no string begins 1111, and three of its bits begin one: four bits
+    ∷ reads 1 (1 ∷ 1 ∷ 1 ∷ 1 ∷ 0 ∷ 0 ∷ []) (stop 7 0 4)
+    -- 9: a raw height of 4094: its item's bits
+    ∷ reads 1 (1 ∷ 0 ∷ 0 ∷ 1 ∷ 1 ∷ 1 ∷ 1 ∷ 1 ∷ 1 ∷ 1 ∷ 1 ∷ 1 ∷ 1 ∷ 1 ∷ 0 ∷ []) (stop 9 0 14)
+    -- a raw height of 1
+    ∷ reads 1 (1 ∷ 0 ∷ 1 ∷ 0 ∷ 0 ∷ 0 ∷ 0 ∷ 0 ∷ 0 ∷ 0 ∷ 0 ∷ 0 ∷ 0 ∷ 0 ∷ 0 ∷ []) (done (escape 1 ∷ []) 14)
+    ∷ []
+
+pub cases-hold : Each cases
+unfolding digits numOf begins any least codeword codewords codewordAt find unmatched rawHeight matched readItem readBy readItems
+cases-hold = (refl, (refl, (refl, (refl, (refl, (refl, (refl, tt)))))))

@@ -1,0 +1,1 @@
+// The papers' worked cases as theorems, in specs/. No code.

@@ -1,8 +1,8 @@
 -- Document 01, "Adaptive-precision numbers"; source document 000, section 1.2: what bytes stand for, and the bytes of a
 -- value. Signed and unsigned numbers differ in what their first byte holds; all else is said once, of a Kind.
--- Definitions only; their laws are in Number/Laws.antt. Assumes nothing.
+-- Definitions only; their laws are in Number/. Assumes nothing.
 use Prim.Native.Nat.{ℕ, zero, suc, _+_, _-_, _*_, _/_, _%_, _^_}
-use mathlib.Core.Bool.{Bool, true, false, cond, _&&_}
+use mathlib.Core.Bool.{Bool, cond, _&&_}
 use mathlib.Core.List.{List, [], _∷_, _++_}
 use lib.ListN.{length}
 use lib.Dec.{leb, ltb}
@@ -15,7 +15,7 @@ pub mod Lawful
 pub mod Read
 
 -- ---- which bytes are a number
--- the bytes of the number at the front of some bytes, or the number of the refusal
+-- the bytes of the whole number at the front of some bytes, or the number of the refusal
 pub data Front : Type 0 where
   whole : List ℕ → Front
   fault : ℕ → Front
@@ -24,7 +24,7 @@ abbrev pub before : ℕ → Front → Front
 before b (whole bs) = whole (b ∷ bs)
 before b (fault e) = fault e
 
--- "Bit 128 of each byte says that another byte follows". Of at most n bytes: 12 where "bytes end before an adaptive number
+-- "Bit 128 of each byte says that another byte follows". Of n bytes at most: 12 where "bytes end before an adaptive number
 -- does", 13 where the last byte allowed asks for another
 unfoldable pub front : ℕ → List ℕ → Front
 front zero s = fault 13
@@ -32,18 +32,18 @@ front (suc n) [] = fault 12
 front (suc n) (b ∷ s) = let f : Front = before b (front n s) in cond (leb 128 b) f (whole (b ∷ []))
 
 -- ---- what they stand for
--- "7 data bits a byte", "Bytes run from the most significant"
+-- "Bytes run from the most significant", "7 data bits a byte"
 unfoldable pub dataOf : List ℕ → ℕ
 dataOf [] = 0
 dataOf (b ∷ bs) = b % 128 * 128 ^ length bs + dataOf bs
 
 -- "Signed: the first byte has bit 64 as sign and 6 data bits, later bytes 7. With k later bytes and the sign set, the value
--- is the data minus 64 x 128^k"
+-- is the data minus 64 x 128^k". (Every number has a first byte, so the first line is never asked.)
 unfoldable pub signedValue : List ℕ → ℤ
 signedValue [] = pos 0
 signedValue (b ∷ bs) = pos (b % 64 * 128 ^ length bs + dataOf bs) -ℤ pos (b / 64 % 2 * (64 * 128 ^ length bs))
 
--- ---- the bytes of a value
+-- ---- the bytes of data bits
 -- the k lowest groups of 7 bits, the most significant first, in bytes that all say that another follows
 unfoldable pub continued : ℕ → ℕ → List ℕ
 continued zero d = []
@@ -53,37 +53,46 @@ continued (suc k) d = continued k (d / 128) ++ ((128 + d % 128) ∷ [])
 unfoldable pub bytesOf : ℕ → ℕ → List ℕ
 bytesOf k d = continued k (d / 128) ++ (d % 128 ∷ [])
 
--- two's complement in 35 bits, the data bits of five bytes
+-- the data bits of a signed value: two's complement in the 35 bits of five bytes
 abbrev pub twos : ℤ → ℕ
 twos (pos m) = m
 twos (negsuc m) = 128 ^ 5 - suc m
 
--- the least number of later bytes with which the magnitude m is below w x 128^k, and n where no fewer do
-unfoldable pub laterBytes : ℕ → ℕ → ℕ → ℕ
-laterBytes zero w m = 0
-laterBytes (suc n) w m = let k : ℕ = laterBytes n (w * 128) m in cond (ltb m w) 0 (suc k)
-
 -- ---- signed and unsigned
 pub record Kind (A : Type 0) : Type 0 where
-  pub valueOf : List ℕ → A      -- what the bytes of a whole number stand for
+  -- what the bytes of a whole number stand for, and which values are in range
+  pub valueOf : List ℕ → A
   pub inRange : A → Bool
-  pub dataFor : A → ℕ           -- the data bits of a value, of which k later bytes hold the 7 x (k + 1) lowest
-  pub magnitude : A → ℕ         -- one byte holds the values whose magnitude is below `first`, k later ones those below 128^k as many
+  -- the data bits of a value; with k later bytes the 7 x (k + 1) lowest of them are written
+  pub dataFor : A → ℕ
+  -- k later bytes have room for the values of a magnitude below first x 128^k
   pub first : ℕ
+  pub magnitude : A → ℕ
 
 -- "unsigned 0 to 4294967295"
 abbrev pub unsigned : Kind ℕ
-unsigned =
-    record { valueOf = dataOf; inRange = λ v. leb v 4294967295; dataFor = λ v. v; magnitude = λ v. v; first = 128 }
+unsigned = record {
+  valueOf = dataOf;
+  inRange = λ v. leb v 4294967295;
+  dataFor = λ v. v;
+  first = 128;
+  magnitude = λ v. v;
+}
 
--- "Signed values are -2147483648 to 2147483647". The magnitude is v, or -1 - v where v is negative
+-- "Signed values are -2147483648 to 2147483647"; `mag v` is v, or -1 - v where v is negative
 abbrev pub signed : Kind ℤ
-signed =
-    record { valueOf = signedValue; inRange = λ v. leZ (negsuc 2147483647) v && leZ v (pos 2147483647); dataFor = twos; magnitude = mag; first = 64 }
+signed = record {
+  valueOf = signedValue;
+  inRange = λ v. leZ (negsuc 2147483647) v && leZ v (pos 2147483647);
+  dataFor = twos;
+  first = 64;
+  magnitude = mag;
+}
 
 -- ---- reading
+-- a value and the bytes used, or the number of the refusal
 pub data Reading (A : Type 0) : Type 0 where
-  accepted : A → ℕ → Reading A      -- the value and the bytes used
+  accepted : A → ℕ → Reading A
   rejected : ℕ → Reading A
 
 -- 13 where "the value is outside its range"
@@ -96,11 +105,16 @@ unfoldable pub readAs : {A : Type 0} → Kind A → List ℕ → Reading A
 readAs K s = judged K (front 5 s)
 
 -- ---- writing
--- a value with k later bytes
+-- a value in k + 1 bytes
 abbrev pub formOf : {A : Type 0} → Kind A → ℕ → A → List ℕ
 formOf K k v = bytesOf k (K .dataFor v)
 
--- "The writer uses the fewest bytes"
+-- the least k with which a magnitude m is below w x 128^k, but never more than n
+unfoldable pub laterBytes : ℕ → ℕ → ℕ → ℕ
+laterBytes zero w m = 0
+laterBytes (suc n) w m = let k : ℕ = laterBytes n (w * 128) m in cond (ltb m w) 0 (suc k)
+
+-- "The writer uses the fewest bytes": so many later ones
 abbrev pub fewest : {A : Type 0} → Kind A → A → ℕ
 fewest K v = laterBytes 4 (K .first) (K .magnitude v)
 

@@ -1,6 +1,7 @@
--- What holds of adaptive-precision numbers, read and written. The theorems are of every lawful kind of number, and signed
--- and unsigned numbers are lawful kinds. Each cites its proof. Assumes nothing.
+-- What holds of adaptive-precision numbers, read and written; the proofs are cited. The theorems that name a kind hold of
+-- every lawful kind, and signed and unsigned numbers are lawful kinds. Assumes nothing.
 use Prim.Native.Nat.{ℕ, suc, _-_, _≤_, _<_}
+use native.Mathlib.Omega.{arith}
 use mathlib.Core.Path.{_≡_, _∙_}
 use mathlib.Core.Bool.{true}
 use mathlib.Core.List.{List, _++_}
@@ -8,53 +9,64 @@ use lib.ListN.{length, take}
 use lib.IntN.{ℤ}
 use lib.Signed.{mag}
 use borrow.Author.Tests.{le-leb}
-use native.Mathlib.Omega.{arith}
 use Rattle.adaptive.specs.Number.{Kind, signed, unsigned, readAs, accepted, formOf, fewest, shortest}
-use Rattle.adaptive.specs.Number.Lawful as Laws
-use Rattle.adaptive.specs.Number.Lawful.{Lawful}
 use Rattle.adaptive.specs.Number.Own.{Bytes}
+use Rattle.adaptive.specs.Number.Lawful.{Lawful, signed-lawful, unsigned-lawful, signed-range}
 use Rattle.adaptive.specs.Number.Read as Read
 use Rattle.adaptive.specs.Calls.{signedRead, signedWritten, unsignedRead, unsignedWritten}
 use Rattle.adaptive.specs.Calls.Laws as Calls
 
 pub lawful : Lawful signed × Lawful unsigned
-lawful = (Laws.signed-lawful, Laws.unsigned-lawful)
+lawful = (signed-lawful, unsigned-lawful)
 
 -- Every i32 and every u32 is in range; `mag v` is v, or -1 - v where v is negative.
-pub in-range : ((v : ℤ) → mag v < 2147483648 → signed .inRange v ≡ true) × ((v : ℕ) → v < 4294967296 → unsigned .inRange v ≡ true)
-in-range = (λ v h. Laws.signed-range v ∙ le-leb (mag v) 2147483647 (omega arith), λ v h. le-leb v 4294967295 (omega arith))
+pub every-i32 : (v : ℤ) → mag v < 2147483648 → signed .inRange v ≡ true
+every-i32 v h = signed-range v ∙ le-leb (mag v) 2147483647 (omega arith)
 
--- What a call writes in enough memory the other call reads back: the value, and as many bytes as were counted.
-pub signed-there-and-back : (v : ℤ) (m : List ℕ) → signed .inRange v ≡ true → length (shortest signed v) ≤ length m → signedRead (signedWritten v m .memory) ≡ record { number = 0; value = v; used = signedWritten v m .answer .count }
-signed-there-and-back = Calls.signed-written-read
+pub every-u32 : (v : ℕ) → v < 4294967296 → unsigned .inRange v ≡ true
+every-u32 v h = le-leb v 4294967295 (omega arith)
 
-pub unsigned-there-and-back : (v : ℕ) (m : List ℕ) → unsigned .inRange v ≡ true → length (shortest unsigned v) ≤ length m → unsignedRead (unsignedWritten v m .memory) ≡ record { number = 0; value = v; used = unsignedWritten v m .answer .count }
-unsigned-there-and-back = Calls.unsigned-written-read
+-- What one call writes, where the memory has room for it, the other reads back: the value, and the count of its bytes.
+pub signed-there-and-back : (v : ℤ) (m : List ℕ) → signed .inRange v ≡ true → length (shortest signed v) ≤ length m
+    → signedRead (signedWritten v m .memory) ≡ record { number = 0; value = v; used = signedWritten v m .answer .count }
+signed-there-and-back = Calls.signed-back
+
+pub unsigned-there-and-back : (v : ℕ) (m : List ℕ) → unsigned .inRange v ≡ true → length (shortest unsigned v) ≤ length m
+    → unsignedRead (unsignedWritten v m .memory) ≡ record { number = 0; value = v; used = unsignedWritten v m .answer .count }
+unsigned-there-and-back = Calls.unsigned-back
 
 module _ {A : Type 0} {K : Kind A} (L : Lawful K) where
-  -- Written and then read, whatever follows, a number gives its value and its count of bytes.
-  pub written-read : (v : A) → K .inRange v ≡ true → (rest : List ℕ) → readAs K (shortest K v ++ rest) ≡ accepted v (length (shortest K v))
+  -- Written and then read, whatever follows it, a number gives its value and its count of bytes.
+  pub written-read : (v : A) → K .inRange v ≡ true
+      → (rest : List ℕ) → readAs K (shortest K v ++ rest) ≡ accepted v (length (shortest K v))
   written-read = Read.readAs-shortest K L
 
   -- Nothing shorter than what is written for a value is read as that value.
   pub written-fewest : (s : List ℕ) (v : A) (n : ℕ) → readAs K s ≡ accepted v n → length (shortest K v) ≤ n
   written-fewest = Read.shortest-least K L
 
-  -- In every length from the fewest bytes to five, the value's form of that length is read as the value.
-  pub longer-read : (k : ℕ) (v : A) → fewest K v ≤ k → k ≤ 4 → K .inRange v ≡ true → (rest : List ℕ) → readAs K (formOf K k v ++ rest) ≡ accepted v (suc k)
+  -- From the fewest bytes to five, the form of a value in that many bytes is read as the value,
+  pub longer-read : (k : ℕ) (v : A) → fewest K v ≤ k → k ≤ 4 → K .inRange v ≡ true
+      → (rest : List ℕ) → readAs K (formOf K k v ++ rest) ≡ accepted v (suc k)
   longer-read = Read.readAs-longer K L
 
-  -- Nothing else of that length is read as the value.
+  -- and no other bytes of that number are.
   pub read-own : (s : List ℕ) (v : A) (n : ℕ) → Bytes s → readAs K s ≡ accepted v n → take n s ≡ formOf K (n - 1) v
   read-own = Read.readAs-own K L
 
-  -- Every number takes one to five bytes, as it is written and as it is read, and those are bytes that were there.
+  -- Every number takes one to five bytes: as it is written,
   pub written-count : (v : A) → (0 < length (shortest K v)) × (length (shortest K v) ≤ 5)
   written-count = Read.shortest-count K
 
+  -- and as it is read, where they are bytes that are there.
   pub read-count : (s : List ℕ) (v : A) (n : ℕ) → readAs K s ≡ accepted v n → (0 < n) × (n ≤ 5) × (n ≤ length s)
   read-count = Read.readAs-used K
 
-  -- No byte after a number is looked at: with anything else in their place the answer is the same.
-  pub read-local : (s : List ℕ) (v : A) (n : ℕ) → readAs K s ≡ accepted v n → (rest : List ℕ) → readAs K (take n s ++ rest) ≡ accepted v n
+  -- No byte after a number is looked at: with anything in their place the answer is the same.
+  pub read-local : (s : List ℕ) (v : A) (n : ℕ) → readAs K s ≡ accepted v n
+      → (rest : List ℕ) → readAs K (take n s ++ rest) ≡ accepted v n
   read-local = Read.readAs-local K
+
+  -- Whatever the answer, no byte after the fifth is looked at.
+  pub read-five : (s : List ℕ) → readAs K (take 5 s) ≡ readAs K s
+  read-five = Read.readAs-take K

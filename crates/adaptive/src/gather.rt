@@ -3,8 +3,7 @@ ghost use mathlib.Core.Path.{_≡_};
 ghost use Rattle.adaptive.specs.Number.{front};
 ghost use Rattle.adaptive.specs.Gather.{gatheredOf};
 
-// The data bits of the whole number at the front, how many values that many bytes can hold, and how many bytes they are;
-// or a number of document 01 that is not 0.
+// A whole number's data bits, how many different ones that many bytes can hold, and the bytes; or a refusal's number.
 pub struct Gathered {
     pub number: u32,
     pub raw: u64,
@@ -15,20 +14,36 @@ pub struct Gathered {
 pub fn gather(s: &[u8]) -> Gathered
     ensures { λ r. ⌜ r ≡ gatheredOf (front 5 (now (s .entry))) ⌝ }
 {
+    // i bytes are taken, and another follows each; raw is their data bits, below span, which is 128 to the power i
     let mut raw: u64 = 0;
     let mut span: u64 = 1;
     let mut i: usize = 0;
     while i < 5 {
         if s.len() <= i {
-            return Gathered { number: 12, raw: 0, span: 0, used: 0 };
+            return Gathered {
+                number: 12,
+                raw: 0,
+                span: 0,
+                used: 0,
+            };
         }
         let b = s[i];
         raw = raw * 128 + (b % 128) as u64;
         span *= 128;
         i += 1;
         if b < 128 {
-            return Gathered { number: 0, raw, span, used: i as u32 };
+            return Gathered {
+                number: 0,
+                raw,
+                span,
+                used: i as u32,
+            };
         }
     }
-    Gathered { number: 13, raw: 0, span: 0, used: 0 }
+    Gathered {
+        number: 13,
+        raw: 0,
+        span: 0,
+        used: 0,
+    }
 }

@@ -12,7 +12,7 @@ pub fn magnitude(v: i32) -> u64
     if v < 0 { (-1 - v) as u64 } else { v as u64 }
 }
 
-// Two's complement in 35 bits.
+// Two's complement in the 35 data bits of five bytes: the constant is 128 ^ 5 - 1, whose bits are those of -1.
 pub fn data_bits(v: i32) -> u64
     ensures { λ r. ⌜ r ≡ twos v ⌝ }
 {

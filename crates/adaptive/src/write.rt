@@ -6,9 +6,9 @@ ghost use lib.ListN.{length, drop};
 ghost use Rattle.answer.specs.Outcome.{outcome};
 ghost use Rattle.adaptive.specs.Number.{laterBytes, bytesOf};
 ghost use Rattle.adaptive.specs.Calls.{written, signedWritten, unsignedWritten};
-use answer::Answer;
 use crate::sign::data_bits;
 use crate::sign::magnitude;
+use answer::Answer;
 
 // How many bytes follow the first, where the first alone holds magnitudes below `first`.
 fn later_bytes(first: u64, m: u64) -> usize
@@ -42,17 +42,25 @@ fn put_bytes(k: usize, d: u64, out: &mut [u8])
     }
 }
 
+// The bytes at the front of out, and their count; 5 where out has no room for them.
 fn write_bytes(k: usize, d: u64, out: &mut [u8]) -> Answer
     requires { ⌜ k ≤ 4 ⌝ }
     ensures { λ r. ⌜ outcome r (now (out .exit)) ≡ written (bytesOf k d) (now (out .entry)) ⌝ }
 {
     if out.len() <= k {
-        return Answer { number: 5, count: 0 };
+        return Answer {
+            number: 5,
+            count: 0,
+        };
     }
     put_bytes(k, d, out);
-    Answer { number: 0, count: k as u32 + 1 }
+    Answer {
+        number: 0,
+        count: k as u32 + 1,
+    }
 }
 
+// Puts value at the front of out in the fewest bytes, and answers their count; 5 where out has no room, and is as it was.
 pub fn write_unsigned(value: u32, out: &mut [u8]) -> Answer
     ensures { λ r. ⌜ outcome r (now (out .exit)) ≡ unsignedWritten value (now (out .entry)) ⌝ }
 {
@@ -60,6 +68,7 @@ pub fn write_unsigned(value: u32, out: &mut [u8]) -> Answer
     write_bytes(k, value as u64, out)
 }
 
+// The same of a signed value.
 pub fn write_signed(value: i32, out: &mut [u8]) -> Answer
     ensures { λ r. ⌜ outcome r (now (out .exit)) ≡ signedWritten value (now (out .entry)) ⌝ }
 {

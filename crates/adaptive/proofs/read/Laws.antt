@@ -1,14 +1,14 @@
 -- What gather's answer says of the bytes, and of the value that they stand for. Assumes nothing.
-use Prim.Native.Nat.{ℕ, zero, suc, _+_, _-_, _*_, _/_, _^_, _≤_, _<_}
+use Prim.Native.Nat.{ℕ, suc, _-_, _*_, _/_, _^_, _≤_, _<_}
 use native.Mathlib.Nat.{pow-suc}
 use native.Mathlib.Omega.{arith}
-use mathlib.Core.Path.{_≡_, refl, sym, ap, _∙_, subst}
+use mathlib.Core.Path.{_≡_, refl, sym, ap, _∙_}
 use mathlib.Core.Bool.{Bool, true, false, cond}
-use mathlib.Core.List.{List, [], _∷_}
+use mathlib.Core.List.{List}
 use lib.ListN.{length}
 use lib.Dec.{leb}
-use lib.IntN.{ℤ, pos, negsuc}
-use Rattle.adaptive.specs.Number.{Front, whole, fault, front, dataOf, signedValue, signed, Reading, accepted, rejected, judged, readAs}
+use lib.IntN.{pos, negsuc}
+use Rattle.adaptive.specs.Number.{Front, whole, fault, front, dataOf, signedValue, signed, accepted, rejected, readAs}
 use Rattle.adaptive.specs.Number.Laws.{Fair, front-fair, dataOf-lt}
 use Rattle.adaptive.specs.Number.Sign.{Signed, signedValue-is, signed-pos, signed-set}
 use Rattle.adaptive.specs.Number.Lawful.{signed-range}
@@ -25,17 +25,26 @@ pub record Whole (s : List ℕ) (g : Gathered) : Type 0 where
   pub long : length bytes ≡ suc later
   pub span : g .span ≡ 128 ^ suc later
 
-pub gathered-whole : (s : List ℕ) (g : Gathered) → g ≡ gatheredOf (front 5 s) → g .number ≡ 0 → Whole s g
-gathered-whole s g e z = by-front (front 5 s) refl (front-fair 5 s) e
+pub gathered-whole : (s : List ℕ) {g : Gathered} → g ≡ gatheredOf (front 5 s) → g .number ≡ 0 → Whole s g
+gathered-whole s {g} e z = by-front (front 5 s) refl (front-fair 5 s) e
   where
     by-front : (f : Front) → front 5 s ≡ f → Fair 5 s f → g ≡ gatheredOf f → Whole s g
     by-front (whole bs) f p q =
         let long : length bs ≡ suc (length bs - 1) = omega (arith, p .some) in
-        record { bytes = bs; found = f; raw = ap (λ x. x .raw) q; used = ap (λ x. x .used) q; later = length bs - 1; long = long; span = ap (λ x. x .span) q ∙ ap (λ (n : ℕ). 128 ^ n) long }
+        record {
+          bytes = bs;
+          found = f;
+          raw = ap (λ x. x .raw) q;
+          used = ap (λ x. x .used) q;
+          later = length bs - 1;
+          long = long;
+          span = ap (λ x. x .span) q ∙ ap (λ (n : ℕ). 128 ^ n) long;
+        }
     by-front (fault x) f p q = absurd (omega (arith, ap (λ (y : Gathered). y .number) q))
 
-pub gathered-fault : (s : List ℕ) (g : Gathered) → g ≡ gatheredOf (front 5 s) → (g .number ≡ 0 → ⊥) → front 5 s ≡ fault (g .number)
-gathered-fault s g e n = by-front (front 5 s) refl e
+pub gathered-fault : (s : List ℕ) {g : Gathered} → g ≡ gatheredOf (front 5 s) → (g .number ≡ 0 → ⊥)
+    → front 5 s ≡ fault (g .number)
+gathered-fault s {g} e n = by-front (front 5 s) refl e
   where
     by-front : (f : Front) → front 5 s ≡ f → g ≡ gatheredOf f → front 5 s ≡ fault (g .number)
     by-front (whole bs) f q = absurd (n (ap (λ x. x .number) q))
@@ -66,6 +75,7 @@ module _ {s : List ℕ} {g : Gathered} (w : Whole s g) where
       let same : 128 ^ suc (w .later) - suc (g .raw) ≡ g .span - 1 - g .raw = omega (arith, w .span) in
       signed-set high value ∙ ap negsuc same
 
-  pub readAs-signed : (t : Bool) (m : ℕ) → signedValue (w .bytes) ≡ signedOf t m → readAs signed s ≡ cond (leb m 2147483647) (accepted (signedOf t m) (g .used)) (rejected 13)
+  pub readAs-signed : (t : Bool) (m : ℕ) → signedValue (w .bytes) ≡ signedOf t m
+      → readAs signed s ≡ cond (leb m 2147483647) (accepted (signedOf t m) (g .used)) (rejected 13)
   unfolding readAs
   readAs-signed t m e = rw (w .found) (rw (e, in-range t m, ← w .used))

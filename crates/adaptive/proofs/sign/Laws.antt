@@ -1,9 +1,9 @@
 -- What the code's tests and operations on an i32 give. A signed local holds bits, so a value v is read back as
 -- `toZ w32 (ofZ w32 v)`. Assumes nothing.
-use Prim.Native.Nat.{ℕ, zero, suc, _-_, _≤_, _<_}
+use Prim.Native.Nat.{ℕ, zero, suc, _-_, _≤_}
 use native.Mathlib.Nat.{lt-trans, zero-add, not-suc-le-zero}
 use native.Mathlib.Omega.{arith}
-use mathlib.Core.Path.{_≡_, refl, sym, ap, _∙_, subst}
+use mathlib.Core.Path.{_≡_, refl, ap, _∙_, subst}
 use mathlib.Core.Bool.{Bool, true, false, true≢false}
 use lib.Dec.{T, lit<}
 use lib.IntN.{ℤ, pos, negsuc, _-ℤ_, natAbs}

@@ -1,18 +1,21 @@
 -- The laws of the calls' answers. Assumes nothing.
 use Prim.Native.Nat.{ℕ, _≤_, _<_, zero-le}
 use native.Mathlib.Omega.{arith}
-use mathlib.Core.Path.{_≡_, refl, _∙_, ap}
+use mathlib.Core.Path.{_≡_, refl, sym, ap}
 use mathlib.Core.Bool.{true}
 use mathlib.Core.List.{List, _++_}
 use lib.ListN.{length, drop}
 use lib.IntN.{ℤ}
 use borrow.Author.Tests.{lt-ltb, le-ltb}
-use Rattle.answer.specs.Outcome.{refused, wrote}
+use Rattle.adaptive.specs.declared.SignedRead.{SignedRead}
+use Rattle.adaptive.specs.declared.UnsignedRead.{UnsignedRead}
+use Rattle.answer.specs.Outcome.{outcome, answerOf, refused, wrote}
 use Rattle.adaptive.specs.Number.{Kind, signed, unsigned, Reading, accepted, rejected, readAs, shortest}
 use Rattle.adaptive.specs.Number.Lawful.{Lawful, signed-lawful, unsigned-lawful}
 use Rattle.adaptive.specs.Number.Read.{readAs-shortest, readAs-used, readAs-rejected}
 use Rattle.adaptive.specs.Calls.{written, signedRead, signedAnswer, signedWritten, unsignedRead, unsignedAnswer, unsignedWritten}
 
+-- ---- writing
 pub written-refused : (b m : List ℕ) → length m < length b → written b m ≡ refused 5 m
 unfolding written
 written-refused b m h = rw (lt-ltb (length m) (length b) h)
@@ -21,21 +24,28 @@ pub written-done : (b m : List ℕ) → length b ≤ length m → written b m �
 unfolding written
 written-done b m h = rw (le-ltb (length m) (length b) h)
 
--- what is written is read back from the memory that it was written to
-written-read : {A : Type 0} {K : Kind A} → Lawful K → (v : A) (m : List ℕ) → K .inRange v ≡ true → length (shortest K v) ≤ length m → readAs K (written (shortest K v) m .memory) ≡ accepted v (written (shortest K v) m .answer .count)
-written-read {A} {K} L v m r h =
+-- the same of what a call counts and leaves
+pub done-written : (b m m′ : List ℕ) (c : ℕ) → length b ≤ length m → c ≡ length b → m′ ≡ b ++ drop (length b) m
+    → outcome (answerOf 0 c) m′ ≡ written b m
+done-written b m m′ c h ec em = rw (ec, em) (sym (written-done b m h))
+
+-- ---- what is written is read back from the memory that it was written to
+back : {A : Type 0} {K : Kind A} → Lawful K → (v : A) (m : List ℕ) → K .inRange v ≡ true → length (shortest K v) ≤ length m
+    → readAs K (written (shortest K v) m .memory) ≡ accepted v (written (shortest K v) m .answer .count)
+back {A} {K} L v m r h =
     rw (written-done (shortest K v) m h) (readAs-shortest K L v r (drop (length (shortest K v)) m))
 
-pub signed-written-read : (v : ℤ) (m : List ℕ) → signed .inRange v ≡ true → length (shortest signed v) ≤ length m → signedRead (signedWritten v m .memory) ≡ record { number = 0; value = v; used = signedWritten v m .answer .count }
+pub signed-back : (v : ℤ) (m : List ℕ) → signed .inRange v ≡ true → length (shortest signed v) ≤ length m
+    → signedRead (signedWritten v m .memory) ≡ record { number = 0; value = v; used = signedWritten v m .answer .count }
 unfolding signedRead signedWritten
-signed-written-read v m r h = ap signedAnswer (written-read signed-lawful v m r h)
+signed-back v m r h = ap signedAnswer (back signed-lawful v m r h)
 
-pub unsigned-written-read : (v : ℕ) (m : List ℕ) → unsigned .inRange v ≡ true → length (shortest unsigned v) ≤ length m → unsignedRead (unsignedWritten v m .memory) ≡ record { number = 0; value = v; used = unsignedWritten v m .answer .count }
+pub unsigned-back : (v : ℕ) (m : List ℕ) → unsigned .inRange v ≡ true → length (shortest unsigned v) ≤ length m
+    → unsignedRead (unsignedWritten v m .memory) ≡ record { number = 0; value = v; used = unsignedWritten v m .answer .count }
 unfolding unsignedRead unsignedWritten
-unsigned-written-read v m r h = ap unsignedAnswer (written-read unsigned-lawful v m r h)
+unsigned-back v m r h = ap unsignedAnswer (back unsigned-lawful v m r h)
 
--- ---- for a caller that reads one number after another
--- the bytes that an answer of reading uses of s
+-- ---- for a caller that reads one number after another: what it knows of an answer's used bytes
 pub record Used (s : List ℕ) (number used : ℕ) : Type 0 where
   pub some : number ≡ 0 → 0 < used
   pub most : used ≤ 5
@@ -49,20 +59,24 @@ readAs-uses : {A : Type 0} (K : Kind A) (s : List ℕ) → Uses s (readAs K s)
 readAs-uses {A} K s = by-reading (readAs K s) refl
   where
     by-reading : (r : Reading A) → readAs K s ≡ r → Uses s r
-    by-reading (accepted v n) e = let u = readAs-used K s v n e in record { some = λ z. u .0; most = u .1; there = u .2 }
-    by-reading (rejected x) e = let h = readAs-rejected K s x e in record { some = λ z. absurd (omega arith); most = zero-le; there = zero-le }
+    by-reading (accepted v n) e =
+        let u = readAs-used K s v n e in
+        record { some = λ z. u .0; most = u .1; there = u .2 }
+    by-reading (rejected x) e =
+        let h = readAs-rejected K s x e in
+        record { some = λ z. absurd (omega arith); most = zero-le; there = zero-le }
 
-pub signedRead-used : (s : List ℕ) → Used s (signedRead s .number) (signedRead s .used)
+pub signedRead-used : (s : List ℕ) {r : SignedRead} → r ≡ signedRead s → Used s (r .number) (r .used)
 unfolding signedRead
-signedRead-used s = fields (readAs signed s) (readAs-uses signed s)
+signedRead-used s e = rw e (fields (readAs signed s) (readAs-uses signed s))
   where
     fields : (r : Reading ℤ) → Uses s r → Used s (signedAnswer r .number) (signedAnswer r .used)
     fields (accepted v n) u = u
     fields (rejected x) u = u
 
-pub unsignedRead-used : (s : List ℕ) → Used s (unsignedRead s .number) (unsignedRead s .used)
+pub unsignedRead-used : (s : List ℕ) {r : UnsignedRead} → r ≡ unsignedRead s → Used s (r .number) (r .used)
 unfolding unsignedRead
-unsignedRead-used s = fields (readAs unsigned s) (readAs-uses unsigned s)
+unsignedRead-used s e = rw e (fields (readAs unsigned s) (readAs-uses unsigned s))
   where
     fields : (r : Reading ℕ) → Uses s r → Used s (unsignedAnswer r .number) (unsignedAnswer r .used)
     fields (accepted v n) u = u

@@ -1,14 +1,15 @@
--- The laws of adaptive-precision numbers. Assumes nothing.
+-- The laws of data bits, of the bytes that hold them, of the number at the front of some bytes, and of how many bytes a
+-- magnitude asks for. Assumes nothing.
 use Prim.Native.Nat.{ℕ, zero, suc, _+_, _-_, _*_, _/_, _%_, _^_, _≤_, _<_, zero-le, suc-le-suc}
-use native.Mathlib.Nat.{pow-suc, pow-zero, mul-one, mul-assoc, mul-comm, add-mul, mul-add, add-assoc, add-zero, zero-add, add-suc, suc-add, mod-lt, mod-eq-of-lt, mod-one, div-one, zero-mod, le-trans, pow-le-pow-right, mul-le-mul-left, lt-of-lt-of-le, one-mul, zero-mul, one-le-pow, add-mod-left, mod-mod, pow-succ'}
+use native.Mathlib.Nat.{pow-suc, mul-assoc, zero-add, add-suc, suc-add, mod-lt, mod-one, pow-le-pow-right, mul-le-mul-left, lt-of-lt-of-le, one-le-pow, add-mod-left, mod-mod, pow-succ'}
 use native.Mathlib.Numerals.{add-one}
 use native.Mathlib.Decide.{decLt}
 use native.Mathlib.Omega.{arith}
 use mathlib.Core.Path.{_≡_, refl, sym, ap, _∙_, subst}
 use mathlib.Core.Bool.{Bool, true, false, cond}
 use mathlib.Core.List.{List, [], _∷_, _++_, append-assoc}
-use lib.ListN.{length, take, drop, length-append}
-use lib.Dec.{leb, ltb, lit<, lit≤}
+use lib.ListN.{length, take, length-append}
+use lib.Dec.{leb, ltb, lit<}
 use lib.Arith.{digits-lt, mod-mul}
 use borrow.Author.Tests.{le-leb, lt-leb, lt-ltb, le-ltb}
 use Rattle.adaptive.specs.Number.{Front, whole, fault, before, front, dataOf, continued, bytesOf, laterBytes}
@@ -23,7 +24,7 @@ pow-128-le h = pow-le-pow-right (lit< tt) h
 pub dataOf-lt : (bs : List ℕ) → dataOf bs < 128 ^ length bs
 unfolding dataOf
 dataOf-lt [] = lit< tt
-dataOf-lt (b ∷ bs) = rw (pow-suc 128 (length bs), mul-comm (128 ^ length bs) 128) (digits-lt (mod-lt b (lit< tt)) (dataOf-lt bs))
+dataOf-lt (b ∷ bs) = rw (pow-succ' 128 (length bs)) (digits-lt (mod-lt b (lit< tt)) (dataOf-lt bs))
 
 pub dataOf-snoc : (bs : List ℕ) (b : ℕ) → dataOf (bs ++ (b ∷ [])) ≡ dataOf bs * 128 + b % 128
 unfolding dataOf
@@ -43,6 +44,7 @@ unfolding bytesOf
 length-bytesOf k d =
     length-append (continued k (d / 128)) ((d % 128) ∷ []) ∙ rw (length-continued k (d / 128)) (add-one k)
 
+-- one group more
 low-group : (k d : ℕ) → d / 128 % 128 ^ k * 128 + d % 128 ≡ d % 128 ^ suc k
 low-group k d = rw (pow-suc 128 k) (sym (mod-mul d {c = 128} (pow-128-pos k) (lit< tt)))
 
@@ -50,14 +52,17 @@ pub dataOf-continued : (k d : ℕ) → dataOf (continued k d) ≡ d % 128 ^ k
 unfolding continued dataOf
 dataOf-continued zero d = sym (mod-one d)
 dataOf-continued (suc k) d =
-    dataOf-snoc (continued k (d / 128)) (128 + d % 128) ∙ rw (dataOf-continued k (d / 128)) (rw (add-mod-left 128 (d % 128), mod-mod d 128) (low-group k d))
+    dataOf-snoc (continued k (d / 128)) (128 + d % 128)
+    ∙ rw (dataOf-continued k (d / 128), add-mod-left 128 (d % 128), mod-mod d 128) (low-group k d)
 
 pub dataOf-bytesOf : (k d : ℕ) → dataOf (bytesOf k d) ≡ d % 128 ^ suc k
 unfolding bytesOf
 dataOf-bytesOf k d =
-    dataOf-snoc (continued k (d / 128)) (d % 128) ∙ rw (dataOf-continued k (d / 128)) (rw (mod-mod d 128) (low-group k d))
+    dataOf-snoc (continued k (d / 128)) (d % 128)
+    ∙ rw (dataOf-continued k (d / 128), mod-mod d 128) (low-group k d)
 
--- ---- the front of some bytes
+-- ---- the number at the front of some bytes
+-- bytes that all say that another follows, before a front
 abbrev prefix : List ℕ → Front → Front
 prefix xs (whole bs) = whole (xs ++ bs)
 prefix xs (fault e) = fault e
@@ -82,8 +87,10 @@ front-continued : (k n d : ℕ) (s : List ℕ) → front (k + n) (continued k d 
 unfolding continued
 front-continued zero n d s = rw (zero-add n) (sym (prefix-nil (front n s)))
 front-continued (suc k) n d s =
-    rw (append-assoc (continued k (d / 128)) ((128 + d % 128) ∷ []) s, suc-add k n, ← add-suc k n, front-continued k (suc n) (d / 128))
-    (rw (front-more n (128 + d % 128) s (omega arith)) (prefix-snoc (continued k (d / 128)) (128 + d % 128) (front n s)))
+    let rest = continued k (d / 128) in
+    let b = 128 + d % 128 in
+    rw (append-assoc rest (b ∷ []) s, suc-add k n, ← add-suc k n, front-continued k (suc n) (d / 128))
+    (rw (front-more n b s (omega arith)) (prefix-snoc rest b (front n s)))
 
 -- the bytes of some data bits are a whole number, whatever follows
 front-bytesOf-within : (k n d : ℕ) (s : List ℕ) → front (k + suc n) (bytesOf k d ++ s) ≡ whole (bytesOf k d)
@@ -111,12 +118,24 @@ Fair n s (fault e) = 0 < e
 
 before-fair : (n b : ℕ) (s : List ℕ) → 128 ≤ b → (f : Front) → Fair n s f → Fair (suc n) (b ∷ s) (before b f)
 before-fair n b s h (whole bs) p =
-    record { some = omega arith; within = suc-le-suc (p .within); there = suc-le-suc (p .there); same = ap (λ (l : List ℕ). b ∷ l) (p .same); local = λ rest. front-more n b (bs ++ rest) h ∙ ap (before b) (p .local rest) }
+    record {
+      some = omega arith;
+      within = suc-le-suc (p .within);
+      there = suc-le-suc (p .there);
+      same = ap (λ (l : List ℕ). b ∷ l) (p .same);
+      local = λ rest. front-more n b (bs ++ rest) h ∙ ap (before b) (p .local rest);
+    }
 before-fair n b s h (fault e) p = p
 
 last-found : (n b : ℕ) (s : List ℕ) → b < 128 → Found (suc n) (b ∷ s) (b ∷ [])
 last-found n b s h =
-    record { some = lit< tt; within = suc-le-suc zero-le; there = suc-le-suc zero-le; same = refl; local = λ rest. front-last n b rest h }
+    record {
+      some = lit< tt;
+      within = suc-le-suc zero-le;
+      there = suc-le-suc zero-le;
+      same = refl;
+      local = λ rest. front-last n b rest h;
+    }
 
 pub front-fair : (n : ℕ) (s : List ℕ) → Fair n s (front n s)
 unfolding front
@@ -124,11 +143,19 @@ front-fair zero s = lit< tt
 front-fair (suc n) [] = lit< tt
 front-fair (suc n) (b ∷ s) = by-flag (front-fair n s) (decLt b 128)
   where
-    by-flag : Fair n s (front n s) → Dec (b < 128) → Fair (suc n) (b ∷ s) (cond (leb 128 b) (before b (front n s)) (whole (b ∷ [])))
+    by-flag : Fair n s (front n s) → Dec (b < 128)
+        → Fair (suc n) (b ∷ s) (cond (leb 128 b) (before b (front n s)) (whole (b ∷ [])))
     by-flag p (yes h) = rw (lt-leb 128 b h) (last-found n b s h)
     by-flag p (no h) =
         let g : 128 ≤ b = omega arith in
         rw (le-leb 128 b g) (before-fair n b s g (front n s) p)
+
+-- no byte after the n-th is looked at
+pub front-take : (n : ℕ) (s : List ℕ) → front n (take n s) ≡ front n s
+unfolding front
+front-take zero s = refl
+front-take (suc n) [] = refl
+front-take (suc n) (b ∷ s) = rw (front-take n s)
 
 -- ---- the fewest bytes
 cond-le : (t : Bool) (a k : ℕ) → a ≤ k → cond t 0 (suc a) ≤ suc k
@@ -146,7 +173,8 @@ unfolding laterBytes
 laterBytes-least zero w m k h = zero-le
 laterBytes-least (suc n) w m zero h = rw (lt-ltb m w (omega arith)) zero-le
 laterBytes-least (suc n) w m (suc k) h =
-    cond-le (ltb m w) (laterBytes n (w * 128) m) k (laterBytes-least n (w * 128) m k (rw (mul-assoc w 128 (128 ^ k), ← pow-succ' 128 k) h))
+    let h′ : m < w * 128 * 128 ^ k = rw (mul-assoc w 128 (128 ^ k), ← pow-succ' 128 k) h in
+    cond-le (ltb m w) (laterBytes n (w * 128) m) k (laterBytes-least n (w * 128) m k h′)
 
 -- and it holds m, where n later bytes do
 pub laterBytes-holds : (n w m : ℕ) → m < w * 128 ^ n → m < w * 128 ^ laterBytes n w m
@@ -154,11 +182,13 @@ unfolding laterBytes
 laterBytes-holds zero w m h = h
 laterBytes-holds (suc n) w m h = by-test (laterBytes-holds n (w * 128) m) (decLt m w)
   where
-    by-test : (m < w * 128 * 128 ^ n → m < w * 128 * 128 ^ laterBytes n (w * 128) m) → Dec (m < w) → m < w * 128 ^ cond (ltb m w) 0 (suc (laterBytes n (w * 128) m))
+    by-test : (m < w * 128 * 128 ^ n → m < w * 128 * 128 ^ laterBytes n (w * 128) m) → Dec (m < w)
+        → m < w * 128 ^ cond (ltb m w) 0 (suc (laterBytes n (w * 128) m))
     by-test p (yes g) = rw (lt-ltb m w g) (omega arith)
     by-test p (no g) =
         let g′ : w ≤ m = omega arith in
         rw (le-ltb m w g′, pow-succ', ← mul-assoc) (p (rw (mul-assoc w 128 (128 ^ n), ← pow-succ' 128 n) h))
 
+-- more later bytes hold it too
 pub holds-more : (w m : ℕ) {j k : ℕ} → j ≤ k → m < w * 128 ^ j → m < w * 128 ^ k
 holds-more w m h p = lt-of-lt-of-le p (mul-le-mul-left w (pow-le-pow-right (lit< tt) h))

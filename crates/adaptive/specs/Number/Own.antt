@@ -1,13 +1,13 @@
 -- The bytes of a whole number are those of its data bits: no other bytes of that length have them. Assumes nothing.
 use Prim.Native.Nat.{ℕ, zero, suc, _+_, _-_, _*_, _/_, _%_, _^_, _≤_, _<_}
-use native.Mathlib.Nat.{pow-suc, pow-succ', mul-assoc, mul-comm, mod-lt, mod-mod, mod-eq-of-lt, div-one, div-add-mod', div-div-eq-div-mul}
+use native.Mathlib.Nat.{pow-suc, pow-succ', mul-assoc, mod-mod, div-one, div-add-mod', div-div-eq-div-mul}
 use native.Mathlib.Decide.{decLt}
 use native.Mathlib.Omega.{arith}
-use mathlib.Core.Path.{_≡_, refl, sym, ap, ap₂, _∙_, subst}
+use mathlib.Core.Path.{_≡_, refl, sym, ap, _∙_, subst}
 use mathlib.Core.Bool.{cond}
-use mathlib.Core.List.{List, [], _∷_, _++_}
+use mathlib.Core.List.{List, [], _∷_}
 use lib.ListN.{length, getD}
-use lib.Dec.{leb, lit<}
+use lib.Dec.{leb}
 use lib.Arith.{digits-div}
 use borrow.Author.Tests.{le-leb, lt-leb}
 use Rattle.adaptive.specs.Number.{Front, whole, fault, before, front, dataOf, continued, bytesOf}
@@ -62,13 +62,14 @@ last-own : (b : ℕ) → b < 128 → b ∷ [] ≡ bytesOf 0 (dataOf (b ∷ []))
 unfolding bytesOf continued dataOf
 last-own b h = let same : b ≡ (b % 128 * 1 + 0) % 128 = omega arith in ap (λ (x : ℕ). x ∷ []) same
 
-more-own : (b : ℕ) (bs : List ℕ) (k : ℕ) → 128 ≤ b → b < 256 → length bs ≡ suc k → bs ≡ bytesOf k (dataOf bs) → b ∷ bs ≡ bytesOf (suc k) (dataOf (b ∷ bs))
+more-own : (b : ℕ) (bs : List ℕ) (k : ℕ) → 128 ≤ b → b < 256 → length bs ≡ suc k → bs ≡ bytesOf k (dataOf bs)
+    → b ∷ bs ≡ bytesOf (suc k) (dataOf (b ∷ bs))
 unfolding dataOf
 more-own b bs k low high e own =
     let below : dataOf bs < 128 ^ suc k = rw (← e) (dataOf-lt bs) in
     let first : 128 + b % 128 ≡ b = omega arith in
-    rw (bytesOf-cons k (b % 128 * 128 ^ length bs + dataOf bs), e, digits-div (b % 128) below, mod-mod b 128, bytesOf-above k (b % 128) (dataOf bs), first)
-    (ap (λ (l : List ℕ). b ∷ l) own)
+    rw (bytesOf-cons k (b % 128 * 128 ^ length bs + dataOf bs), e, digits-div (b % 128) below, mod-mod b 128, first)
+    (rw (bytesOf-above k (b % 128) (dataOf bs)) (ap (λ (l : List ℕ). b ∷ l) own))
 
 before-own : (n b : ℕ) (s : List ℕ) → 128 ≤ b → b < 256 → (f : Front) → Fair n s f → Own f → Own (before b f)
 before-own n b s low high (whole bs) p own =

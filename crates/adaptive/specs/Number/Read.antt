@@ -6,8 +6,8 @@ use mathlib.Core.Path.{_≡_, refl, sym, ap, _∙_, subst}
 use mathlib.Core.Bool.{Bool, true, false, cond}
 use mathlib.Core.List.{List, _++_}
 use lib.ListN.{length, take}
-use Rattle.adaptive.specs.Number.{Front, whole, fault, front, Kind, Reading, accepted, rejected, judged, readAs, dataOf, bytesOf, formOf, fewest, shortest}
-use Rattle.adaptive.specs.Number.Laws.{front-bytesOf, front-fair, Fair, Found, length-bytesOf, laterBytes-le, laterBytes-least, laterBytes-holds, holds-more}
+use Rattle.adaptive.specs.Number.{Front, whole, fault, front, Kind, accepted, rejected, judged, readAs, dataOf, bytesOf, formOf, fewest, shortest}
+use Rattle.adaptive.specs.Number.Laws.{front-bytesOf, front-fair, front-take, Fair, Found, length-bytesOf, laterBytes-le, laterBytes-least, laterBytes-holds, holds-more}
 use Rattle.adaptive.specs.Number.Own.{Bytes, bytesOf-mod, whole-own}
 use Rattle.adaptive.specs.Number.Lawful.{Lawful}
 
@@ -24,9 +24,11 @@ module _ {A : Type 0} (K : Kind A) where
   unfolding readAs
   readAs-accepted s v n e = by-front (front 5 s) refl e
     where
-      by-range : (bs : List ℕ) → front 5 s ≡ whole bs → (t : Bool) → K .inRange (K .valueOf bs) ≡ t → cond t (accepted (K .valueOf bs) (length bs)) (rejected 13) ≡ accepted v n → Accepted K s v n
+      by-range : (bs : List ℕ) → front 5 s ≡ whole bs → (t : Bool) → K .inRange (K .valueOf bs) ≡ t
+          → cond t (accepted (K .valueOf bs) (length bs)) (rejected 13) ≡ accepted v n → Accepted K s v n
       by-range bs f true r e = record { bytes = bs; found = f; value = cc; used = cc; range = cc }
       by-range bs f false r e = let z : _≡_ {A = ℕ} 0 1 = cc in absurd (omega arith)
+
       by-front : (f : Front) → front 5 s ≡ f → judged K f ≡ accepted v n → Accepted K s v n
       by-front (whole bs) f e = by-range bs f (K .inRange (K .valueOf bs)) refl e
       by-front (fault x) f e = let z : _≡_ {A = ℕ} 0 1 = cc in absurd (omega arith)
@@ -35,7 +37,8 @@ module _ {A : Type 0} (K : Kind A) where
   accepted-found s v n a = subst (Fair 5 s) (a .found) (front-fair 5 s)
 
   -- what is accepted is accepted with anything else after its bytes
-  pub readAs-local : (s : List ℕ) (v : A) (n : ℕ) → readAs K s ≡ accepted v n → (rest : List ℕ) → readAs K (take n s ++ rest) ≡ accepted v n
+  pub readAs-local : (s : List ℕ) (v : A) (n : ℕ) → readAs K s ≡ accepted v n
+      → (rest : List ℕ) → readAs K (take n s ++ rest) ≡ accepted v n
   unfolding readAs
   readAs-local s v n e rest =
       let a = readAs-accepted s v n e in
@@ -50,17 +53,26 @@ module _ {A : Type 0} (K : Kind A) where
       let f = accepted-found s v n a in
       (rw (← a .used) (f .some), rw (← a .used) (f .within), rw (← a .used) (f .there))
 
+  -- the number of a refusal is not 0
   pub readAs-rejected : (s : List ℕ) (x : ℕ) → readAs K s ≡ rejected x → 0 < x
   unfolding readAs
   readAs-rejected s x e = by-front (front 5 s) (front-fair 5 s) e
     where
-      by-range : (bs : List ℕ) (t : Bool) → cond t (accepted (K .valueOf bs) (length bs)) (rejected 13) ≡ rejected x → 0 < x
+      by-range : (bs : List ℕ) (t : Bool)
+          → cond t (accepted (K .valueOf bs) (length bs)) (rejected 13) ≡ rejected x → 0 < x
       by-range bs true e = let z : _≡_ {A = ℕ} 0 1 = cc in omega arith
       by-range bs false e = let z : _≡_ {A = ℕ} 13 x = cc in omega arith
+
       by-front : (f : Front) → Fair 5 s f → judged K f ≡ rejected x → 0 < x
       by-front (whole bs) p e = by-range bs (K .inRange (K .valueOf bs)) e
       by-front (fault y) p e = let z : y ≡ x = cc in omega arith
 
+  -- nor is any byte after the fifth looked at, whatever the answer
+  pub readAs-take : (s : List ℕ) → readAs K (take 5 s) ≡ readAs K s
+  unfolding readAs
+  readAs-take s = ap (judged K) (front-take 5 s)
+
+  -- ---- the shortest form
   pub bytesOf-shortest : {k d : ℕ} (v : A) → k ≡ fewest K v → d ≡ K .dataFor v → bytesOf k d ≡ shortest K v
   unfolding shortest
   bytesOf-shortest v ek ed = cc
@@ -77,20 +89,25 @@ module _ {A : Type 0} (K : Kind A) where
 
   module _ (L : Lawful K) where
     -- a form with room for the value is read as the value
-    pub readAs-form : (k : ℕ) (v : A) → k ≤ 4 → K .magnitude v < K .first * 128 ^ k → K .inRange v ≡ true → (rest : List ℕ) → readAs K (formOf K k v ++ rest) ≡ accepted v (suc k)
+    pub readAs-form : (k : ℕ) (v : A) → k ≤ 4 → K .magnitude v < K .first * 128 ^ k → K .inRange v ≡ true
+        → (rest : List ℕ) → readAs K (formOf K k v ++ rest) ≡ accepted v (suc k)
     unfolding readAs
     readAs-form k v hk h r rest =
         rw (front-bytesOf k (K .dataFor v) rest hk) (rw (L .form-value k v hk h, r, length-bytesOf k (K .dataFor v)))
 
     -- every form from the shortest to five bytes has that room
-    pub readAs-longer : (k : ℕ) (v : A) → fewest K v ≤ k → k ≤ 4 → K .inRange v ≡ true → (rest : List ℕ) → readAs K (formOf K k v ++ rest) ≡ accepted v (suc k)
+    pub readAs-longer : (k : ℕ) (v : A) → fewest K v ≤ k → k ≤ 4 → K .inRange v ≡ true
+        → (rest : List ℕ) → readAs K (formOf K k v ++ rest) ≡ accepted v (suc k)
     readAs-longer k v h hk r rest =
-        readAs-form k v hk (holds-more (K .first) (K .magnitude v) h (laterBytes-holds 4 (K .first) (K .magnitude v) (L .range-fits v r))) r rest
+        let held = laterBytes-holds 4 (K .first) (K .magnitude v) (L .range-fits v r) in
+        readAs-form k v hk (holds-more (K .first) (K .magnitude v) h held) r rest
 
-    pub readAs-shortest : (v : A) → K .inRange v ≡ true → (rest : List ℕ) → readAs K (shortest K v ++ rest) ≡ accepted v (length (shortest K v))
+    pub readAs-shortest : (v : A) → K .inRange v ≡ true
+        → (rest : List ℕ) → readAs K (shortest K v ++ rest) ≡ accepted v (length (shortest K v))
     unfolding shortest
     readAs-shortest v r rest =
-        readAs-longer (fewest K v) v (le-refl (fewest K v)) (fewest-le v) r rest ∙ ap (accepted v) (sym (length-shortest v))
+        readAs-longer (fewest K v) v (le-refl (fewest K v)) (fewest-le v) r rest
+        ∙ ap (accepted v) (sym (length-shortest v))
 
     -- and nothing shorter is read as the value
     pub shortest-least : (s : List ℕ) (v : A) (n : ℕ) → readAs K s ≡ accepted v n → length (shortest K v) ≤ n
@@ -98,7 +115,8 @@ module _ {A : Type 0} (K : Kind A) where
         let a = readAs-accepted s v n e in
         let some : 0 < n = (readAs-used s v n e) .0 in
         let count : length (a .bytes) ≡ suc (n - 1) = omega (arith, a .used) in
-        let fits : K .magnitude v < K .first * 128 ^ (n - 1) = rw (a .value) at (L .value-fits (a .bytes) (n - 1) count) in
+        let fits : K .magnitude v < K .first * 128 ^ (n - 1) =
+        rw (a .value) at (L .value-fits (a .bytes) (n - 1) count) in
         let least : fewest K v ≤ n - 1 = laterBytes-least 4 (K .first) (K .magnitude v) (n - 1) fits in
         rw (length-shortest v) (omega arith)
 
@@ -110,6 +128,8 @@ module _ {A : Type 0} (K : Kind A) where
         let k : n - 1 ≤ 4 = omega (arith, a .used, f .within) in
         let count : length (a .bytes) ≡ suc (n - 1) = omega (arith, a .used, f .some) in
         let first : take n s ≡ a .bytes = ap (λ (m : ℕ). take m s) (sym (a .used)) ∙ f .same in
-        let own : a .bytes ≡ bytesOf (n - 1) (dataOf (a .bytes)) = rw (a .used) at (whole-own 5 s (a .bytes) h (a .found)) in
-        let bits : K .dataFor v % 128 ^ suc (n - 1) ≡ dataOf (a .bytes) = rw (a .value) at (L .value-data (a .bytes) (n - 1) count k) in
+        let own : a .bytes ≡ bytesOf (n - 1) (dataOf (a .bytes)) =
+        rw (a .used) at (whole-own 5 s (a .bytes) h (a .found)) in
+        let bits : K .dataFor v % 128 ^ suc (n - 1) ≡ dataOf (a .bytes) =
+        rw (a .value) at (L .value-data (a .bytes) (n - 1) count k) in
         first ∙ own ∙ ap (bytesOf (n - 1)) (sym bits) ∙ bytesOf-mod (n - 1) (K .dataFor v)

@@ -2,8 +2,7 @@
 use Prim.Native.Nat.{ℕ, zero, suc, _+_, _-_, _*_, _/_, _%_, _^_, _≤_, _<_}
 use native.Mathlib.Nat.{pow-suc, add-mul, add-zero, zero-mul, one-mul, suc-mul, mod-lt, mod-eq-of-lt, mul-add-mod-self-right, not-suc-le-zero, zero-add}
 use native.Mathlib.Omega.{arith}
-use mathlib.Core.Path.{_≡_, refl, sym, ap, _∙_, subst}
-use mathlib.Core.Logic.{_⊎_, inl, inr}
+use mathlib.Core.Path.{_≡_, sym, ap, _∙_, subst}
 use mathlib.Core.List.{List, [], _∷_}
 use lib.ListN.{length}
 use lib.Dec.{lit<}
@@ -15,7 +14,7 @@ use lib.IntN.{ℤ, pos, negsuc, _-ℤ_}
 use Rattle.adaptive.specs.Number.{dataOf, signedValue, twos}
 use Rattle.adaptive.specs.Number.Laws.{pow-128-pos, dataOf-lt}
 
--- the value v of the data bits d in k later bytes
+-- v is the value of the data bits d of a number with k later bytes
 pub data Signed (k d : ℕ) (v : ℤ) : Type 0 where
   clear : d < 64 * 128 ^ k → v ≡ pos d → Signed k d v
   set : 64 * 128 ^ k ≤ d → v ≡ negsuc (128 ^ suc k - suc d) → Signed k d v
@@ -40,7 +39,8 @@ by-bytes : (b : ℕ) (bs : List ℕ) → Signed (length bs) (dataOf (b ∷ bs)) 
 unfolding dataOf signedValue
 by-bytes b bs =
     let split : b % 128 ≡ 64 * (b / 64 % 2) + b % 64 = omega arith in
-    rw split (by-sign (b / 64 % 2) (b % 64) (dataOf bs) (length bs) (mod-lt b (lit< tt)) (dataOf-lt bs) (mod-lt (b / 64) (lit< tt)))
+    rw split
+    (by-sign (b / 64 % 2) (b % 64) (dataOf bs) (length bs) (mod-lt b (lit< tt)) (dataOf-lt bs) (mod-lt (b / 64) (lit< tt)))
 
 pub signedValue-is : (bs : List ℕ) (k : ℕ) → length bs ≡ suc k → Signed k (dataOf bs) (signedValue bs)
 signedValue-is [] k e = absurd (omega arith)
@@ -48,13 +48,14 @@ signedValue-is (b ∷ bs) k e =
     let same : length bs ≡ k = omega arith in
     subst (λ (n : ℕ). Signed n (dataOf (b ∷ bs)) (signedValue (b ∷ bs))) same (by-bytes b bs)
 
+-- it has no greater magnitude than the bytes have room for
 pub signed-mag : {k d : ℕ} {v : ℤ} → d < 128 ^ suc k → Signed k d v → mag v < 64 * 128 ^ k
 signed-mag {k} {d} h (clear low e) = rw e low
 signed-mag {k} {d} h (set high e) =
     let top : 128 ^ suc k ≡ 128 ^ k * 128 = pow-suc 128 k in
     rw e (omega arith)
 
--- the data bits of a value are read as the value
+-- ---- the value, from the data bits
 pub signed-pos : {k m : ℕ} {v : ℤ} → m < 64 * 128 ^ k → Signed k m v → v ≡ pos m
 signed-pos h (clear low e) = e
 signed-pos h (set high e) = absurd (omega arith)
@@ -72,11 +73,13 @@ pub signed-set : {k d : ℕ} {v : ℤ} → 64 * 128 ^ k ≤ d → Signed k d v �
 signed-set h (clear low e) = absurd (omega arith)
 signed-set h (set high e) = e
 
+-- ---- the data bits, from the value
 -- the low data bits of -1 - m in the two's complement of 35 bits
 pub twos-low : (k m : ℕ) → k ≤ 4 → m < 128 ^ suc k → (128 ^ 5 - suc m) % 128 ^ suc k ≡ 128 ^ suc k - suc m
 twos-low k m hk hm =
     let five : 4 - k + suc k ≡ 5 = omega arith in
-    let whole : 128 ^ 5 ≡ 128 ^ (4 - k) * 128 ^ suc k = ap (λ (n : ℕ). 128 ^ n) (sym five) ∙ pow-add 128 (4 - k) (suc k) in
+    let whole : 128 ^ 5 ≡ 128 ^ (4 - k) * 128 ^ suc k =
+    ap (λ (n : ℕ). 128 ^ n) (sym five) ∙ pow-add 128 (4 - k) (suc k) in
     above (128 ^ (4 - k)) (128 ^ suc k) m (128 ^ 5) whole (pow-128-pos (4 - k)) hm
   where
     above : (c q m t : ℕ) → t ≡ c * q → 0 < c → m < q → (t - suc m) % q ≡ q - suc m

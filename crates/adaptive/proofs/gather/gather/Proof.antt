@@ -8,8 +8,6 @@ use borrow.Author.Needs.{needs}
 use Turn.{Taken, taken-none, taken-small, taken-more, taken-last, taken-short, taken-over}
 use Rattle.adaptive.proofs.gather.gather.Statement.{statement}
 use Rattle.adaptive.proofs.gather.gather.Tie as tie
-use Rattle.adaptive.proofs.gather.gather.Reads as reads
-use Rattle.adaptive.proofs.gather.gather.Lts as lts
 
 abbrev Inv-loop : tie.InvT-loop
 Inv-loop s raw₀ span₀ i₀ raw span i = Taken s raw span i
@@ -22,7 +20,7 @@ loop-holds c = taken-none (c .args .s .now)
 
 -- the bytes end
 returns : tie.Need-returns Inv-loop μ-loop
-returns c = taken-short (c .before .before .loop .inv) (c .before .loop-test .taken) (c .if1 .taken)
+returns c = taken-short (c .before .before .loop .inv) (omega arith) (c .if1 .taken)
 
 shared-slice-read-b : tie.Need-shared-slice-read-b Inv-loop μ-loop
 shared-slice-read-b c = search needs

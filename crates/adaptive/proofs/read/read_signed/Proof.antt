@@ -17,13 +17,13 @@ returns : tie.Need-returns
 unfolding signedRead readAs
 returns c =
     let at-gather = c .before .before in
-    rw (gathered-fault (at-gather .before .before .args .s .now) (at-gather .gather .result) (at-gather .gather .ensures) (c .if1 .taken))
+    rw (gathered-fault (at-gather .before .before .args .s .now) (at-gather .gather .ensures) (c .if1 .taken))
 
 -- what is known past the first test
 gathered : (c : tie.Else1) → Whole (c .before .before .before .before .args .s .now) (c .before .before .gather .result)
 gathered c =
     let at-gather = c .before .before in
-    gathered-whole (at-gather .before .before .args .s .now) (at-gather .gather .result) (at-gather .gather .ensures) (c .if1 .left)
+    gathered-whole (at-gather .before .before .args .s .now) (at-gather .gather .ensures) (c .if1 .left)
 
 signed-answer-requires : tie.Need-signed-answer-requires
 signed-answer-requires c κs = search needs

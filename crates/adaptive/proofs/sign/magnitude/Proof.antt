@@ -1,8 +1,7 @@
 -- `adaptive::sign::magnitude` meets its contract. Assumes nothing.
-use mathlib.Core.Path.{_≡_, _∙_, ap}
 use lib.Dec.{lit<}
 use native.Mathlib.Nat.{lt-trans}
-use lib.IntN.{pos, natAbs}
+use lib.IntN.{pos}
 use lib.Signed.{mag}
 use mir.Syntax.{w32}
 use mir.Val.{SFits}
@@ -10,8 +9,6 @@ use mir.Facts.{toZ-ofZ}
 use Rattle.adaptive.proofs.sign.Laws.{tested, minus-negative, natAbs-positive, cast-positive}
 use Rattle.adaptive.proofs.sign.magnitude.Statement.{statement}
 use Rattle.adaptive.proofs.sign.magnitude.Tie as tie
-use Rattle.adaptive.proofs.sign.magnitude.Reads as reads
-use Rattle.adaptive.proofs.sign.magnitude.Lts as lts
 
 -- ---- negative: -1 - v is the magnitude
 sub-result : tie.Need-sub-result

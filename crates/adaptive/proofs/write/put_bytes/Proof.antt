@@ -11,8 +11,6 @@ use Rattle.adaptive.specs.Number.{continued}
 use Turn.{put-last, put-more, put-all}
 use Rattle.adaptive.proofs.write.put_bytes.Statement.{statement}
 use Rattle.adaptive.proofs.write.put_bytes.Tie as tie
-use Rattle.adaptive.proofs.write.put_bytes.Reads as reads
-use Rattle.adaptive.proofs.write.put_bytes.Lts as lts
 
 abbrev Inv-loop : tie.InvT-loop
 Inv-loop k d out₀ rest₀ i₀ out rest i =
@@ -47,9 +45,11 @@ loop-less c = search needs
 
 loop-again : tie.Need-loop-again Inv-loop μ-loop
 loop-again c =
-    let here = c .before .loop in
-    (omega arith, length-set (here .out) _ _ ∙ here .inv .1,
-    put-more (here .i) (here .rest) (here .out) _ (c .loop-test .taken) (omega arith) (here .inv .2))
+    let here = c .before .loop in (
+      omega arith,
+      length-set (here .out) _ _ ∙ here .inv .1,
+      put-more (here .i) (here .rest) (here .out) _ (c .loop-test .taken) (omega arith) (here .inv .2),
+    )
 
 same-length : tie.Need-same-length Inv-loop μ-loop
 same-length c = c .before .loop .inv .1 ∙ simp length-set

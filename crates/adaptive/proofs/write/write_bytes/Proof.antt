@@ -1,18 +1,14 @@
 -- `adaptive::write::write_bytes` meets its contract. Assumes nothing.
 use native.Mathlib.Omega.{arith}
-use native.Mathlib.Numerals.{add-one}
-use Prim.Native.Nat.{_≤_}
+use Prim.Native.Nat.{suc}
 use lib.ListN.{length}
-use mathlib.Core.Path.{sym}
+use mathlib.Core.Path.{_≡_, sym}
 use borrow.Author.Needs.{needs}
 use Rattle.adaptive.specs.Number.{bytesOf}
 use Rattle.adaptive.specs.Number.Laws.{length-bytesOf}
-use Rattle.adaptive.specs.Calls.Laws.{written-refused, written-done}
+use Rattle.adaptive.specs.Calls.Laws.{written-refused, done-written}
 use Rattle.adaptive.proofs.write.write_bytes.Statement.{statement}
 use Rattle.adaptive.proofs.write.write_bytes.Tie as tie
-use Rattle.adaptive.proofs.write.write_bytes.Reads as reads
-use Rattle.adaptive.proofs.write.write_bytes.Lts as lts
-use Rattle.adaptive.proofs.write.put_bytes.Reads as put-bytes-reads
 
 -- the lent memory is too small
 returns : tie.Need-returns
@@ -36,9 +32,9 @@ same-length c = search needs
 returns-2 : tie.Need-returns-2
 returns-2 c =
     let a = c .before .before .before .before .before .before .args in
-    let long = length-bytesOf (a .k) (a .d) in
-    let fits : length (bytesOf (a .k) (a .d)) ≤ length (a .out .now) = omega arith in
-    rw (written-done (bytesOf (a .k) (a .d)) (a .out .now) fits, long, add-one (a .k), c .before .before .put-bytes .ensures)
+    let b = bytesOf (a .k) (a .d) in
+    let long : length b ≡ suc (a .k) = length-bytesOf (a .k) (a .d) in
+    done-written b (a .out .now) _ _ (omega arith) (omega arith) (rw long (c .before .before .put-bytes .ensures))
 
 pub write-bytes-spec : {M : Type 1} → statement M
 write-bytes-spec =

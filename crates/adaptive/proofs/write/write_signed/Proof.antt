@@ -1,10 +1,9 @@
 -- `adaptive::write::write_signed` meets its contract. Assumes nothing.
-use Prim.Native.Nat.{_≤_}
 use mathlib.Core.Path.{_≡_, _∙_, ap}
 use lib.Signed.{mag}
 use borrow.Author.Needs.{needs}
 use Rattle.adaptive.specs.Number.{signed, twos, laterBytes, fewest}
-use Rattle.adaptive.specs.Number.Read.{bytesOf-shortest, fewest-le}
+use Rattle.adaptive.specs.Number.Read.{bytesOf-shortest}
 use Rattle.adaptive.specs.Number.Laws.{laterBytes-le}
 use Rattle.adaptive.specs.Calls.{written, signedWritten}
 use Rattle.adaptive.proofs.sign.Laws.{passed}
@@ -36,7 +35,7 @@ returns c =
     let v = at-start .args .value in
     let f = at-start .fits .value in
     let few : at-later .later-bytes .result ≡ fewest signed v =
-        at-later .later-bytes .ensures ∙ ap (laterBytes 4 64) (passed mag f (at-magnitude .magnitude .ensures)) in
+    at-later .later-bytes .ensures ∙ ap (laterBytes 4 64) (passed mag f (at-magnitude .magnitude .ensures)) in
     c .before .before .write-bytes .ensures
     ∙ ap (λ b. written b (at-start .args .out .now))
     (bytesOf-shortest signed v few (passed twos f (at-data .data-bits .ensures)))

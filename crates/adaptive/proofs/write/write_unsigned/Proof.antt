@@ -1,9 +1,9 @@
 -- `adaptive::write::write_unsigned` meets its contract. Assumes nothing.
-use Prim.Native.Nat.{_≤_}
 use mathlib.Core.Path.{_∙_, ap, refl}
 use borrow.Author.Needs.{needs}
 use Rattle.adaptive.specs.Number.{unsigned}
-use Rattle.adaptive.specs.Number.Read.{bytesOf-shortest, fewest-le}
+use Rattle.adaptive.specs.Number.Laws.{laterBytes-le}
+use Rattle.adaptive.specs.Number.Read.{bytesOf-shortest}
 use Rattle.adaptive.specs.Calls.{written, unsignedWritten}
 use Rattle.adaptive.proofs.write.write_unsigned.Statement.{statement}
 use Rattle.adaptive.proofs.write.write_unsigned.Tie as tie
@@ -12,7 +12,7 @@ later-bytes-requires : tie.Need-later-bytes-requires
 later-bytes-requires c κs = search needs
 
 write-bytes-requires : tie.Need-write-bytes-requires
-write-bytes-requires c κs = rw (c .before .later-bytes .ensures) (fewest-le unsigned _)
+write-bytes-requires c κs = rw (c .before .later-bytes .ensures) (laterBytes-le 4 _ _)
 
 same-length : tie.Need-same-length
 same-length c = search needs
@@ -22,7 +22,8 @@ unfolding unsignedWritten
 returns c =
     let a = c .before .before .before .before .before .before .args in
     let fewest = c .before .before .before .before .later-bytes .ensures in
-    c .before .before .write-bytes .ensures ∙ ap (λ b. written b (a .out .now)) (bytesOf-shortest unsigned (a .value) fewest refl)
+    c .before .before .write-bytes .ensures
+    ∙ ap (λ b. written b (a .out .now)) (bytesOf-shortest unsigned (a .value) fewest refl)
 
 pub write-unsigned-spec : {M : Type 1} → statement M
 write-unsigned-spec =

@@ -1,9 +1,9 @@
 -- What a turn of gather does to the number being gathered. Assumes nothing.
-use Prim.Native.Nat.{ℕ, zero, suc, _+_, _-_, _*_, _%_, _^_, _≤_, _<_, zero-le}
-use native.Mathlib.Nat.{pow-suc, mul-assoc, mul-comm, add-assoc, zero-add, add-mul, zero-mul, mod-lt}
+use Prim.Native.Nat.{ℕ, suc, _+_, _-_, _*_, _%_, _^_, _≤_, _<_, zero-le}
+use native.Mathlib.Nat.{pow-suc, pow-succ', mul-assoc, add-assoc, zero-add, add-mul, zero-mul, mod-lt}
 use native.Mathlib.Numerals.{add-one}
 use native.Mathlib.Omega.{arith}
-use mathlib.Core.Path.{_≡_, refl, sym, ap, _∙_, subst}
+use mathlib.Core.Path.{_≡_, refl, sym, ap, _∙_}
 use mathlib.Core.List.{List, [], _∷_}
 use lib.ListN.{length, drop, getD, drop-of-length-le}
 use lib.Seq.{drop-cons}
@@ -16,7 +16,13 @@ use Rattle.adaptive.specs.declared.gather.Gathered.{Gathered}
 
 -- the answer where i bytes with the data bits d stand before a front
 abbrev pub after : ℕ → ℕ → Front → Gathered
-after d i (whole bs) = record { number = 0; raw = d * 128 ^ length bs + dataOf bs; span = 128 ^ (i + length bs); used = i + length bs }
+after d i (whole bs) =
+    record {
+      number = 0;
+      raw = d * 128 ^ length bs + dataOf bs;
+      span = 128 ^ (i + length bs);
+      used = i + length bs;
+    }
 after d i (fault e) = gatheredOf (fault e)
 
 after-none : (f : Front) → gatheredOf f ≡ after 0 0 f
@@ -28,12 +34,17 @@ unfolding dataOf
 after-more d i b (whole bs) =
     let n = length bs in
     let raw : d * 128 ^ suc n + (b % 128 * 128 ^ n + dataOf bs) ≡ (d * 128 + b % 128) * 128 ^ n + dataOf bs =
-        rw (pow-suc 128 n, mul-comm (128 ^ n) 128, ← mul-assoc d 128 (128 ^ n), add-mul (d * 128) (b % 128) (128 ^ n)) (sym (add-assoc (d * 128 * 128 ^ n) (b % 128 * 128 ^ n) (dataOf bs))) in
+    rw (pow-succ' 128 n, ← mul-assoc d 128 (128 ^ n), add-mul (d * 128) (b % 128) (128 ^ n))
+    (sym (add-assoc (d * 128 * 128 ^ n) (b % 128 * 128 ^ n) (dataOf bs))) in
     let used : i + suc n ≡ i + 1 + n = omega arith in
     rw (raw, used)
 after-more d i b (fault e) = refl
 
-after-last : (d i b : ℕ) → after d i (whole (b ∷ [])) ≡ record { number = 0; raw = d * 128 + b % 128; span = 128 ^ i * 128; used = i + 1 }
+-- i bytes and one more, which is the last
+abbrev pub ended : ℕ → ℕ → ℕ → ℕ → Gathered
+ended d span i b = record { number = 0; raw = d * 128 + b % 128; span = span * 128; used = i + 1 }
+
+after-last : (d i b : ℕ) → after d i (whole (b ∷ [])) ≡ ended d (128 ^ i) i b
 unfolding dataOf
 after-last d i b =
     let raw : d * 128 + (b % 128 * 1 + 0) ≡ d * 128 + b % 128 = omega arith in
@@ -51,7 +62,9 @@ pub record Taken (s : List ℕ) (d span i : ℕ) : Type 0 where
 pub taken-none : (s : List ℕ) → Taken s 0 1 0
 taken-none s = record { most = zero-le; there = zero-le; power = refl; below = lit< tt; left = after-none (front 5 s) }
 
-next : (s : List ℕ) (i : ℕ) → i < 5 → i < length s → front (5 - i) (drop i s) ≡ front (suc (5 - (i + 1))) (getD s i 0 ∷ drop (i + 1) s)
+-- the next byte
+next : (s : List ℕ) (i : ℕ) → i < 5 → i < length s
+    → front (5 - i) (drop i s) ≡ front (suc (5 - (i + 1))) (getD s i 0 ∷ drop (i + 1) s)
 next s i h g =
     let left : 5 - i ≡ suc (5 - (i + 1)) = omega arith in
     rw (left, drop-cons s i 0 g, add-one i)
@@ -61,14 +74,27 @@ module _ {s : List ℕ} {d span i : ℕ} (t : Taken s d span i) where
   pub taken-small : i < 5 → span ≤ 128 ^ 4
   taken-small h = let fewer : i ≤ 4 = omega arith in rw (t .power) (pow-128-le fewer)
 
-  pub taken-more : i < 5 → i < length s → 128 ≤ getD s i 0 → Taken s (d * 128 + getD s i 0 % 128) (span * 128) (i + 1)
+  -- another byte follows
+  pub taken-more : i < 5 → i < length s → 128 ≤ getD s i 0
+      → Taken s (d * 128 + getD s i 0 % 128) (span * 128) (i + 1)
   taken-more h g b =
-      record { most = omega arith; there = omega arith; power = rw (t .power, add-one i, pow-suc 128 i); below = digits-lt (t .below) (mod-lt (getD s i 0) (lit< tt)); left = t .left ∙ ap (after d i) (next s i h g ∙ front-more (5 - (i + 1)) (getD s i 0) (drop (i + 1) s) b) ∙ after-more d i (getD s i 0) (front (5 - (i + 1)) (drop (i + 1) s)) }
+      let rest = front (5 - (i + 1)) (drop (i + 1) s) in
+      let turn : front (5 - i) (drop i s) ≡ before (getD s i 0) rest =
+      next s i h g ∙ front-more (5 - (i + 1)) (getD s i 0) (drop (i + 1) s) b in
+      record {
+        most = omega arith;
+        there = omega arith;
+        power = rw (t .power, add-one i, pow-suc 128 i);
+        below = digits-lt (t .below) (mod-lt (getD s i 0) (lit< tt));
+        left = t .left ∙ ap (after d i) turn ∙ after-more d i (getD s i 0) rest;
+      }
 
   -- the last byte
-  pub taken-last : i < 5 → i < length s → getD s i 0 < 128 → record { number = 0; raw = d * 128 + getD s i 0 % 128; span = span * 128; used = i + 1 } ≡ gatheredOf (front 5 s)
+  pub taken-last : i < 5 → i < length s → getD s i 0 < 128 → ended d span i (getD s i 0) ≡ gatheredOf (front 5 s)
   taken-last h g b =
-      rw (t .power) (sym (t .left ∙ ap (after d i) (next s i h g ∙ front-last (5 - (i + 1)) (getD s i 0) (drop (i + 1) s) b) ∙ after-last d i (getD s i 0)))
+      let turn : front (5 - i) (drop i s) ≡ whole (getD s i 0 ∷ []) =
+      next s i h g ∙ front-last (5 - (i + 1)) (getD s i 0) (drop (i + 1) s) b in
+      rw (t .power) (sym (t .left ∙ ap (after d i) turn ∙ after-last d i (getD s i 0)))
 
   -- the bytes end
   pub taken-short : i < 5 → length s ≤ i → gatheredOf (fault 12) ≡ gatheredOf (front 5 s)

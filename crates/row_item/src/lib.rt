@@ -31,20 +31,15 @@ pub fn start() -> Progress
 pub fn after(p: Progress, item: Item, pixel: u32) -> Progress
     ensures { λ r. ⌜ Followed p item pixel r ⌝ }
 {
+    let started = Progress {
+        begun: true,
+        previous: pixel,
+    };
     match item {
-        Item::Difference(_) => Progress {
-            begun: true,
-            previous: pixel,
-        },
+        Item::Difference(_) => started,
         Item::BadPixel => p,
         Item::BadBias => p,
-        Item::Escape(_) => if p.begun {
-            p
-        } else {
-            Progress {
-                begun: true,
-                previous: pixel,
-            }
-        },
+        // "only if no pixel of this row has yet become previous"
+        Item::Escape(_) => if p.begun { p } else { started },
     }
 }

@@ -13,10 +13,10 @@ use Rattle.adaptive.specs.Number as number
 use Rattle.adaptive.specs.Number.{readAs, accepted, shortest}
 
 pub data Case : Type 0 where
-  packs : List ℕ → List ℕ → ℕ → Case      -- pixels, the words they are packed to, and the bits
-  takes : List ℕ → ℕ → Case               -- pixels and the bits they take
-  worst : List ℕ → ℕ → ℕ → Case           -- the same, with the words, where each pixel takes M bits
-  signed : ℤ → List ℕ → Case              -- a value and its bytes
+  packs : List ℕ → List ℕ → ℕ → Case  -- pixels, the words they are packed to, and the bits
+  takes : List ℕ → ℕ → Case  -- pixels and the bits they take
+  worst : List ℕ → ℕ → ℕ → Case  -- the same, with the words, where each pixel takes M bits
+  signed : ℤ → List ℕ → Case  -- a value and its bytes
 
 abbrev pub Holds : Case → Type 0
 Holds (packs ps ws n) = (length (rowBits plainTable ps) ≡ n) × (cut 32 (wordsFor n) (rowBits plainTable ps) ≡ ws)
@@ -50,6 +50,31 @@ cases =
 
 pub cases-hold : Each cases
 unfolding digits numOf cut codeword codewords codewordAt longest maxItemBits byDifference itemFor itemsFor bits rowBits plainEntries plainTable readAs shortest number.front number.dataOf number.signedValue number.continued number.bytesOf number.laterBytes
-cases-hold =
-    ((refl, refl), ((refl, refl), ((refl, refl), ((refl, refl), ((refl, refl), ((refl, refl), (refl, (refl, ((refl, refl, refl),
-    ((refl, refl), ((refl, refl), ((refl, refl), ((refl, refl), ((refl, refl), ((refl, refl), ((refl, refl), tt))))))))))))))))
+cases-hold = (
+  (refl, refl),
+  (
+    (refl, refl),
+    (
+      (refl, refl),
+      (
+        (refl, refl),
+        (
+          (refl, refl),
+          (
+            (refl, refl),
+            (
+              refl,
+              (
+                refl,
+                (
+                  (refl, refl, refl),
+                  ((refl, refl), ((refl, refl), ((refl, refl), ((refl, refl), ((refl, refl), ((refl, refl), ((refl, refl), tt))))))),
+                ),
+              ),
+            ),
+          ),
+        ),
+      ),
+    ),
+  ),
+)

@@ -70,7 +70,7 @@ returns c =
     let at-start = at-byte-or-zero .before .before in
     field-of-five (at-start .args .s .now) (at-start .args .at) _
     (read-five (at-start .args .at / 8) (at-byte-or-zero .byte-or-zero .ensures) (at-byte-or-zero2 .byte-or-zero2 .ensures)
-     (at-byte-or-zero3 .byte-or-zero3 .ensures) (c .before .byte-or-zero4 .ensures) (c .byte-or-zero5 .ensures))
+    (at-byte-or-zero3 .byte-or-zero3 .ensures) (c .before .byte-or-zero4 .ensures) (c .byte-or-zero5 .ensures))
 
 pub peek32-spec : {M : Type 1} → statement M
 peek32-spec =

@@ -47,7 +47,7 @@ returns-2 c =
     let at-start = at-put-u32 .before .before .before .before .before .before .before in
     rw (at-put-u32 .put-u32 .ensures)
     (put-stored (at-start .args .out .now) (at-start .args .w) (at-start .args .v) (at-start .args .n) (at-start .pre .0)
-     (at-start .pre .1) (omega arith))
+    (at-start .pre .1) (omega arith))
 
 pub put-spec : {M : Type 1} → statement M
 put-spec =

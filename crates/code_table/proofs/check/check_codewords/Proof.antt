@@ -33,15 +33,18 @@ slice-aggregate-words c =
     let at-start = c .before .before .before .before .before in
     sym
     (length-take-le (length (at-start .args .table .now) / 4 - 3) (at-start .args .scratch .now)
-     (omega (arith, whole-table-words (at-start .args .table .now) (at-start .pre .0))))
+    (omega (arith, whole-table-words (at-start .args .table .now) (at-start .pre .0))))
 
 gather-requires : tie.Need-gather-requires
 gather-requires c κs =
     let at-start = c .before .before .before .before .before .before in
-    omega
-    (arith, whole-table-words (at-start .args .table .now) (at-start .pre .0), length-take-le
-     (length (at-start .args .table .now) / 4 - 3) (at-start .args .scratch .now)
-     (omega (arith, whole-table-words (at-start .args .table .now) (at-start .pre .0))))
+    omega (
+      arith,
+      whole-table-words (at-start .args .table .now) (at-start .pre .0),
+      length-take-le
+          (length (at-start .args .table .now) / 4 - 3) (at-start .args .scratch .now)
+          (omega (arith, whole-table-words (at-start .args .table .now) (at-start .pre .0))),
+    )
 
 judge-requires : tie.Need-judge-requires
 judge-requires c κs = search needs
@@ -58,10 +61,10 @@ returns-2 c =
     let at-start = at-word-at .before .before .before in
     at-judge .judge .ensures
     ∙ checked-gathered (at-start .args .table .now) (at-start .pre .0) _
-      (length-take-le (length (at-start .args .table .now) / 4 - 3) (at-start .args .scratch .now)
-       (omega (arith, whole-table-words (at-start .args .table .now) (at-start .pre .0))))
-      (at-gather .gather .result) (at-gather .gather .last .1 .0) (at-gather .gather .ensures) _ (at-if2 .if2 .taken)
-      (ap (_% 32) (at-word-at .word-at .ensures)) (omega arith)
+    (length-take-le (length (at-start .args .table .now) / 4 - 3) (at-start .args .scratch .now)
+    (omega (arith, whole-table-words (at-start .args .table .now) (at-start .pre .0))))
+    (at-gather .gather .result) (at-gather .gather .last .1 .0) (at-gather .gather .ensures) _ (at-if2 .if2 .taken)
+    (ap (_% 32) (at-word-at .word-at .ensures)) (omega arith)
 
 same-length-2 : tie.Need-same-length-2
 same-length-2 c = search needs
@@ -73,7 +76,7 @@ returns-3 c =
     let at-start = at-gather .before .before .before .before .before .before .before in
     checked-refused (at-start .args .table .now) (at-start .pre .0) _
     (length-take-le (length (at-start .args .table .now) / 4 - 3) (at-start .args .scratch .now)
-     (omega (arith, whole-table-words (at-start .args .table .now) (at-start .pre .0))))
+    (omega (arith, whole-table-words (at-start .args .table .now) (at-start .pre .0))))
     (at-gather .gather .result) (at-gather .gather .last .1 .0) (at-gather .gather .ensures) (at-if2 .if2 .left)
 
 pub check-codewords-spec : {M : Type 1} → statement M

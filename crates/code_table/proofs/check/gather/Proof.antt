@@ -36,9 +36,9 @@ loop-again c =
     let enough = codewordWords-enough (at-start .args .table .now) n (at-start .pre) in
     rw (c .greater .ensures)
     (gathering-more ts n enough (at-loop .loop .words) (at-loop .loop .longest) (at-loop .loop .i) (at-word-at .word-at .result)
-     (at-loop .loop .inv) (omega arith)
-     (at-word-at .word-at .ensures ∙ codewordWords-at (at-start .args .table .now) (at-loop .loop .i))
-     (sym (at-well-formed .well-formed .ensures) ∙ c .before .if1 .taken))
+    (at-loop .loop .inv) (omega arith)
+    (at-word-at .word-at .ensures ∙ codewordWords-at (at-start .args .table .now) (at-loop .loop .i))
+    (sym (at-well-formed .well-formed .ensures) ∙ c .before .if1 .taken))
 
 add-word-at : tie.Need-add-word-at Inv-loop μ-loop
 add-word-at c = search needs

@@ -23,7 +23,7 @@ returns c =
     let at-start = at-prefix-free .before .before .before in
     rw (c .greater .ensures)
     (judged-free (at-start .args .words .now) (at-start .args .longest) (at-start .args .escape)
-     (sym (at-prefix-free .prefix-free .ensures) ∙ c .before .if1 .taken))
+    (sym (at-prefix-free .prefix-free .ensures) ∙ c .before .if1 .taken))
 
 same-length-2 : tie.Need-same-length-2
 same-length-2 c = search needs

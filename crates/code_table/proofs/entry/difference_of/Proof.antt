@@ -23,8 +23,8 @@ returns c =
     let at-start = c .before .before .before in
     toZ-ofZ
     (rw (c .signed-of .ensures)
-     (signed-fits (at-start .args .i + c .before .low-limit .result)
-      (omega (arith, whole-table-words (at-start .args .table .now) (at-start .pre .0)))))
+    (signed-fits (at-start .args .i + c .before .low-limit .result)
+    (omega (arith, whole-table-words (at-start .args .table .now) (at-start .pre .0)))))
     ∙ c .signed-of .ensures
     ∙ ap (λ (k : ℕ). signed (at-start .args .i + k)) (c .before .low-limit .ensures)
 

@@ -46,8 +46,8 @@ returns-3 c =
     let k = tested (at-start .args .difference) (at-start .fits .difference) (at-if1 .if1 .left) (c .before .if2 .left) in
     found-inside (wordsOf (at-start .args .table .now)) (at-start .args .difference) k (c .entry-at .result)
     (c .entry-at .ensures
-     ∙ ap (λ (x : ℤ). entryAt (wordsOf (at-start .args .table .now)) (natAbs x))
-       (sum-count (at-start .args .difference) (at-start .fits .difference) k))
+    ∙ ap (λ (x : ℤ). entryAt (wordsOf (at-start .args .table .now)) (natAbs x))
+    (sum-count (at-start .args .difference) (at-start .fits .difference) k))
 
 pub entry-of-spec : {M : Type 1} → statement M
 entry-of-spec =

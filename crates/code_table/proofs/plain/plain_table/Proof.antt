@@ -32,7 +32,7 @@ returns-2 c =
     let at-start = at-plain-words .before .before .before in
     plain-lent (at-start .args .out .now) (at-store .store .last .1 .0) (omega arith)
     (at-store .store .ensures
-     ∙ ap (λ (l : List ℕ). wordBytes l ++ drop (4 * length l) (at-start .args .out .now)) (at-plain-words .plain-words .ensures))
+    ∙ ap (λ (l : List ℕ). wordBytes l ++ drop (4 * length l) (at-start .args .out .now)) (at-plain-words .plain-words .ensures))
 
 pub plain-table-spec : {M : Type 1} → statement M
 plain-table-spec =

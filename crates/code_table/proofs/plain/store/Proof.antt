@@ -42,7 +42,7 @@ loop-again c =
     let at-start = at-loop .before .before .before in
     rw (at-put-u32 .put-u32 .ensures)
     (storing-more (at-start .args .words .now) (at-start .args .out .now) (at-start .pre) (at-loop .loop .out) (at-loop .loop .i)
-     (at-loop .loop .inv) (at-loop-test .loop-test .taken))
+    (at-loop .loop .inv) (at-loop-test .loop-test .taken))
 
 same-length : tie.Need-same-length Inv-loop μ-loop
 same-length c = c .before .loop .inv .size

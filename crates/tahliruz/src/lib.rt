@@ -1,9 +1,12 @@
 // The calls that C links: each passes its arguments on to the proved call of the same name. include/tahliruz.h declares them.
+use adaptive::SignedRead;
+use adaptive::UnsignedRead;
 use answer::Answer;
 ghost use mathlib.Core.Path.{_≡_};
 ghost use Rattle.answer.specs.Outcome.{outcome};
 ghost use Rattle.row_format.specs.Calls.{checked};
 ghost use Rattle.code_table.specs.Plain.{plainLent};
+ghost use Rattle.adaptive.specs.Calls.{signedRead, unsignedRead, signedWritten, unsignedWritten};
 
 #[no_mangle]
 pub extern "C" fn tahliruz_check(table: &[u8]) -> Answer
@@ -17,4 +20,32 @@ pub extern "C" fn tahliruz_plain_table(out: &mut [u8]) -> Answer
     ensures { λ r. ⌜ outcome r (now (out .exit)) ≡ plainLent (now (out .entry)) ⌝ }
 {
     code_table::plain::plain_table(out)
+}
+
+#[no_mangle]
+pub extern "C" fn tahliruz_read_signed(bytes: &[u8]) -> SignedRead
+    ensures { λ r. ⌜ r ≡ signedRead (now (bytes .entry)) ⌝ }
+{
+    adaptive::read_signed(bytes)
+}
+
+#[no_mangle]
+pub extern "C" fn tahliruz_read_unsigned(bytes: &[u8]) -> UnsignedRead
+    ensures { λ r. ⌜ r ≡ unsignedRead (now (bytes .entry)) ⌝ }
+{
+    adaptive::read_unsigned(bytes)
+}
+
+#[no_mangle]
+pub extern "C" fn tahliruz_write_signed(value: i32, out: &mut [u8]) -> Answer
+    ensures { λ r. ⌜ outcome r (now (out .exit)) ≡ signedWritten value (now (out .entry)) ⌝ }
+{
+    adaptive::write_signed(value, out)
+}
+
+#[no_mangle]
+pub extern "C" fn tahliruz_write_unsigned(value: u32, out: &mut [u8]) -> Answer
+    ensures { λ r. ⌜ outcome r (now (out .exit)) ≡ unsignedWritten value (now (out .entry)) ⌝ }
+{
+    adaptive::write_unsigned(value, out)
 }

@@ -1,0 +1,37 @@
+use borrow.Author.Needs.{needs}
+use Rattle.row_packer.proofs.room.room.Statement.{statement}
+use Rattle.row_packer.proofs.room.room.Tie as tie
+use Rattle.row_packer.proofs.room.room.Reads as reads
+use Rattle.row_packer.proofs.room.room.Lts as lts
+use Rattle.code_table.proofs.check.check.Reads as check-reads
+
+-- src/room.rt:10:9
+check-requires : tie.Need-check-requires
+check-requires c κs = search needs
+
+-- src/room.rt:12:9
+returns : tie.Need-returns
+returns c = ?
+
+-- src/room.rt:15:9
+returns-2 : tie.Need-returns-2
+returns-2 c = ?
+
+-- src/room.rt:21:17
+cast-t6 : tie.Need-cast-t6
+cast-t6 c = search needs
+
+-- src/room.rt:21:17
+mul-t7 : tie.Need-mul-t7
+mul-t7 c = ?
+
+-- src/room.rt:21:17
+add-t8 : tie.Need-add-t8
+add-t8 c = ?
+
+-- src/room.rt:7:1
+returns-3 : tie.Need-returns-3
+returns-3 c = ?
+
+pub room-spec : {M : Type 1} → statement M
+room-spec = tie.close (tie.spec check-requires returns returns-2 cast-t6 mul-t7 add-t8 returns-3)

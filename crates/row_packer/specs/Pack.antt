@@ -1,0 +1,2 @@
+-- The ways out of packing and of the room question. Assumes nothing.
+pub mod Laws

@@ -6,4 +6,4 @@ pub mod Encode
 pub mod Remaining
 pub mod Measure
 pub mod Write
-pub mod Pack
+pub mod Calls

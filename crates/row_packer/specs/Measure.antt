@@ -1,7 +1,7 @@
 -- The bits that a row takes. Assumes nothing.
 use Prim.Native.Nat.{ℕ, _+_, _*_, _≤_}
 use mathlib.Core.Path.{_≡_}
-use mathlib.Core.Bool.{cond}
+use mathlib.Core.Bool.{false, cond}
 use mathlib.Core.List.{List}
 use lib.ListN.{length, drop}
 use lib.Dec.{ltb}
@@ -24,3 +24,8 @@ pub record Measuring (t ps : List ℕ) (p : Progress) (bits i : ℕ) : Type 0 wh
   pub above : any (ltb 4095) ps ≡ any (ltb 4095) (drop i ps)
   pub sum : bits + length (remaining t ps p i) ≡ length (rowBits t ps)
   pub most : bits ≤ 27 * i
+
+-- what an answer of so many bits tells
+pub record Took (t ps : List ℕ) (bits : ℕ) : Type 0 where
+  pub none-above : any (ltb 4095) ps ≡ false
+  pub is : bits ≡ length (rowBits t ps)

@@ -1,5 +1,5 @@
 -- The laws of the pass that measures a row: its turns and its ways out. Assumes nothing.
-use Prim.Native.Nat.{ℕ, _+_, _*_, _^_, _≤_, _<_}
+use Prim.Native.Nat.{ℕ, suc, _+_, _≤_, _<_}
 use native.Mathlib.Nat.{zero-add}
 use native.Mathlib.Omega.{arith}
 use mathlib.Core.Path.{_≡_, refl, sym, ap, _∙_}
@@ -9,6 +9,7 @@ use lib.ListN.{length, drop, getD}
 use lib.Dec.{ltb}
 use borrow.Author.Tests.{lt-ltb, le-ltb}
 use Rattle.row_format.specs.Lists.{any}
+use Rattle.row_format.specs.Lists.Laws.{by-test}
 use Rattle.row_format.specs.Row.{fresh, rowBits}
 use Rattle.row_item.specs.declared.Progress.{Progress}
 use Rattle.row_item.specs.Coded.{progress}
@@ -16,8 +17,9 @@ use Rattle.row_packer.specs.Encode.{Encodes}
 use Rattle.row_packer.specs.Encode.Laws.{sound-progress}
 use Rattle.row_packer.specs.Remaining.{remaining}
 use Rattle.row_packer.specs.Remaining.Laws.{drop-more, drop-end, remaining-none, length-remaining-more, remaining-all}
-use Rattle.row_packer.specs.Measure.{measured, Measuring}
+use Rattle.row_packer.specs.Measure.{measured, Measuring, Took}
 use Rattle.row_packer.specs.declared.encode.Encoded.{Encoded}
+use Rattle.row_packer.specs.declared.measure.RowBits.{RowBits}
 use Rattle.row_packer.specs.declared.measure.RowBits.the-variants.{Taken, PixelAbove}
 
 module _ (t ps : List ℕ) (p : Progress) where
@@ -54,3 +56,20 @@ module _ (t ps : List ℕ) (p : Progress) where
     measured-all g =
         let sum : bits ≡ length (rowBits t ps) = omega (arith, m .sum, ap length (remaining-all t ps p i (m .within) g)) in
         rw (m .above, drop-end ps i (m .within) g) (ap Taken sum)
+
+-- ---- what the answer tells
+abbrev bitsIn : RowBits → ℕ
+bitsIn (Taken n) = suc n
+bitsIn PixelAbove = 0
+
+module _ (t ps : List ℕ) (r : RowBits) (is : r ≡ measured t ps) where
+  pub measured-none : r ≡ PixelAbove → any (ltb 4095) ps ≡ true
+  unfolding measured
+  measured-none e = by-test (any (ltb 4095) ps) (λ a. a) (λ a. absurd (omega (arith, ap bitsIn (sym e ∙ (rw a at is)))))
+
+  pub measured-took : (bits : ℕ) → r ≡ Taken bits → Took t ps bits
+  unfolding measured
+  measured-took bits e =
+      by-test (any (ltb 4095) ps)
+      (λ a. absurd (omega (arith, ap bitsIn (sym e ∙ (rw a at is)))))
+      (λ a. record { none-above = a; is = omega (arith, ap bitsIn (sym e ∙ (rw a at is))) })

@@ -2,13 +2,18 @@
 use Prim.Native.Nat.{ℕ, _+_, _-_, _*_, _/_, _≤_, _<_}
 use native.Mathlib.Omega.{arith}
 use mathlib.Core.Path.{_≡_, refl, sym, ap, _∙_}
+use mathlib.Core.Bool.{false}
 use mathlib.Core.List.{List, [], _++_, append-assoc, append-nil}
 use lib.ListN.{length, take, drop, getD, length-append, take-append-drop}
 use lib.Seq.{drop-drop, length-take-le}
+use lib.Dec.{ltb}
+use borrow.Author.Tests.{ltb-false}
 use Rattle.bitstream.specs.Bits.{digits, flat, bitsOf, bytesOf, wordsFor}
 use Rattle.bitstream.specs.Bits.Laws.{Below, below-cut, below-take, length-digits, length-cut, flat-cut, pad}
 use Rattle.bitstream.specs.Writer.{held, Good, Ready, Closable, Put, Finished}
 use Rattle.bitstream.specs.declared.writer.Writer.{Writer}
+use Rattle.row_format.specs.Lists.{any}
+use Rattle.row_format.specs.Lists.Laws.{any-false-at}
 use Rattle.row_format.specs.BitLaws.{bitsOf-inj}
 use Rattle.row_format.specs.Row.{fresh, rowBits}
 use Rattle.row_format.specs.Calls.Laws.{rowBytes}
@@ -27,6 +32,10 @@ drop-later : (a b : ℕ) (o m : List ℕ) → a ≤ b → drop a o ≡ drop a m 
 drop-later a b o m h e =
     let place : a + (b - a) ≡ b = omega arith in
     ap (λ (k : ℕ). drop k o) (sym place) ∙ sym (drop-drop (b - a) a o) ∙ ap (drop (b - a)) e ∙ drop-drop (b - a) a m ∙ ap (λ (k : ℕ). drop k m) place
+
+-- no pixel is above 4095
+pub within-row : (ps : List ℕ) (i : ℕ) → any (ltb 4095) ps ≡ false → i < length ps → getD ps i 0 ≤ 4095
+within-row ps i e h = ltb-false 4095 (getD ps i 0) (any-false-at (ltb 4095) ps i 0 e h)
 
 module _ (t ps m : List ℕ) where
   pub writing-none : (w : Writer) (p : Progress) → w ≡ record { words = 0; count = 0; acc = 0 } → p ≡ progress fresh → Writing t ps m m w p 0

@@ -1,0 +1,30 @@
+// Which item a pixel gets: the one place where document 01's rule is applied.
+use crate::header::Header;
+use code_table::entry::signed_of;
+use row_item::Item;
+use row_item::Progress;
+ghost use Prim.Native.Nat.{_≤_};
+ghost use Rattle.row_packer.specs.Item.{Chosen};
+
+pub fn item_for(header: Header, p: Progress, pixel: u32) -> Item
+    requires { ⌜ p .previous ≤ 4093 ⌝ }
+    requires { ⌜ pixel ≤ 4095 ⌝ }
+    ensures { λ r. ⌜ Chosen header p pixel r ⌝ }
+{
+    if pixel == 4095 {
+        return Item::BadPixel;
+    }
+    if pixel == 4094 {
+        return Item::BadBias;
+    }
+    // the difference (document 01: step), counted from -4093
+    let k = pixel + 4093 - p.previous;
+    if k < header.low {
+        return Item::Escape(pixel);
+    }
+    if k - header.low < header.size {
+        Item::Difference(signed_of(k))
+    } else {
+        Item::Escape(pixel)
+    }
+}

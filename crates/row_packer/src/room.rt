@@ -1,0 +1,23 @@
+// The room question: how many words the longest row of n pixels takes.
+use answer::Answer;
+use code_table::check::check;
+ghost use mathlib.Core.Path.{_≡_};
+ghost use Rattle.row_format.specs.Calls.{room as roomAnswer};
+
+pub fn room(table: &[u8], n: u64) -> Answer
+    ensures { λ r. ⌜ r ≡ roomAnswer (now (table .entry)) n ⌝ }
+{
+    let checked = check(table);
+    if checked.number != 0 {
+        return checked;
+    }
+    if 4096 < n {
+        return Answer { number: 11, count: 0 };
+    }
+    // M, the longest an item can be
+    let most = checked.count;
+    Answer {
+        number: 0,
+        count: (n as u32 * most + 31) / 32,
+    }
+}

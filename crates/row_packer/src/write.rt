@@ -1,0 +1,39 @@
+// The words of a row that fits the memory lent.
+use bitstream::writer::finish;
+use bitstream::writer::put;
+use crate::encode::encode;
+use crate::header::Header;
+use crate::pixel::pixel_at;
+ghost use mathlib.Core.Path.{_≡_};
+ghost use mathlib.Core.Bool.{false};
+ghost use Prim.Native.Nat.{_*_, _≤_};
+ghost use lib.ListN.{length};
+ghost use lib.Dec.{ltb};
+ghost use Rattle.bitstream.specs.Bits.{wordsOf, halvesOf, wordsFor};
+ghost use Rattle.row_format.specs.Lists.{any};
+ghost use Rattle.row_format.specs.Table.Laws.{Accepted};
+ghost use Rattle.row_format.specs.Row.{rowBits};
+ghost use Rattle.row_packer.specs.Header.{HeaderOf};
+ghost use Rattle.row_packer.specs.Write.{rowWritten};
+
+pub fn write(table: &[u8], header: Header, pixels: &[u8], words: &mut [u8])
+    requires { ⌜ Accepted (wordsOf (now table)) ⌝ }
+    requires { ⌜ HeaderOf (wordsOf (now table)) header ⌝ }
+    requires { ⌜ any (ltb 4095) (halvesOf (now pixels)) ≡ false ⌝ }
+    requires { ⌜ 4 * wordsFor (length (rowBits (wordsOf (now table)) (halvesOf (now pixels)))) ≤ length (now words) ⌝ }
+    ensures { λ _. ⌜ now (words .exit) ≡ rowWritten (wordsOf (now (table .entry))) (halvesOf (now (pixels .entry))) (now (words .entry)) ⌝ }
+{
+    let n = pixels.len() / 2;
+    let mut w = bitstream::writer::start();
+    let mut p = row_item::start();
+    let mut i = 0;
+    while i < n {
+        let pixel = pixel_at(pixels, i);
+        let coded = encode(table, header, p, pixel);
+        let field = coded.field;
+        w = put(words, w, field.bits, field.len);
+        p = coded.next;
+        i += 1;
+    }
+    finish(words, w);
+}

@@ -1,0 +1,3 @@
+// Reading: one item at a place of a row's words, and a whole row of pixels.
+pub mod search;
+pub mod view;

@@ -1,3 +1,4 @@
 // Reading: one item at a place of a row's words, and a whole row of pixels.
+pub mod item;
 pub mod search;
 pub mod view;

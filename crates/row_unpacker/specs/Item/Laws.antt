@@ -142,3 +142,7 @@ module _ (tb wb : List ℕ) (at : ℕ) (p : Progress) (v : View) (seen : Seen (d
     pub read-unknown : b ≡ false → Refused 7 at ≡ itemAt tb wb at p
     unfolding itemAt readItem unmatched
     read-unknown d = rw (none-is, sym (cut .is (drop at (stream wb)) seen) ∙ d)
+
+pub itemAt-answered : (tb wb : List ℕ) (at : ℕ) (p : Progress) → itemAt tb wb at p ≡ answered (stateOf p) at (readItem (wordsOf tb) (stateOf p) (drop at (stream wb)))
+unfolding itemAt
+itemAt-answered tb wb at p = refl

@@ -1,0 +1,5 @@
+pub mod View
+pub mod Search
+pub mod Item
+pub mod Row
+pub mod Unpack

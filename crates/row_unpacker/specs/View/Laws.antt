@@ -1,0 +1,36 @@
+-- The laws of what is seen of a bit stream. Assumes nothing.
+use Prim.Native.Nat.{ℕ, _-_, _*_, _/_, _%_, _^_, _≤_, _<_, min}
+use native.Mathlib.Omega.{arith}
+use mathlib.Core.Path.{_≡_, sym, ap, _∙_}
+use mathlib.Core.List.{List}
+use lib.ListN.{length, take, drop, length-drop}
+use native.Mathlib.Nat.{one-mul}
+use lib.Seq.{take-take}
+use lib.Pow.{shl-exact, pow-pos}
+use lib.Bits.{bitAnd, and-mask}
+use Rattle.bitstream.specs.Bits.{numOf, bitsOf, stream}
+use Rattle.bitstream.specs.Bits.Laws.{Below, below-take, below-drop, below-flat, numOf-take}
+use Rattle.row_format.specs.BitLaws.{length-stream}
+use Rattle.row_unpacker.specs.View.{Seen}
+use Rattle.row_unpacker.specs.declared.view.View.{View}
+
+-- from a place of the whole words on
+pub seen-stream : (ws : List ℕ) (at window left : ℕ) → window ≡ numOf (take 32 (drop at (stream ws))) → left ≡ min 64 (32 * (length ws / 4) - at)
+    → Seen (drop at (stream ws)) (record { window = window; left = left })
+seen-stream ws at window left e d = record {
+  bits = below-drop at (stream ws) (below-flat 8 (take (4 * (length ws / 4)) ws));
+  window = e;
+  left = omega (arith, length-drop at (stream ws), length-stream ws);
+}
+
+-- the first n bits of a window
+pub low-window : (r : List ℕ) (v : View) → Seen r v → (n : ℕ) → n ≤ 32 → v .window % 2 ^ n ≡ numOf (take n r)
+low-window r v seen n h =
+    ap (_% 2 ^ n) (seen .window) ∙ sym (numOf-take n (take 32 r) (below-take 32 r (seen .bits))) ∙ ap numOf (take-take n 32 r h)
+
+-- ---- a mask
+pub one-shifted : (n : ℕ) → n < 32 → 1 * 2 ^ n % 4294967296 ≡ 2 ^ n
+one-shifted n h = shl-exact {a = 1} 1 n 32 (omega arith) (omega arith) ∙ one-mul (2 ^ n)
+
+pub masked : (v n : ℕ) → n < 32 → bitAnd v (1 * 2 ^ n % 4294967296 - 1) ≡ v % 2 ^ n
+masked v n h = ap (λ (k : ℕ). bitAnd v (k - 1)) (one-shifted n h) ∙ and-mask v n

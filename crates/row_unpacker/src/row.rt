@@ -1,0 +1,49 @@
+// The items of a row, one after the other, and their pixels.
+use bitstream::number::put_u16;
+use crate::item::Read;
+use crate::item::read_item;
+use row_item::after;
+use row_item::start;
+ghost use Prim.Native.Nat.{_*_, _≤_};
+ghost use lib.ListN.{length};
+ghost use Rattle.bitstream.specs.Bits.{wordsOf, stream};
+ghost use Rattle.row_format.specs.Row.{fresh};
+ghost use Rattle.row_format.specs.Reading.{readItems};
+ghost use Rattle.row_unpacker.specs.Row.{reached, RowIs};
+
+// The bits used; or the number of the refusal and the place of the faulty item.
+pub enum RowRead {
+    Done(usize),
+    Refused {
+        number: u32,
+        place: usize,
+    },
+}
+
+// Reads n pixels to the front of `row`, two bytes each.
+// at   the bit place of the next item
+// p    what the row has come to
+pub fn read_row(table: &[u8], words: &[u8], n: usize, row: &mut [u8]) -> RowRead
+    requires { ⌜ n ≤ 4096 ⌝ }
+    requires { ⌜ 2 * n ≤ length (now row) ⌝ }
+    ensures { λ r. ⌜ RowIs n (now (row .exit)) r (reached n fresh (readItems (wordsOf (now (table .entry))) n (stream (now (words .entry))))) ⌝ }
+{
+    let mut at = 0;
+    let mut p = start();
+    let mut i = 0;
+    while i < n {
+        let read = read_item(table, words, at, p);
+        match read {
+            Read::Got { item, pixel, next } => {
+                put_u16(row, 2 * i, pixel);
+                p = after(p, item, pixel);
+                at = next;
+                i += 1;
+            }
+            Read::Refused { number, place } => {
+                return RowRead::Refused { number, place };
+            }
+        }
+    }
+    RowRead::Done(at)
+}

@@ -1,0 +1,88 @@
+// Unpacking of one row: the whole call.
+use answer::Answer;
+use code_table::check::check;
+use crate::row::RowRead;
+use crate::row::read_row;
+use crate::view::look_ahead;
+use crate::view::low_bits;
+ghost use mathlib.Core.Path.{_≡_};
+ghost use mathlib.Core.List.{_++_};
+ghost use Prim.Native.Nat.{_*_, _≤_};
+ghost use lib.ListN.{length, take, drop};
+ghost use Rattle.answer.specs.Outcome.{outcome};
+ghost use Rattle.bitstream.specs.Bits.{wordsOf, stream};
+ghost use Rattle.row_format.specs.Reading.{readItems, stray};
+ghost use Rattle.row_format.specs.Calls.{unpacked, afterRun};
+
+// Unpacks n pixels from the words to the front of `pixels`, two bytes each; the count is the bits used. A refusal leaves
+// `pixels` as it was, so the row is read to memory of this call and copied when it is whole.
+pub fn unpack(table: &[u8], words: &[u8], n: u64, pixels: &mut [u8]) -> Answer
+    ensures { λ r. ⌜ outcome r (now (pixels .exit)) ≡ unpacked (now (table .entry)) (now (words .entry)) n (now (pixels .entry)) ⌝ }
+{
+    let checked = check(table);
+    let number = checked.number;
+    if number != 0 {
+        return Answer { number, count: 0 };
+    }
+    if 4096 < n {
+        return Answer {
+            number: 11,
+            count: 0,
+        };
+    }
+    if ((pixels.len() / 2) as u64) < n {
+        return Answer { number: 5, count: 0 };
+    }
+    unpack_row(table, words, n as usize, pixels)
+}
+
+// The same of a count and memory that are in order.
+fn unpack_row(table: &[u8], words: &[u8], n: usize, pixels: &mut [u8]) -> Answer
+    requires { ⌜ n ≤ 4096 ⌝ }
+    requires { ⌜ 2 * n ≤ length (now pixels) ⌝ }
+    ensures { λ r. ⌜ outcome r (now (pixels .exit)) ≡ afterRun (stream (now (words .entry))) n (now (pixels .entry)) (readItems (wordsOf (now (table .entry))) n (stream (now (words .entry)))) ⌝ }
+{
+    let mut row = [0u8; 8192];
+    let read = read_row(table, words, n, &mut row);
+    match read {
+        RowRead::Done(used) => {
+            if stray_bit(words, used) {
+                return Answer {
+                    number: 10,
+                    count: 0,
+                };
+            }
+            copy(&row, 2 * n, pixels);
+            Answer {
+                number: 0,
+                count: used as u32,
+            }
+        }
+        RowRead::Refused { number, place: _ } => Answer { number, count: 0 },
+    }
+}
+
+// Whether an unused bit of the last used word is set.
+fn stray_bit(words: &[u8], used: usize) -> bool
+    ensures { λ r. ⌜ r ≡ stray used (stream (now (words .entry))) ⌝ }
+{
+    let last = (used % 32) as u32;
+    if last == 0 {
+        return false;
+    }
+    let v = look_ahead(words, used);
+    low_bits(v.window, 32 - last) != 0
+}
+
+// The first n bytes of `from` to the front of `to`.
+fn copy(from: &[u8], n: usize, to: &mut [u8])
+    requires { ⌜ n ≤ length (now from) ⌝ }
+    requires { ⌜ n ≤ length (now to) ⌝ }
+    ensures { λ _. ⌜ now (to .exit) ≡ take n (now (from .entry)) ++ drop n (now (to .entry)) ⌝ }
+{
+    let mut i = 0;
+    while i < n {
+        to[i] = from[i];
+        i += 1;
+    }
+}

@@ -1,0 +1,5 @@
+pub mod Line
+pub mod Record
+pub mod Reading
+pub mod Writing
+pub mod Sheet

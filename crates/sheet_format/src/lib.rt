@@ -1,0 +1,35 @@
+// What the papers say of sheets. The definitions are in specs/; here are the types and limits that the code shares.
+
+// Document 01: "The length is 2 to 32,774": a record is four bytes more.
+pub const MAX_RECORD_BYTES: usize = 32778;
+
+// What a sheet holds so far: how many tables (0 or 1), and the least row number that may come next (0 to 65536).
+#[repr(C)]
+pub struct SheetState {
+    pub tables: u32,
+    pub least: u32,
+}
+
+// What reading a record answers: document 01's number, and where it is 0 what the record holds and the state after it. A
+// refusal has 0 for every value and the state as it was given. count is the words of a table, the pixels of a row, the
+// numbers of a line; row is for rows, bits and words for packed rows; length is the bytes of the whole record.
+#[repr(C)]
+pub struct RecordRead {
+    pub number: u32,
+    pub kind: u32,
+    pub row: u32,
+    pub count: u32,
+    pub bits: u32,
+    pub words: u32,
+    pub length: u32,
+    pub state: SheetState,
+}
+
+// What writing a record answers: the number, and where it is 0 the bytes written and the state after the record. A refusal
+// has 0 for the count and the state as it was given.
+#[repr(C)]
+pub struct RecordWritten {
+    pub number: u32,
+    pub count: u32,
+    pub state: SheetState,
+}

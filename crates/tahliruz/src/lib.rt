@@ -4,7 +4,7 @@ use adaptive::UnsignedRead;
 use answer::Answer;
 ghost use mathlib.Core.Path.{_≡_};
 ghost use Rattle.answer.specs.Outcome.{outcome};
-ghost use Rattle.row_format.specs.Calls.{checked};
+ghost use Rattle.row_format.specs.Calls.{checked, packed, unpacked, room};
 ghost use Rattle.code_table.specs.Plain.{plainLent};
 ghost use Rattle.adaptive.specs.Calls.{signedRead, unsignedRead, signedWritten, unsignedWritten};
 
@@ -20,6 +20,27 @@ pub extern "C" fn tahliruz_plain_table(out: &mut [u8]) -> Answer
     ensures { λ r. ⌜ outcome r (now (out .exit)) ≡ plainLent (now (out .entry)) ⌝ }
 {
     code_table::plain::plain_table(out)
+}
+
+#[no_mangle]
+pub extern "C" fn tahliruz_pack(table: &[u8], pixels: &[u8], words: &mut [u8]) -> Answer
+    ensures { λ r. ⌜ outcome r (now (words .exit)) ≡ packed (now (table .entry)) (now (pixels .entry)) (now (words .entry)) ⌝ }
+{
+    row_packer::pack::pack(table, pixels, words)
+}
+
+#[no_mangle]
+pub extern "C" fn tahliruz_unpack(table: &[u8], words: &[u8], n: u64, pixels: &mut [u8]) -> Answer
+    ensures { λ r. ⌜ outcome r (now (pixels .exit)) ≡ unpacked (now (table .entry)) (now (words .entry)) n (now (pixels .entry)) ⌝ }
+{
+    row_unpacker::unpack::unpack(table, words, n, pixels)
+}
+
+#[no_mangle]
+pub extern "C" fn tahliruz_room(table: &[u8], n: u64) -> Answer
+    ensures { λ r. ⌜ r ≡ room (now (table .entry)) n ⌝ }
+{
+    row_packer::room::room(table, n)
 }
 
 #[no_mangle]

@@ -4,7 +4,7 @@ use native.Mathlib.Omega.{arith}
 use mathlib.Core.Path.{_≡_, refl, sym, ap, _∙_, subst}
 use mathlib.Core.List.{List}
 use Rattle.row_format.specs.Row.{Item as PlainItem, State, fresh, past, previous, itemFor, itemBits, pixelOf, after}
-use Rattle.row_format.specs.Theorems.RoundTrip.{Right, itemFor-right, after-height}
+use Rattle.row_format.specs.Theorems.Items.{Right, itemFor-right, after-height}
 use Rattle.row_item.specs.declared.Item.{Item}
 use Rattle.row_item.specs.declared.Progress.{Progress}
 use Rattle.row_item.specs.Coded.{progress, coded, Followed}

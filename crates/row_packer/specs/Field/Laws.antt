@@ -15,7 +15,7 @@ use Rattle.bitstream.specs.Bits.Laws.{digits-join, length-digits}
 use Rattle.row_format.specs.Table.{lowLimit, tableSize, codeword, codewordAt, escapeLength, signed}
 use Rattle.row_format.specs.Table.Laws.{Accepted, length-codewordAt}
 use Rattle.row_format.specs.Row as row
-use Rattle.row_format.specs.Theorems.RoundTrip.{Fits, entry}
+use Rattle.row_format.specs.Theorems.Items.{Fits, entry}
 use Rattle.row_item.specs.declared.Item.{Item}
 use Rattle.row_item.specs.declared.Item.the-variants.{Difference, BadPixel, BadBias, Escape}
 use Rattle.row_item.specs.Coded.{coded}

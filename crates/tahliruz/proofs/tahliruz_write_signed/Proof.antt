@@ -1,21 +1,20 @@
+-- `tahliruz::tahliruz_write_signed` meets its contract: a number that fits an i32 is read back from its bits. Assumes nothing.
+use mathlib.Core.Path.{ap, _∙_}
+use lib.IntN.{ℤ}
 use borrow.Author.Needs.{needs}
+use mir.Facts.{toZ-ofZ}
+use Rattle.adaptive.specs.Calls.{signedWritten}
 use Rattle.tahliruz.proofs.tahliruz_write_signed.Statement.{statement}
 use Rattle.tahliruz.proofs.tahliruz_write_signed.Tie as tie
-use Rattle.tahliruz.proofs.tahliruz_write_signed.Reads as reads
-use Rattle.tahliruz.proofs.tahliruz_write_signed.Lts as lts
-use Rattle.adaptive.proofs.write_signed.Reads as write-signed-reads
 
--- src/lib.rt:43:5
 write-signed-requires : tie.Need-write-signed-requires
 write-signed-requires c κs = search needs
 
--- src/lib.rt:39:1
 same-length : tie.Need-same-length
 same-length c = search needs
 
--- src/lib.rt:39:1
 returns : tie.Need-returns
-returns c = ?
+returns c = c .before .before .write-signed .ensures ∙ ap (λ (v : ℤ). signedWritten v (c .before .before .before .before .before .args .out .now)) (toZ-ofZ (c .before .before .before .before .before .fits .value))
 
 pub tahliruz-write-signed-spec : {M : Type 1} → statement M
 tahliruz-write-signed-spec = tie.close (tie.spec write-signed-requires same-length returns)

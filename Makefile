@@ -22,7 +22,8 @@ test:
 
 compare: $(ARCHIVE)
 	@tests/second build
-	@$(SECOND)/compare_tables
+	@$(SECOND)/compare_tables 1000000
+	@$(SECOND)/compare_rows 5000000
 
 bench: $(ARCHIVE)
 	@tests/second build

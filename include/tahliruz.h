@@ -62,6 +62,10 @@ struct tahliruz_answer tahliruz_check(const uint8_t *table, size_t table_len);
  */
 struct tahliruz_answer tahliruz_plain_table(uint8_t *out, size_t out_len);
 
+struct tahliruz_answer tahliruz_pack(const uint8_t *table, size_t table_len, const uint8_t *pixels, size_t pixels_len, uint8_t *words, size_t words_len);
+struct tahliruz_answer tahliruz_unpack(const uint8_t *table, size_t table_len, const uint8_t *words, size_t words_len, uint64_t n, uint8_t *pixels, size_t pixels_len);
+struct tahliruz_answer tahliruz_room(const uint8_t *table, size_t table_len, uint64_t n);
+
 #ifdef __cplusplus
 }
 #endif

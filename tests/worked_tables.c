@@ -1,5 +1,5 @@
 /*
- * Runs document 01's cases through the library and prints them; tests/worked_examples.expected is what it must print.
+ * Runs document 01's cases on tables through the library and prints them; worked_tables.expected is what it must print.
  */
 #include <stdint.h>
 #include <stdio.h>

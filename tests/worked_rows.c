@@ -25,7 +25,7 @@ static uint32_t word(const uint8_t *at)
 /* Packs a row and prints the answer, the words counted, and whether the lent memory after them is as it was. */
 static void pack(const uint8_t *table, size_t table_len, const uint16_t *row, size_t n, size_t lent)
 {
-    uint8_t pixels[2 * 16], words[64];
+    uint8_t pixels[2 * 16] = { 0 }, words[64];
     for (size_t i = 0; i < n; i++) {
         printf("%s%u", i == 0 ? "pack " : " ", row[i]);
         pixels[2 * i] = (uint8_t)row[i];

@@ -2,9 +2,11 @@
 use code_table::entry::signed_of;
 use code_table::header::low_limit;
 use code_table::header::word_at;
+use crate::hints::hinted_search;
 use crate::search::Hit;
 use crate::search::cut_short;
 use crate::search::search;
+use crate::view::View;
 use crate::view::look_ahead;
 use row_item::Item;
 use row_item::Progress;
@@ -12,7 +14,10 @@ ghost use mathlib.Core.Path.{_≡_};
 ghost use Prim.Native.Nat.{_+_, _/_, _^_, _≤_, _<_};
 ghost use lib.ListN.{length, drop};
 ghost use Rattle.bitstream.specs.Bits.{wordsOf, stream};
+ghost use Rattle.row_format.specs.Table.{tableNumber};
 ghost use Rattle.row_format.specs.Row.{previous};
+ghost use Rattle.row_unpacker.specs.View.{Seen};
+ghost use Rattle.row_unpacker.specs.Search.{Finds};
 ghost use Rattle.row_unpacker.specs.Item.{stateOf, itemAt, foundAt, entryAt, HeightAt};
 
 // The item, its pixel and the bit place after it; or the number of the refusal and the place of the faulty item.
@@ -34,7 +39,26 @@ pub fn read_item(table: &[u8], words: &[u8], at: usize, p: Progress) -> Read
     ensures { λ r. ⌜ r ≡ itemAt (now (table .entry)) (now (words .entry)) at p ⌝ }
 {
     let v = look_ahead(words, at);
-    let hit = search(table, v);
+    item_seen(table, words, at, p, v, search(table, v))
+}
+
+// The same under an accepted table, by hints.
+pub fn hinted_item(table: &[u8], words: &[u8], heads: &[u16; 4096], slots: &[u16; 4096], nexts: &[u16; 8193], at: usize, p: Progress) -> Read
+    requires { ⌜ tableNumber (now table) ≡ 0 ⌝ }
+    requires { ⌜ at ≤ 2 ^ 32 ⌝ }
+    ensures { λ r. ⌜ r ≡ itemAt (now (table .entry)) (now (words .entry)) at p ⌝ }
+{
+    let v = look_ahead(words, at);
+    item_seen(table, words, at, p, v, hinted_search(table, heads, slots, nexts, v))
+}
+
+// The item at a place, from what is seen and found there.
+fn item_seen(table: &[u8], words: &[u8], at: usize, p: Progress, v: View, hit: Hit) -> Read
+    requires { ⌜ at ≤ 2 ^ 32 ⌝ }
+    requires { ⌜ Seen (drop at (stream (now words))) v ⌝ }
+    requires { ⌜ Finds (wordsOf (now table)) v hit ⌝ }
+    ensures { λ r. ⌜ r ≡ itemAt (now (table .entry)) (now (words .entry)) at p ⌝ }
+{
     match hit {
         Hit::At(j) => item_found(table, words, at, p, j),
         Hit::Nowhere => if cut_short(table, v) {

@@ -1,12 +1,15 @@
 // The items of a row, one after the other, and their pixels.
 use bitstream::number::put_u16;
+use crate::hints::fill;
 use crate::item::Read;
-use crate::item::read_item;
+use crate::item::hinted_item;
 use row_item::after;
 use row_item::start;
+ghost use mathlib.Core.Path.{_≡_};
 ghost use Prim.Native.Nat.{_*_, _≤_};
 ghost use lib.ListN.{length};
 ghost use Rattle.bitstream.specs.Bits.{wordsOf, stream};
+ghost use Rattle.row_format.specs.Table.{tableNumber};
 ghost use Rattle.row_format.specs.Row.{fresh};
 ghost use Rattle.row_format.specs.Reading.{readItems};
 ghost use Rattle.row_unpacker.specs.Row.{reached, RowIs};
@@ -20,10 +23,25 @@ pub enum RowRead {
     },
 }
 
-// Reads n pixels to the front of `row`, two bytes each.
+// Reads n pixels under an accepted table to the front of `row`, two bytes each.
+pub fn read_row(table: &[u8], words: &[u8], n: usize, row: &mut [u8]) -> RowRead
+    requires { ⌜ tableNumber (now table) ≡ 0 ⌝ }
+    requires { ⌜ n ≤ 4096 ⌝ }
+    requires { ⌜ 2 * n ≤ length (now row) ⌝ }
+    ensures { λ r. ⌜ RowIs n (now (row .exit)) r (reached n fresh (readItems (wordsOf (now (table .entry))) n (stream (now (words .entry))))) ⌝ }
+{
+    let mut heads = [0u16; 4096];
+    let mut slots = [0u16; 4096];
+    let mut nexts = [0u16; 8193];
+    fill(table, &mut heads, &mut slots, &mut nexts);
+    read_items(table, words, &heads, &slots, &nexts, n, row)
+}
+
+// The same by hints.
 // at   the bit place of the next item
 // p    what the row has come to
-pub fn read_row(table: &[u8], words: &[u8], n: usize, row: &mut [u8]) -> RowRead
+fn read_items(table: &[u8], words: &[u8], heads: &[u16; 4096], slots: &[u16; 4096], nexts: &[u16; 8193], n: usize, row: &mut [u8]) -> RowRead
+    requires { ⌜ tableNumber (now table) ≡ 0 ⌝ }
     requires { ⌜ n ≤ 4096 ⌝ }
     requires { ⌜ 2 * n ≤ length (now row) ⌝ }
     ensures { λ r. ⌜ RowIs n (now (row .exit)) r (reached n fresh (readItems (wordsOf (now (table .entry))) n (stream (now (words .entry))))) ⌝ }
@@ -32,7 +50,7 @@ pub fn read_row(table: &[u8], words: &[u8], n: usize, row: &mut [u8]) -> RowRead
     let mut p = start();
     let mut i = 0;
     while i < n {
-        let read = read_item(table, words, at, p);
+        let read = hinted_item(table, words, heads, slots, nexts, at, p);
         match read {
             Read::Got { item, pixel, next } => {
                 put_u16(row, 2 * i, pixel);

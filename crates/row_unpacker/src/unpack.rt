@@ -11,6 +11,7 @@ ghost use Prim.Native.Nat.{_*_, _≤_};
 ghost use lib.ListN.{length, take, drop};
 ghost use Rattle.answer.specs.Outcome.{outcome};
 ghost use Rattle.bitstream.specs.Bits.{wordsOf, stream};
+ghost use Rattle.row_format.specs.Table.{tableNumber};
 ghost use Rattle.row_format.specs.Reading.{readItems, stray};
 ghost use Rattle.row_format.specs.Calls.{unpacked, afterRun};
 
@@ -36,8 +37,9 @@ pub fn unpack(table: &[u8], words: &[u8], n: u64, pixels: &mut [u8]) -> Answer
     unpack_row(table, words, n as usize, pixels)
 }
 
-// The same of a count and memory that are in order.
+// The same under an accepted table, of a count and memory that are in order.
 fn unpack_row(table: &[u8], words: &[u8], n: usize, pixels: &mut [u8]) -> Answer
+    requires { ⌜ tableNumber (now table) ≡ 0 ⌝ }
     requires { ⌜ n ≤ 4096 ⌝ }
     requires { ⌜ 2 * n ≤ length (now pixels) ⌝ }
     ensures { λ r. ⌜ outcome r (now (pixels .exit)) ≡ afterRun (stream (now (words .entry))) n (now (pixels .entry)) (readItems (wordsOf (now (table .entry))) n (stream (now (words .entry)))) ⌝ }

@@ -8,14 +8,16 @@ use lib.ListN.{length, take, drop, getD, take-append-drop}
 use lib.Seq.{take-append-seam, take-at, take-all}
 use lib.Dec.{ltb, eqb}
 use borrow.Author.Tests.{ltb-true, ltb-false, eq-eqb, ne-eqb}
-use Rattle.bitstream.specs.Bits.{numOf, digits, begins}
+use Rattle.bitstream.specs.Bits.{numOf, digits, begins, wordsOf}
 use Rattle.bitstream.specs.Bits.Laws.{Below, below-take, below-digits, length-digits, digits-split, numOf-digits, numOf-inj}
 use Rattle.row_format.specs.Lists.{any}
 use Rattle.row_format.specs.Lists.Laws.{by-test, true-false, any-false, any-false-at}
 use Rattle.row_format.specs.BitLaws.{begins-length, begins-drop, begins-append}
-use Rattle.row_format.specs.Table.{codeword, codewords, codewordAt}
-use Rattle.row_format.specs.Table.Laws.{length-codeword, length-codewords, length-codewordAt, getD-codewords}
+use Rattle.row_format.specs.Table.{codeword, codewords, codewordAt, tableNumber}
+use Rattle.row_format.specs.Table.Laws.{length-codeword, length-codewords, length-codewordAt, getD-codewords, accepted, tableNumber-verdict}
 use Rattle.row_format.specs.Reading.{none, found, find}
+use Rattle.row_format.specs.Theorems.Search.{find-only}
+use Rattle.code_table.specs.Check.Laws.{length-words}
 use Rattle.row_unpacker.specs.View.{Seen}
 use Rattle.row_unpacker.specs.View.Laws.{low-window}
 use Rattle.row_unpacker.specs.Search.{hit, Finds, CutShort, begun, Tested, Passed}
@@ -148,3 +150,13 @@ module _ (t : List ℕ) (v : View) where
   pub short-long : 31 < v .left → CutShort t v false
   short-long h = record { is = λ r seen. sym (any-false (begins r) (codewords t) []
     (λ j b. rw (getD-codewords t j) (begins-short r (codewordAt t j) (omega (arith, seen .left, length-codewordAt t j))))) }
+
+-- ---- under an accepted table the codeword that begins the rest is the only one, however it was come by
+pub finds-only : (tb : List ℕ) (v : View) → tableNumber tb ≡ 0 → (i w : ℕ) → 3 ≤ i → i < length tb / 4 → w ≡ getD (wordsOf tb) i 0
+    → {b : Bool} → Tested begun w v b → b ≡ true → Finds (wordsOf tb) v (At (i - 3))
+finds-only tb v ok i w least h is b yes′ = record { is = λ r seen.
+  let t = wordsOf tb in
+  let a = accepted t (tableNumber-verdict tb ok) in
+  let begins-it : begins (codewordAt t (i - 3)) r ≡ true =
+  ap (λ (s : List ℕ). begins s r) (sym (getD-codewords t (i - 3)) ∙ place t v i least ∙ ap codeword (sym is)) ∙ sym (b .is r seen) ∙ yes′ in
+  sym (ap hit (find-only t a (i - 3) r (omega (arith, a .words, length-words tb)) begins-it)) }

@@ -6,7 +6,7 @@ use mathlib.Core.List.{List}
 use lib.ListN.{length, take, drop, length-drop}
 use native.Mathlib.Nat.{one-mul}
 use lib.Seq.{take-take}
-use lib.Pow.{shl-exact, pow-pos}
+use lib.Pow.{shl-exact, pow-pos, pow-mono}
 use lib.Bits.{bitAnd, and-mask}
 use Rattle.bitstream.specs.Bits.{numOf, bitsOf, stream}
 use Rattle.bitstream.specs.Bits.Laws.{Below, below-take, below-drop, below-flat, numOf-take}
@@ -29,8 +29,15 @@ low-window r v seen n h =
     ap (_% 2 ^ n) (seen .window) ∙ sym (numOf-take n (take 32 r) (below-take 32 r (seen .bits))) ∙ ap numOf (take-take n 32 r h)
 
 -- ---- a mask
-pub one-shifted : (n : ℕ) → n < 32 → 1 * 2 ^ n % 4294967296 ≡ 2 ^ n
-one-shifted n h = shl-exact {a = 1} 1 n 32 (omega arith) (omega arith) ∙ one-mul (2 ^ n)
+pub one-shifted : (w n : ℕ) → n < w → 1 * 2 ^ n % 2 ^ w ≡ 2 ^ n
+one-shifted w n h = shl-exact {a = 1} 1 n w (omega arith) (omega arith) ∙ one-mul (2 ^ n)
 
 pub masked : (v n : ℕ) → n < 32 → bitAnd v (1 * 2 ^ n % 4294967296 - 1) ≡ v % 2 ^ n
-masked v n h = ap (λ (k : ℕ). bitAnd v (k - 1)) (one-shifted n h) ∙ and-mask v n
+masked v n h = ap (λ (k : ℕ). bitAnd v (k - 1)) (one-shifted 32 n h) ∙ and-mask v n
+
+-- a step of 2 ^ n, in 64 bits
+pub step-least : (n : ℕ) → n < 32 → 0 < 1 * 2 ^ n % 2 ^ 64
+step-least n h = rw (one-shifted 64 n (omega arith)) (pow-pos n)
+
+pub step-most : (n : ℕ) → n < 32 → 1 * 2 ^ n % 2 ^ 64 ≤ 2 ^ 32
+step-most n h = rw (one-shifted 64 n (omega arith)) (pow-mono {i = n} {j = 32} (omega arith))

@@ -1,4 +1,5 @@
-use Rattle.row_unpacker.specs.Unpack.Laws.{unpacked-table, unpacked-many, unpacked-full, unpacked-row}
+use native.Mathlib.Omega.{arith}
+use Rattle.row_unpacker.specs.Unpack.Laws.{accepted-table, unpacked-table, unpacked-many, unpacked-full, unpacked-row}
 use borrow.Author.Needs.{needs}
 use Rattle.row_unpacker.proofs.unpack.unpack.Statement.{statement}
 use Rattle.row_unpacker.proofs.unpack.unpack.Tie as tie
@@ -25,7 +26,7 @@ returns-3 c = unpacked-full (c .before .before .before .before .before .before .
 
 -- src/unpack.rt:36:5
 unpack-row-requires : tie.Need-unpack-row-requires
-unpack-row-requires c κs = search needs
+unpack-row-requires c κs = (accepted-table (c .before .before .before .before .before .before .before .before .args .table .now) (c .before .before .before .before .before .before .before .before .args .words .now) (c .before .before .before .before .before .before .before .before .args .n) (c .before .before .before .before .before .before .before .before .args .pixels .now) (c .before .before .before .before .check .result) (c .before .before .before .before .check .ensures) (c .before .before .before .if1 .left), (omega arith, omega arith))
 
 -- src/unpack.rt:19:1
 same-length : tie.Need-same-length

@@ -12,7 +12,7 @@ shl-result c = search needs
 
 -- src/view.rt:48:10
 sub-result : tie.Need-sub-result
-sub-result c = rw (one-shifted (c .args .n) (c .pre)) (pow-pos (c .args .n))
+sub-result c = rw (one-shifted 32 (c .args .n) (c .pre)) (pow-pos (c .args .n))
 
 -- src/view.rt:44:1
 returns : tie.Need-returns

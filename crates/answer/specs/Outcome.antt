@@ -4,6 +4,7 @@ use mathlib.Core.Bool.{Bool, true, false, cond}
 use mathlib.Core.List.{List, _++_}
 use lib.ListN.{length, drop}
 use Rattle.answer.specs.declared.Answer.{Answer}
+pub mod Laws
 
 -- a call's answer, a number and a count, and the memory lent for writing
 pub record Outcome : Type 0 where

@@ -7,7 +7,7 @@ use mathlib.Core.Logic.{_⊎_}
 use mathlib.Core.List.{List}
 use lib.ListN.{length, drop}
 use lib.Dec.{ltb}
-use borrow.Author.Tests.{lt-ltb}
+use borrow.Author.Tests.{lt-ltb, eq-eqb, ne-eqb}
 use Rattle.bitstream.specs.Bits.{flat, bytesOf, wordsOf, stream}
 use Rattle.answer.specs.Outcome.{refused, wrote}
 use Rattle.row_format.specs.Lists.Laws.{by-test}
@@ -24,14 +24,14 @@ use Rattle.row_reader.specs.Walk.Laws as laws
 
 -- "where it gives n items, a row call of n with room for them gives those pixels or refuses 10"
 pub reader-gives : (tb wb : List ℕ) → tableNumber tb ≡ 0 → (n : ℕ) (m : List ℕ) → n ≤ length m / 2 → n ≤ 4096
-    → (ps : List ℕ) (pl : Place) → walk tb wb n startPlace ≡ gave ps pl
+    → (ps : List ℕ) (pl : Place) → walk tb wb n (startPlace tb) ≡ gave ps pl
     → (unpacked tb wb n m ≡ wrote (pl .at) (bytesOf (2 * n) (flat 16 ps)) m) ⊎ (unpacked tb wb n m ≡ refused 10 m)
 reader-gives tb wb ok = laws.gives tb wb ok
 
 -- "where it refuses 6 to 9, every row call that reaches the item gives that number": the walk of k steps ended after i items,
 -- and the row call asks for more than i
 pub reader-refuses : (tb wb : List ℕ) → tableNumber tb ≡ 0 → (n : ℕ) (m : List ℕ) → n ≤ length m / 2 → n ≤ 4096
-    → (k e i : ℕ) → k ≤ 4096 → walk tb wb k startPlace ≡ ended e i → i < n → unpacked tb wb n m ≡ refused e m
+    → (k e i : ℕ) → k ≤ 4096 → walk tb wb k (startPlace tb) ≡ ended e i → i < n → unpacked tb wb n m ≡ refused e m
 reader-refuses tb wb ok = laws.refuses tb wb ok
 
 -- "A refusal moves nothing"; the pixel is 0
@@ -40,9 +40,14 @@ pub reader-stays : (tb wb : List ℕ) (pl : Place) → (itemRead tb wb pl .numbe
 reader-stays = laws.stays
 
 -- "after 4096 items it answers 11"
-pub reader-full : (tb wb : List ℕ) (pl : Place) → 4096 ≤ pl .count → itemRead tb wb pl .number ≡ 11
+pub reader-full : (tb wb : List ℕ) (pl : Place) → pl .opening ≡ 0 → 4096 ≤ pl .count → itemRead tb wb pl .number ≡ 11
 unfolding itemRead
-reader-full tb wb pl h = rw (lt-ltb 4095 (pl .count) (omega arith))
+reader-full tb wb pl o h = rw (eq-eqb (pl .opening) 0 o, lt-ltb 4095 (pl .count) (omega arith))
+
+-- "Opening it refuses 1, 2, 3", and a reader whose opening was refused never gives an item
+pub reader-unopened : (tb wb : List ℕ) (pl : Place) → (pl .opening ≡ 0 → ⊥) → itemRead tb wb pl .number ≡ pl .opening
+unfolding itemRead
+reader-unopened tb wb pl o = rw (ne-eqb (pl .opening) 0 o)
 
 -- "Its items, a refused one too, use at most M bits each": the definition's bits, and the place after a given item
 pub reader-item-bits : (tb wb : List ℕ) (pl : Place) → bitsOfReading (readItem (wordsOf tb) (stateOf (pl .progress)) (drop (pl .at) (stream wb))) ≤ maxItemBits (wordsOf tb)

@@ -6,8 +6,11 @@ use mathlib.Core.Bool.{Bool, true, false, cond}
 use mathlib.Core.List.{List}
 use lib.ListN.{drop}
 use lib.Dec.{ltb}
-use borrow.Author.Tests.{lt-ltb, le-ltb}
+use borrow.Author.Tests.{lt-ltb, le-ltb, eq-eqb, ne-eqb}
 use Rattle.bitstream.specs.Bits.{wordsOf, stream}
+use Rattle.answer.specs.Outcome.Laws.{countUnless-number}
+use Rattle.row_format.specs.Table.{tableNumber, maxItemBits}
+use Rattle.row_format.specs.Calls.{checked}
 use Rattle.row_format.specs.Row as row
 use Rattle.row_format.specs.Reading.{Reading, item, fault, readItem}
 use Rattle.row_item.specs.declared.Item.{Item}
@@ -19,6 +22,11 @@ use Rattle.row_unpacker.specs.Item.{stateOf, answered, itemAt}
 use Rattle.row_reader.specs.declared.step.Place.{Place}
 use Rattle.row_reader.specs.declared.step.ItemRead.{ItemRead}
 use Rattle.row_reader.specs.Step.{refusedAt, given, itemRead}
+
+-- ---- the number of an opening
+pub checked-number : (tb : List ℕ) → checked tb .number ≡ tableNumber tb
+unfolding checked
+checked-number tb = countUnless-number (tableNumber tb) (maxItemBits (wordsOf tb))
 
 -- ---- a settled progress
 pub settled-begun : (p : Progress) → p .begun ≡ true → p ≡ progress (stateOf p)
@@ -33,13 +41,17 @@ stateOf-progress (row.past h) = refl
 
 -- ---- the ways out of a step
 module _ (tb wb : List ℕ) (pl : Place) where
-  pub step-all : 4095 < pl .count → refusedAt 11 pl ≡ itemRead tb wb pl
+  pub step-unopened : (pl .opening ≡ 0 → ⊥) → refusedAt (pl .opening) pl ≡ itemRead tb wb pl
   unfolding itemRead
-  step-all h = rw (lt-ltb 4095 (pl .count) h)
+  step-unopened h = rw (ne-eqb (pl .opening) 0 h)
 
-  pub step-past : pl .count ≤ 4095 → 110592 < pl .at → refusedAt 11 pl ≡ itemRead tb wb pl
+  pub step-all : pl .opening ≡ 0 → 4095 < pl .count → refusedAt 11 pl ≡ itemRead tb wb pl
   unfolding itemRead
-  step-past g h = rw (le-ltb 4095 (pl .count) g, lt-ltb 110592 (pl .at) h)
+  step-all o h = rw (eq-eqb (pl .opening) 0 o, lt-ltb 4095 (pl .count) h)
+
+  pub step-past : pl .opening ≡ 0 → pl .count ≤ 4095 → 110592 < pl .at → refusedAt 11 pl ≡ itemRead tb wb pl
+  unfolding itemRead
+  step-past o g h = rw (eq-eqb (pl .opening) 0 o, le-ltb 4095 (pl .count) g, lt-ltb 110592 (pl .at) h)
 
   state : row.State
   state = stateOf (pl .progress)
@@ -47,9 +59,9 @@ module _ (tb wb : List ℕ) (pl : Place) where
   reading : Reading
   reading = readItem (wordsOf tb) (stateOf (pl .progress)) (drop (pl .at) (stream wb))
 
-  step-read : pl .count ≤ 4095 → pl .at ≤ 110592 → given pl state reading ≡ itemRead tb wb pl
+  step-read : pl .opening ≡ 0 → pl .count ≤ 4095 → pl .at ≤ 110592 → given pl state reading ≡ itemRead tb wb pl
   unfolding itemRead state reading
-  step-read g h = rw (le-ltb 4095 (pl .count) g, le-ltb 110592 (pl .at) h)
+  step-read o g h = rw (eq-eqb (pl .opening) 0 o, le-ltb 4095 (pl .count) g, le-ltb 110592 (pl .at) h)
 
   -- the item reader's answer, of the settled progress
   answer-is : (p : Progress) → p ≡ progress state → itemAt tb wb (pl .at) p ≡ answered state (pl .at) reading
@@ -57,7 +69,7 @@ module _ (tb wb : List ℕ) (pl : Place) where
   answer-is p e = rw (e, stateOf-progress (stateOf (pl .progress)))
 
   got : (rd : Reading) (p q : Progress) (i : Item) (pixel next : ℕ) → Got i pixel next ≡ answered state (pl .at) rd → p ≡ progress state → Followed p i pixel q
-      → _≡_ {A = ItemRead} (record { number = 0; item = i; pixel = pixel; place = record { at = next; count = pl .count + 1; progress = q } }) (given pl state rd)
+      → _≡_ {A = ItemRead} (record { number = 0; item = i; pixel = pixel; place = record { at = next; count = pl .count + 1; progress = q; opening = pl .opening } }) (given pl state rd)
   got (item j u) p q i pixel next e s f =
       let one : i ≡ coded j = cc in
       let two : pixel ≡ row.pixelOf state j = cc in
@@ -71,12 +83,12 @@ module _ (tb wb : List ℕ) (pl : Place) where
       let one : number ≡ x = cc in
       rw one
 
-  module _ (g : pl .count ≤ 4095) (h : pl .at ≤ 110592) (p : Progress) (s : p ≡ progress (stateOf (pl .progress))) (r : Read) (is : r ≡ itemAt tb wb (pl .at) p) where
+  module _ (o : pl .opening ≡ 0) (g : pl .count ≤ 4095) (h : pl .at ≤ 110592) (p : Progress) (s : p ≡ progress (stateOf (pl .progress))) (r : Read) (is : r ≡ itemAt tb wb (pl .at) p) where
     pub step-got : (q : Progress) (i : Item) (pixel next : ℕ) → r ≡ Got i pixel next → Followed p i pixel q
-        → _≡_ {A = ItemRead} (record { number = 0; item = i; pixel = pixel; place = record { at = next; count = pl .count + 1; progress = q } }) (itemRead tb wb pl)
+        → _≡_ {A = ItemRead} (record { number = 0; item = i; pixel = pixel; place = record { at = next; count = pl .count + 1; progress = q; opening = pl .opening } }) (itemRead tb wb pl)
     unfolding state
-    step-got q i pixel next e f = got reading p q i pixel next (sym e ∙ is ∙ answer-is p s) s f ∙ step-read g h
+    step-got q i pixel next e f = got reading p q i pixel next (sym e ∙ is ∙ answer-is p s) s f ∙ step-read o g h
 
     pub step-refused : (number place : ℕ) → r ≡ Refused number place → refusedAt number pl ≡ itemRead tb wb pl
     unfolding state
-    step-refused number place e = refuses reading number place (sym e ∙ is ∙ answer-is p s) ∙ step-read g h
+    step-refused number place e = refuses reading number place (sym e ∙ is ∙ answer-is p s) ∙ step-read o g h

@@ -9,7 +9,7 @@ use mathlib.Core.List.{List, [], _∷_}
 use lib.ListN.{length, drop}
 use lib.Seq.{drop-drop}
 use lib.Dec.{ltb, eqb}
-use borrow.Author.Tests.{lt-ltb, le-ltb, ne-eqb}
+use borrow.Author.Tests.{lt-ltb, le-ltb, eq-eqb, ne-eqb, eqb-false}
 use Rattle.bitstream.specs.Bits.{flat, bytesOf, wordsOf, stream}
 use Rattle.answer.specs.Outcome.{refused, wrote}
 use Rattle.row_format.specs.Lists.Laws.{by-test}
@@ -35,22 +35,25 @@ use Rattle.row_reader.specs.Walk.{Walk, gave, ended, onto, walk}
 pub record At (pl : Place) (s : row.State) : Type 0 where
   pub is : pl .progress ≡ progress s
   pub most : pl .at ≤ 27 * (pl .count)
+  pub opened : pl .opening ≡ 0
 
 module _ (tb wb : List ℕ) where
   step-given : (pl : Place) (s : row.State) → At pl s → pl .count ≤ 4095 → itemRead tb wb pl ≡ given pl s (readItem (wordsOf tb) s (drop (pl .at) (stream wb)))
   unfolding itemRead
   step-given pl s a h =
       let e : stateOf (pl .progress) ≡ s = ap stateOf (a .is) ∙ stateOf-progress s in
-      rw (le-ltb 4095 (pl .count) h, le-ltb 110592 (pl .at) (omega (arith, a .most)), e)
+      rw (eq-eqb (pl .opening) 0 (a .opened), le-ltb 4095 (pl .count) h, le-ltb 110592 (pl .at) (omega (arith, a .most)), e)
 
   -- by whether the count and the place allow another item
-  by-limits : (P : ItemRead → Type 0) (pl : Place) → P (refusedAt 11 pl)
+  by-limits : (P : ItemRead → Type 0) (pl : Place) → ((pl .opening ≡ 0 → ⊥) → P (refusedAt (pl .opening) pl)) → P (refusedAt 11 pl)
       → P (given pl (stateOf (pl .progress)) (readItem (wordsOf tb) (stateOf (pl .progress)) (drop (pl .at) (stream wb)))) → P (itemRead tb wb pl)
   unfolding itemRead
-  by-limits P pl full read = by-test (ltb 4095 (pl .count)) (λ e. rw e full) (λ e. by-test (ltb 110592 (pl .at)) (λ g. rw (e, g) full) (λ g. rw (e, g) read))
+  by-limits P pl shut full read = by-test (eqb (pl .opening) 0)
+      (λ o. by-test (ltb 4095 (pl .count)) (λ e. rw (o, e) full) (λ e. by-test (ltb 110592 (pl .at)) (λ g. rw (o, e, g) full) (λ g. rw (o, e, g) read)))
+      (λ o. rw o (shut (eqb-false (pl .opening) 0 o)))
 
   pub stays : (pl : Place) → (itemRead tb wb pl .number ≡ 0 → ⊥) → (itemRead tb wb pl .place ≡ pl) × (itemRead tb wb pl .pixel ≡ 0)
-  stays pl = by-limits (λ r. (r .number ≡ 0 → ⊥) → (r .place ≡ pl) × (r .pixel ≡ 0)) pl (λ h. (refl, refl)) (still (readItem (wordsOf tb) (stateOf (pl .progress)) (drop (pl .at) (stream wb))))
+  stays pl = by-limits (λ r. (r .number ≡ 0 → ⊥) → (r .place ≡ pl) × (r .pixel ≡ 0)) pl (λ o h. (refl, refl)) (λ h. (refl, refl)) (still (readItem (wordsOf tb) (stateOf (pl .progress)) (drop (pl .at) (stream wb))))
     where
       still : (rd : Reading) → (given pl (stateOf (pl .progress)) rd .number ≡ 0 → ⊥) → (given pl (stateOf (pl .progress)) rd .place ≡ pl) × (given pl (stateOf (pl .progress)) rd .pixel ≡ 0)
       still (item i u) h = absurd (h refl)
@@ -58,7 +61,7 @@ module _ (tb wb : List ℕ) where
 
   pub moves : (pl : Place) → itemRead tb wb pl .place .at ≤ pl .at + maxItemBits (wordsOf tb)
   moves pl =
-      by-limits (λ r. r .place .at ≤ pl .at + maxItemBits (wordsOf tb)) pl (omega arith)
+      by-limits (λ r. r .place .at ≤ pl .at + maxItemBits (wordsOf tb)) pl (λ o. omega arith) (omega arith)
       (within (readItem (wordsOf tb) (stateOf (pl .progress)) (drop (pl .at) (stream wb))) (readItem-uses (wordsOf tb) (stateOf (pl .progress)) (drop (pl .at) (stream wb))))
     where
       within : (rd : Reading) → bitsOfReading rd ≤ maxItemBits (wordsOf tb) → given pl (stateOf (pl .progress)) rd .place .at ≤ pl .at + maxItemBits (wordsOf tb)
@@ -67,7 +70,7 @@ module _ (tb wb : List ℕ) where
 
   -- what a step's reading makes of the rest of a walk
   abbrev onward : Place → row.State → ℕ → Reading → Walk
-  onward pl s n (item i u) = onto (row.pixelOf s i) (walk tb wb n (record { at = pl .at + u; count = pl .count + 1; progress = progress (row.after s i) }))
+  onward pl s n (item i u) = onto (row.pixelOf s i) (walk tb wb n (record { at = pl .at + u; count = pl .count + 1; progress = progress (row.after s i); opening = pl .opening }))
   onward pl s n (fault e u) = ended e 0
 
   walk-suc : (n : ℕ) (pl : Place) (s : row.State) → At pl s → pl .count ≤ 4095
@@ -108,7 +111,7 @@ module _ (tb wb : List ℕ) where
     -- after an item i of u bits
     module _ (i : row.Item) (u : ℕ) (e : readItem (wordsOf tb) s (drop (pl .at) (stream wb)) ≡ item i u) where
       abbrev next : Place
-      next = record { at = pl .at + u; count = pl .count + 1; progress = progress (row.after s i) }
+      next = record { at = pl .at + u; count = pl .count + 1; progress = progress (row.after s i); opening = pl .opening }
 
       run-suc : (n : ℕ) → run pl s (suc n) ≡ prepend i u (run next (row.after s i) n)
       unfolding readBy
@@ -150,7 +153,7 @@ module _ (tb wb : List ℕ) where
     at-next : (pl : Place) (s : row.State) (i : row.Item) (u : ℕ) → At pl s → (e : readItem (wordsOf tb) s (drop (pl .at) (stream wb)) ≡ item i u) → At (next pl s i u e) (row.after s i)
     at-next pl s i u a e =
         let h : u ≤ 27 = subst (λ (rd : Reading). bitsOfReading rd ≤ 27) e (few s (drop (pl .at) (stream wb))) in
-        record { is = refl; most = omega (arith, a .most) }
+        record { is = refl; most = omega (arith, a .most); opened = a .opened }
 
     pub walk-agrees : (n : ℕ) (pl : Place) (s : row.State) → At pl s → pl .count + n ≤ 4096 → Agrees pl s n (walk tb wb n pl)
     unfolding walk readBy pixelsOf
@@ -161,8 +164,8 @@ module _ (tb wb : List ℕ) where
         (λ i u e. walk-agrees n (next pl s i u e) (row.after s i) (at-next pl s i u a e) (omega arith)))
 
     -- ---- the row call
-    start : At startPlace row.fresh
-    start = record { is = refl; most = omega arith }
+    start : At (startPlace tb) row.fresh
+    start = record { is = refl; most = omega arith; opened = ok }
 
     module _ (n : ℕ) (m : List ℕ) (rm : n ≤ length m / 2) (lim : n ≤ 4096) where
       passes : Unpackable tb n (length m / 2)
@@ -173,20 +176,20 @@ module _ (tb wb : List ℕ) where
       row-is x e = rw (unpackNumber-unpackable tb n (length m / 2) passes, e)
 
       -- where it gives n items, a row call of n with room for them gives those pixels or refuses 10
-      whole-row : (ps : List ℕ) (pl : Place) → Whole startPlace row.fresh n ps pl
+      whole-row : (ps : List ℕ) (pl : Place) → Whole (startPlace tb) row.fresh n ps pl
           → (unpacked tb wb n m ≡ wrote (pl .at) (bytesOf (2 * n) (flat 16 ps)) m) ⊎ (unpacked tb wb n m ≡ refused 10 m)
       whole-row ps pl w = by-test (stray (w .used) (stream wb))
           (λ e. inr (row-is (done (w .items) (w .used)) (unfold readItems in w .read) ∙ rw e))
           (λ e. inl (row-is (done (w .items) (w .used)) (unfold readItems in w .read) ∙ rw (e, w .pixels, w .place, zero-add (w .used))))
 
-      stopped-row : (e : ℕ) → Stops startPlace row.fresh n e → unpacked tb wb n m ≡ refused e m
+      stopped-row : (e : ℕ) → Stops (startPlace tb) row.fresh n e → unpacked tb wb n m ≡ refused e m
       stopped-row e s = row-is (stop e (s .faultAt) (s .used)) (unfold readItems in s .read)
 
       -- by a walk's own answer
-      pub gives : (ps : List ℕ) (pl : Place) → walk tb wb n startPlace ≡ gave ps pl
+      pub gives : (ps : List ℕ) (pl : Place) → walk tb wb n (startPlace tb) ≡ gave ps pl
           → (unpacked tb wb n m ≡ wrote (pl .at) (bytesOf (2 * n) (flat 16 ps)) m) ⊎ (unpacked tb wb n m ≡ refused 10 m)
-      gives ps pl e = whole-row ps pl (subst (Agrees startPlace row.fresh n) e (walk-agrees n startPlace row.fresh start (omega arith)))
+      gives ps pl e = whole-row ps pl (subst (Agrees (startPlace tb) row.fresh n) e (walk-agrees n (startPlace tb) row.fresh start (omega arith)))
 
-      pub refuses : (k e i : ℕ) → k ≤ 4096 → walk tb wb k startPlace ≡ ended e i → i < n → unpacked tb wb n m ≡ refused e m
+      pub refuses : (k e i : ℕ) → k ≤ 4096 → walk tb wb k (startPlace tb) ≡ ended e i → i < n → unpacked tb wb n m ≡ refused e m
       refuses k e i h w reaches =
-          stopped-row e (subst (Agrees startPlace row.fresh k) w (walk-agrees k startPlace row.fresh start (omega arith)) n reaches)
+          stopped-row e (subst (Agrees (startPlace tb) row.fresh k) w (walk-agrees k (startPlace tb) row.fresh start (omega arith)) n reaches)

@@ -1,0 +1,181 @@
+/*
+ * Makes the samples anew: make_samples FOLDER writes morning.sheet, damaged.sheet, plain.table and memo.table there.
+ *
+ * The morning's sheet is a made-up foot: rows of heights over a footprint, with the noise of a scanner, a few bad spots, a
+ * pin that stands out further than the plain table's steps reach, and a contour line.
+ */
+#include <stdint.h>
+#include <stdio.h>
+#include <stdlib.h>
+#include <string.h>
+
+#include "tahliruz.h"
+
+#define ROWS 320
+#define PIXELS 160
+
+static uint8_t plain[2072];
+
+static uint32_t noise_state = 12345;
+
+/* 0 to limit - 1. */
+static uint32_t noise(uint32_t limit)
+{
+    noise_state = noise_state * 1664525u + 1013904223u;
+    return (noise_state >> 16) % limit;
+}
+
+/* Half the footprint's width at row y: a heel, a waist, a ball and toes. */
+static int half_width(int y)
+{
+    static const int at[9] = { 0, 26, 33, 30, 24, 27, 40, 44, 12 };
+    int part = y * 8 / ROWS, from = part * ROWS / 8, next = (part + 1) * ROWS / 8;
+    return at[part] + (at[part + 1] - at[part]) * (y - from) / (next - from);
+}
+
+/* The height above the glass at a pixel: flat outside the foot, a dome inside that is lowest under heel and ball. */
+static uint16_t height(int y, int x)
+{
+    int w = half_width(y), dx = abs(x - PIXELS / 2);
+    if (dx >= w)
+        return (uint16_t)(40 + noise(5));
+    int dome = 900 - 620 * dx * dx / (w * w);
+    int arch = y > 110 && y < 200 ? (y - 110) * (200 - y) / 9 : 0;
+    return (uint16_t)(200 + dome / 2 + arch / 4 + (int)noise(9));
+}
+
+static void make_row(int y, uint8_t *pixels)
+{
+    for (int x = 0; x < PIXELS; x++) {
+        uint16_t h = height(y, x);
+        if (noise(900) == 0)
+            h = 4095;
+        else if (noise(2500) == 0)
+            h = 4094;
+        if (y == 150 && x == 80)
+            h = 3100;
+        pixels[2 * x] = (uint8_t)h;
+        pixels[2 * x + 1] = (uint8_t)(h >> 8);
+    }
+}
+
+/* Appends a record to the sheet; a refusal ends the program. */
+static void append(FILE *f, struct tahliruz_sheet *state, uint32_t kind, uint16_t row, const uint8_t *content, size_t len)
+{
+    static uint8_t record[32778];
+    struct tahliruz_written w = tahliruz_write_record(kind, row, content, len, plain, sizeof plain, *state, record, sizeof record);
+    if (w.number != 0 || fwrite(record, 1, w.count, f) != w.count) {
+        fprintf(stderr, "make_samples: record of kind %u refused %u or not written\n", kind, w.number);
+        exit(1);
+    }
+    *state = w.state;
+}
+
+/* The outline of the foot as differences from row to row. */
+static void append_contour(FILE *f, struct tahliruz_sheet *state)
+{
+    uint8_t numbers[4 * ROWS];
+    int32_t before = 0;
+    for (int y = 0; y < ROWS; y++) {
+        int32_t edge = PIXELS / 2 - half_width(y), d = edge - before;
+        before = edge;
+        for (int b = 0; b < 4; b++)
+            numbers[4 * y + b] = (uint8_t)((uint32_t)d >> (8 * b));
+    }
+    append(f, state, 4, 0, numbers, sizeof numbers);
+}
+
+static FILE *create(const char *folder, const char *name)
+{
+    char path[4096];
+    snprintf(path, sizeof path, "%s/%s", folder, name);
+    FILE *f = fopen(path, "wb");
+    if (f == NULL) {
+        perror(path);
+        exit(1);
+    }
+    return f;
+}
+
+static void finish(FILE *f)
+{
+    if (fclose(f) != 0) {
+        perror("make_samples");
+        exit(1);
+    }
+}
+
+static void make_sheet(const char *folder)
+{
+    FILE *f = create(folder, "morning.sheet");
+    struct tahliruz_sheet state = { 0, 0 };
+    uint8_t pixels[2 * PIXELS];
+    append(f, &state, 1, 0, plain, sizeof plain);
+    for (int y = 0; y < ROWS; y++) {
+        make_row(y, pixels);
+        append(f, &state, y == 40 ? 3 : 2, (uint16_t)y, pixels, sizeof pixels);
+    }
+    append_contour(f, &state);
+    finish(f);
+}
+
+/* A sheet of three rows whose last is cut off after its second word. */
+static void make_damaged(const char *folder)
+{
+    FILE *f = create(folder, "damaged.sheet");
+    struct tahliruz_sheet state = { 0, 0 };
+    uint8_t pixels[2 * PIXELS], record[32778];
+    append(f, &state, 1, 0, plain, sizeof plain);
+    for (int y = 0; y < 3; y++) {
+        make_row(100 + y, pixels);
+        if (y < 2) {
+            append(f, &state, 2, (uint16_t)y, pixels, sizeof pixels);
+            continue;
+        }
+        tahliruz_write_record(2, (uint16_t)y, pixels, sizeof pixels, plain, sizeof plain, state, record, sizeof record);
+        record[0] = 2 + 4 + 8;
+        record[1] = 0;
+        fwrite(record, 1, 4 + 2 + 4 + 8, f);
+    }
+    finish(f);
+}
+
+/* The memo's 32-entry table in this format's layout. */
+static void make_memo(const char *folder)
+{
+    static const char *const strings[35] = {
+        "01001000", "000111010000", "000111010001",
+        "00011101001", "1011010000", "000111011", "00011100", "10110101", "0100101", "000110", "101100",
+        "01000", "01110", "10111", "0010", "0101", "1000", "1010", "1101",
+        "1111", "1110", "1100", "1001", "0110", "0011", "0000", "01111",
+        "00010", "010011", "1011011", "0001111", "01001001", "101101001", "1011010001", "0001110101",
+    };
+    uint32_t words[38] = { 1234, 4093 - 16, 32 };
+    FILE *f = create(folder, "memo.table");
+    for (int i = 0; i < 35; i++) {
+        uint32_t bits = 0, n = (uint32_t)strlen(strings[i]);
+        for (uint32_t k = 0; k < n; k++)
+            bits |= (uint32_t)(strings[i][k] == '1') << k;
+        words[3 + i] = bits * 32 + n;
+    }
+    for (int i = 0; i < 38; i++)
+        for (int b = 0; b < 4; b++)
+            fputc((int)(words[i] >> (8 * b) & 255), f);
+    finish(f);
+}
+
+int main(int argc, char **argv)
+{
+    if (argc != 2) {
+        fprintf(stderr, "usage: make_samples FOLDER\n");
+        return 2;
+    }
+    tahliruz_plain_table(plain, sizeof plain);
+    FILE *f = create(argv[1], "plain.table");
+    fwrite(plain, 1, sizeof plain, f);
+    finish(f);
+    make_memo(argv[1]);
+    make_sheet(argv[1]);
+    make_damaged(argv[1]);
+    return 0;
+}

@@ -53,8 +53,8 @@ writing-none t ps m e q =
 module _ {t ps m o : List ℕ} {w : Writer} {p : Progress} {i : ℕ} (s : Writing t ps m o w p i) (room : 4 * wordsFor (length (rowBits t ps)) ≤ length m) where
   -- the next pixel
   module _ (h : i < length ps) {pixel : ℕ} (e : pixel ≡ getD ps i 0) {r : Encoded} (en : Encodes t p pixel r) where
-    pub writing-ready : Ready o w (r .field .len)
-    writing-ready =
+    pub writing-ready : {n : ℕ} → n ≤ r .field .len → Ready o w n
+    writing-ready few =
         record {
           good = s .good;
           most = omega (arith, en .bits .most);

@@ -47,7 +47,7 @@ put-requires c κs =
     let start = turn .before .before .before .before .before .before .before in
     let inside = inside-halves (start .args .pixels .now) (turn .loop-test .taken) in
     let ready = writing-ready (turn .before .loop .inv) (start .pre .1 .1 .1) inside (coded .before .pixel-at .ensures) (coded .encode .ensures) in
-    (ready, coded .encode .ensures .bits .above)
+    (ready (omega arith), search needs)
 
 add-i : tie.Need-add-i Inv-loop μ-loop
 add-i c =

@@ -1,4 +1,4 @@
--- The ways out of packing and of the room question, in document 01's order. Assumes nothing.
+-- Laws: the ways out of packing and of the room question, in document 01's order. Assumes nothing.
 use Prim.Native.Nat.{ℕ, zero, suc, _+_, _*_, _/_, _≤_, _<_}
 use native.Mathlib.Nat.{mul-le-mul-left}
 use native.Mathlib.Omega.{arith}
@@ -11,14 +11,14 @@ use borrow.Author.Tests.{lt-ltb, le-ltb}
 use Rattle.bitstream.specs.Bits.{wordsOf, halvesOf, wordsFor}
 use Rattle.answer.specs.declared.Answer.{Answer}
 use Rattle.answer.specs.Outcome.{Outcome, answerOf, outcome, _orElse_, unless, countUnless}
-use Rattle.code_table.specs.Check.Laws.{length-words}
 use Rattle.row_format.specs.Lists.{any}
 use Rattle.row_format.specs.Table.{tableNumber, maxItemBits}
 use Rattle.row_format.specs.Table.Laws.{Accepted, accepted, tableNumber-verdict, maxItemBits-most}
 use Rattle.row_format.specs.Row.{rowBits}
 use Rattle.row_format.specs.Calls.{checked, packNumber, packedRow, packed, room}
 use Rattle.row_format.specs.Theorems.Bounds.{length-rowBits}
-use Rattle.row_packer.specs.Pixels.{length-halves}
+use Rattle.code_table.specs.Check.Laws.{length-words}
+use Rattle.row_packer.specs.Pixels.{inside-halves, past-halves}
 use Rattle.row_packer.specs.Measure.{Took}
 use Rattle.row_packer.specs.Write.{rowWritten}
 
@@ -30,8 +30,8 @@ countUnless-number (suc e) c = refl
 countUnless-done : (e c : ℕ) → e ≡ 0 → countUnless e c .count ≡ c
 countUnless-done e c z = rw z
 
-module _ (tb : List ℕ) (a : Answer) (is : a ≡ checked tb) where
-  pub checked-number : a .number ≡ tableNumber tb
+module _ (tb : List ℕ) {a : Answer} (is : a ≡ checked tb) where
+  checked-number : a .number ≡ tableNumber tb
   unfolding checked
   checked-number = ap (λ (x : Answer). x .number) is ∙ countUnless-number (tableNumber tb) (maxItemBits (wordsOf tb))
 
@@ -42,12 +42,16 @@ module _ (tb : List ℕ) (a : Answer) (is : a ≡ checked tb) where
   unfolding checked
   checked-count e = ap (λ (x : Answer). x .count) is ∙ countUnless-done (tableNumber tb) (maxItemBits (wordsOf tb)) (checked-zero e)
 
-pub accepted-table : (tb : List ℕ) → tableNumber tb ≡ 0 → Accepted (wordsOf tb)
-accepted-table tb e = accepted (wordsOf tb) (tableNumber-verdict tb e)
+module _ (tb : List ℕ) (table : tableNumber tb ≡ 0) where
+  pub accepted-table : Accepted (wordsOf tb)
+  accepted-table = accepted (wordsOf tb) (tableNumber-verdict tb table)
 
--- an accepted table has its header
-pub header-words : (tb : List ℕ) → tableNumber tb ≡ 0 → 6 ≤ length tb / 4
-header-words tb e = omega (arith, accepted-table tb e .words, length-words tb)
+  pub header-words : 6 ≤ length tb / 4
+  header-words = omega (arith, accepted-table .words, length-words tb)
+
+  -- M is at most 27
+  times-most : (n : ℕ) → n ≤ 4096 → n * maxItemBits (wordsOf tb) ≤ 110592
+  times-most n h = omega (arith, mul-le-mul-left n (maxItemBits-most (wordsOf tb) accepted-table))
 
 -- ---- packing
 -- 1, 2, 3
@@ -55,67 +59,66 @@ refused-first : (e c d : ℕ) (m : List ℕ) (o : Outcome) → (e ≡ 0 → ⊥)
 refused-first zero c d m o n = absurd (n refl)
 refused-first (suc e) c d m o n = refl
 
-pub packed-table : (tb pb m : List ℕ) (a : Answer) → a ≡ checked tb → (a .number ≡ 0 → ⊥) → outcome a m ≡ packed tb pb m
+pub packed-table : (tb pb m : List ℕ) {a : Answer} → a ≡ checked tb → (a .number ≡ 0 → ⊥) → outcome a m ≡ packed tb pb m
 unfolding checked packed packNumber
-packed-table tb pb m a is n =
+packed-table tb pb m is n =
     ap (λ (x : Answer). outcome x m) is
-    ∙ refused-first (tableNumber tb) (maxItemBits (wordsOf tb)) _ m (packedRow (wordsOf tb) (halvesOf pb) m) (λ e. n (checked-number tb a is ∙ e))
+    ∙ refused-first (tableNumber tb) (maxItemBits (wordsOf tb)) _ m (packedRow (wordsOf tb) (halvesOf pb) m) (λ e. n (checked-number tb is ∙ e))
 
 module _ (tb pb m : List ℕ) (table : tableNumber tb ≡ 0) where
   -- 11
   pub packed-many : 4096 < length pb / 2 → outcome (answerOf 11 0) m ≡ packed tb pb m
   unfolding packed packNumber
-  packed-many h = rw (table, lt-ltb 4096 (length (halvesOf pb)) (omega (arith, length-halves pb)))
+  packed-many h = rw (table, lt-ltb 4096 (length (halvesOf pb)) (inside-halves pb h))
 
   module _ (few : length pb / 2 ≤ 4096) where
     few-pixels : ltb 4096 (length (halvesOf pb)) ≡ false
-    few-pixels = le-ltb 4096 (length (halvesOf pb)) (omega (arith, length-halves pb))
+    few-pixels = le-ltb 4096 (length (halvesOf pb)) (past-halves pb few)
 
     -- 4
     pub packed-above : any (ltb 4095) (halvesOf pb) ≡ true → outcome (answerOf 4 0) m ≡ packed tb pb m
     unfolding packed packNumber
     packed-above e = rw (table, few-pixels, e)
 
-    module _ (bits : ℕ) (took : Took (wordsOf tb) (halvesOf pb) bits) where
+    module _ {bits : ℕ} (took : Took (wordsOf tb) (halvesOf pb) bits) where
       pub bits-most : bits ≤ 110592
       bits-most =
           let n = length (halvesOf pb) in
-          let most : n * maxItemBits (wordsOf tb) ≤ n * 27 = mul-le-mul-left n (maxItemBits-most (wordsOf tb) (accepted-table tb table)) in
-          omega (arith, took .is, length-rowBits (wordsOf tb) (halvesOf pb), length-halves pb)
+          omega (arith, took .is, length-rowBits (wordsOf tb) (halvesOf pb), times-most tb table n (past-halves pb few))
 
       -- 5
       pub packed-full : length m / 4 < (bits + 31) / 32 → outcome (answerOf 5 0) m ≡ packed tb pb m
       unfolding packed packNumber
-      packed-full h =
-          rw (table, few-pixels, took .none-above, ← took .is, lt-ltb (length m / 4) (wordsFor bits) h)
+      packed-full h = rw (table, few-pixels, took .none-above, ← took .is, lt-ltb (length m / 4) (wordsFor bits) h)
 
-      -- done
-      pub packed-all : (bits + 31) / 32 ≤ length m / 4 → (o : List ℕ) → o ≡ rowWritten (wordsOf tb) (halvesOf pb) m → outcome (answerOf 0 bits) o ≡ packed tb pb m
+      -- done: there is room, and the row is written
+      pub room-enough : (bits + 31) / 32 ≤ length m / 4 → 4 * wordsFor (length (rowBits (wordsOf tb) (halvesOf pb))) ≤ length m
+      room-enough h = rw (← took .is) (omega arith)
+
+      pub packed-all : (bits + 31) / 32 ≤ length m / 4 → {o : List ℕ} → o ≡ rowWritten (wordsOf tb) (halvesOf pb) m → outcome (answerOf 0 bits) o ≡ packed tb pb m
       unfolding packed packNumber packedRow
-      packed-all h o e =
-          let room : ltb (length m / 4) (wordsFor (length (rowBits (wordsOf tb) (halvesOf pb)))) ≡ false =
+      packed-all h e =
+          let enough : ltb (length m / 4) (wordsFor (length (rowBits (wordsOf tb) (halvesOf pb)))) ≡ false =
           rw (← took .is) (le-ltb (length m / 4) (wordsFor bits) h) in
-          rw (table, few-pixels, took .none-above, room, e, took .is)
+          rw (table, few-pixels, took .none-above, enough, e, took .is)
 
 -- ---- the room question
 refused-count : (e c d k : ℕ) → (e ≡ 0 → ⊥) → countUnless e c ≡ countUnless (e orElse d) k
 refused-count zero c d k n = absurd (n refl)
 refused-count (suc e) c d k n = refl
 
-pub room-table : (tb : List ℕ) (n : ℕ) (a : Answer) → a ≡ checked tb → (a .number ≡ 0 → ⊥) → a ≡ room tb n
+pub room-table : (tb : List ℕ) (n : ℕ) {a : Answer} → a ≡ checked tb → (a .number ≡ 0 → ⊥) → a ≡ room tb n
 unfolding checked room
-room-table tb n a is h = is ∙ refused-count (tableNumber tb) (maxItemBits (wordsOf tb)) _ _ (λ e. h (checked-number tb a is ∙ e))
+room-table tb n is h = is ∙ refused-count (tableNumber tb) (maxItemBits (wordsOf tb)) _ _ (λ e. h (checked-number tb is ∙ e))
 
 module _ (tb : List ℕ) (n : ℕ) (table : tableNumber tb ≡ 0) where
   pub room-many : 4096 < n → answerOf 11 0 ≡ room tb n
   unfolding room
   room-many h = rw (table, lt-ltb 4096 n h)
 
-  module _ (few : n ≤ 4096) (most : ℕ) (is : most ≡ maxItemBits (wordsOf tb)) where
+  module _ (few : n ≤ 4096) {most : ℕ} (is : most ≡ maxItemBits (wordsOf tb)) where
     pub room-most : n * most ≤ 110592
-    room-most =
-        let h : n * most ≤ n * 27 = mul-le-mul-left n (rw is (maxItemBits-most (wordsOf tb) (accepted-table tb table))) in
-        omega arith
+    room-most = rw is (times-most tb table n few)
 
     pub room-done : answerOf 0 ((n * most + 31) / 32) ≡ room tb n
     unfolding room

@@ -14,6 +14,7 @@ use Rattle.row_packer.specs.declared.measure.RowBits.{RowBits}
 use Rattle.row_packer.specs.declared.measure.RowBits.the-variants.{Taken, PixelAbove}
 pub mod Laws
 
+-- what the measuring pass answers
 unfoldable pub measured : List ℕ → List ℕ → RowBits
 measured t ps = cond (any (ltb 4095) ps) PixelAbove (Taken (length (rowBits t ps)))
 

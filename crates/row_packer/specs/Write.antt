@@ -3,7 +3,6 @@ use Prim.Native.Nat.{ℕ, _+_, _*_, _≤_}
 use mathlib.Core.Path.{_≡_}
 use mathlib.Core.List.{List, _++_}
 use lib.ListN.{length, drop}
-use Rattle.bitstream.specs.Bits.{wordsFor}
 use Rattle.bitstream.specs.Writer.{held, Good}
 use Rattle.bitstream.specs.declared.writer.Writer.{Writer}
 use Rattle.row_format.specs.Row.{rowBits}

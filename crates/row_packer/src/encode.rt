@@ -1,4 +1,4 @@
-// One pixel: its field, and what the row has come to after it.
+// One pixel of a row: both passes, the one that measures and the one that writes, take it from here.
 use crate::field::Field;
 use crate::field::field_of;
 use crate::header::Header;
@@ -11,6 +11,8 @@ ghost use Rattle.row_format.specs.Table.Laws.{Accepted};
 ghost use Rattle.row_packer.specs.Header.{HeaderOf};
 ghost use Rattle.row_packer.specs.Encode.{Sound, Encodes};
 
+// field  the bits of the pixel's item
+// next   what the row has come to after it
 pub struct Encoded {
     pub field: Field,
     pub next: Progress,

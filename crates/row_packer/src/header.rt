@@ -6,6 +6,8 @@ ghost use lib.ListN.{length};
 ghost use Rattle.bitstream.specs.Bits.{wordsOf};
 ghost use Rattle.row_packer.specs.Header.{HeaderOf};
 
+// low    lowLimit
+// size   tableSize
 pub struct Header {
     pub low: u32,
     pub size: u32,

@@ -1,4 +1,5 @@
-// Which item a pixel gets: the one place where document 01's rule is applied.
+// Which item a pixel gets: the one place where document 01's rule is applied. A difference is the document's step, an escape
+// its raw item.
 use crate::header::Header;
 use code_table::entry::signed_of;
 use row_item::Item;
@@ -17,8 +18,9 @@ pub fn item_for(header: Header, p: Progress, pixel: u32) -> Item
     if pixel == 4094 {
         return Item::BadBias;
     }
-    // the difference (document 01: step), counted from -4093
+    // the difference, counted from -4093
     let k = pixel + 4093 - p.previous;
+    // "If not": the height itself, never the nearest difference that the table has
     if k < header.low {
         return Item::Escape(pixel);
     }

@@ -10,6 +10,7 @@ ghost use Rattle.row_format.specs.Table.Laws.{Accepted};
 ghost use Rattle.row_packer.specs.Header.{HeaderOf};
 ghost use Rattle.row_packer.specs.Measure.{measured};
 
+// The bits that a row takes, or that a pixel of it is above 4095.
 pub enum RowBits {
     Taken(u32),
     PixelAbove,
@@ -22,6 +23,8 @@ pub fn measure(table: &[u8], header: Header, pixels: &[u8]) -> RowBits
     ensures { λ r. ⌜ r ≡ measured (wordsOf (now (table .entry))) (halvesOf (now (pixels .entry))) ⌝ }
 {
     let n = pixels.len() / 2;
+    // p      what the row has come to after i pixels
+    // bits   the bits of their items
     let mut p = row_item::start();
     let mut bits: u32 = 0;
     let mut i = 0;

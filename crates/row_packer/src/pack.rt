@@ -1,10 +1,10 @@
 // Packing a row. Document 01's order of refusals: 1, 2, 3, 11, 4, 5.
-use answer::Answer;
-use code_table::check::check;
 use crate::header::header_of;
 use crate::measure::RowBits;
 use crate::measure::measure;
 use crate::write::write;
+use answer::Answer;
+use code_table::check::check;
 ghost use mathlib.Core.Path.{_≡_};
 ghost use Prim.Native.Nat.{_/_, _≤_};
 ghost use lib.ListN.{length};
@@ -21,7 +21,10 @@ pub fn pack(table: &[u8], pixels: &[u8], words: &mut [u8]) -> Answer
         return checked;
     }
     if 4096 < pixels.len() / 2 {
-        return Answer { number: 11, count: 0 };
+        return Answer {
+            number: 11,
+            count: 0,
+        };
     }
     pack_row(table, pixels, words)
 }
@@ -34,11 +37,20 @@ fn pack_row(table: &[u8], pixels: &[u8], words: &mut [u8]) -> Answer
 {
     let header = header_of(table);
     let RowBits::Taken(bits) = measure(table, header, pixels) else {
-        return Answer { number: 4, count: 0 };
+        return Answer {
+            number: 4,
+            count: 0,
+        };
     };
     if words.len() / 4 < ((bits + 31) / 32) as usize {
-        return Answer { number: 5, count: 0 };
+        return Answer {
+            number: 5,
+            count: 0,
+        };
     }
     write(table, header, pixels, words);
-    Answer { number: 0, count: bits }
+    Answer {
+        number: 0,
+        count: bits,
+    }
 }

@@ -12,9 +12,12 @@ pub fn room(table: &[u8], n: u64) -> Answer
         return checked;
     }
     if 4096 < n {
-        return Answer { number: 11, count: 0 };
+        return Answer {
+            number: 11,
+            count: 0,
+        };
     }
-    // M, the longest an item can be
+    // document 01's M, the most bits that an item takes
     let most = checked.count;
     Answer {
         number: 0,

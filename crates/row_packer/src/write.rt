@@ -1,9 +1,9 @@
 // The words of a row that fits the memory lent.
-use bitstream::writer::finish;
-use bitstream::writer::put;
 use crate::encode::encode;
 use crate::header::Header;
 use crate::pixel::pixel_at;
+use bitstream::writer::finish;
+use bitstream::writer::put;
 ghost use mathlib.Core.Path.{_≡_};
 ghost use mathlib.Core.Bool.{false};
 ghost use Prim.Native.Nat.{_*_, _≤_};
@@ -24,6 +24,8 @@ pub fn write(table: &[u8], header: Header, pixels: &[u8], words: &mut [u8])
     ensures { λ _. ⌜ now (words .exit) ≡ rowWritten (wordsOf (now (table .entry))) (halvesOf (now (pixels .entry))) (now (words .entry)) ⌝ }
 {
     let n = pixels.len() / 2;
+    // w      holds the bits of the first i pixels
+    // p      what the row has come to after them
     let mut w = bitstream::writer::start();
     let mut p = row_item::start();
     let mut i = 0;

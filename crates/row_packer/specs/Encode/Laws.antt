@@ -3,7 +3,8 @@ use Prim.Native.Nat.{ℕ, _≤_}
 use native.Mathlib.Omega.{arith}
 use mathlib.Core.Path.{_≡_, refl, sym, ap, _∙_, subst}
 use mathlib.Core.List.{List}
-use Rattle.row_format.specs.Row.{Item as PlainItem, State, fresh, past, previous, itemFor, itemBits, pixelOf, after}
+use Rattle.row_format.specs.Row as row
+use Rattle.row_format.specs.Row.{State, fresh, past, previous, itemFor, itemBits, after}
 use Rattle.row_format.specs.Theorems.Items.{Right, itemFor-right, after-height}
 use Rattle.row_item.specs.declared.Item.{Item}
 use Rattle.row_item.specs.declared.Progress.{Progress}
@@ -12,7 +13,7 @@ use Rattle.row_packer.specs.Header.{HeaderOf}
 use Rattle.row_packer.specs.Item.{Chosen}
 use Rattle.row_packer.specs.Item.Laws.{previous-progress}
 use Rattle.row_packer.specs.Field.{Holds, plain, Codable}
-use Rattle.row_packer.specs.Field.Laws.{plain-coded, codable-coded, writable}
+use Rattle.row_packer.specs.Field.Laws.{plain-coded, codable}
 use Rattle.row_packer.specs.Encode.{stateOf, Sound, Encodes}
 use Rattle.row_packer.specs.declared.header.Header.{Header}
 use Rattle.row_packer.specs.declared.field.Field.{Field}
@@ -22,30 +23,31 @@ stateOf-progress : (s : State) → stateOf (progress s) ≡ s
 stateOf-progress fresh = refl
 stateOf-progress (past h) = refl
 
-pub sound-progress : (p : Progress) (s : State) → p ≡ progress s → previous s ≤ 4093 → Sound p
-sound-progress p s e h =
-    rw e (record { is = ap progress (sym (stateOf-progress s)); height = rw (previous-progress s) h })
+pub sound-progress : {p : Progress} (s : State) → p ≡ progress s → previous s ≤ 4093 → Sound p
+sound-progress s e h = rw e (record { is = ap progress (sym (stateOf-progress s)); height = rw (previous-progress s) h })
 
-pub sound-height : (p : Progress) → Sound p → previous (stateOf p) ≤ 4093
-sound-height p h = omega (arith, h .height, ap (λ (x : Progress). x .previous) (h .is), previous-progress (stateOf p))
+sound-height : {p : Progress} → Sound p → previous (stateOf p) ≤ 4093
+sound-height {p} h = omega (arith, h .height, ap (λ (x : Progress). x .previous) (h .is), previous-progress (stateOf p))
 
 -- ---- one pixel
-module _ (t : List ℕ) (h : Header) (hd : HeaderOf t h) (p : Progress) (sound : Sound p) (pixel : ℕ) (most : pixel ≤ 4095) (i : Item) (chosen : Chosen h p pixel i) where
-  item-is : i ≡ coded (itemFor t (stateOf p) pixel)
+module _ {t : List ℕ} {h : Header} {p : Progress} {pixel : ℕ} {i : Item} (hd : HeaderOf t h) (sound : Sound p) (most : pixel ≤ 4095) (chosen : Chosen h p pixel i) where
+  abbrev item : row.Item
+  item = itemFor t (stateOf p) pixel
+
+  item-is : i ≡ coded item
   item-is = chosen .item t (stateOf p) hd (sound .is)
 
-  right : Right t (stateOf p) pixel (itemFor t (stateOf p) pixel)
-  right = itemFor-right t (stateOf p) pixel (sound-height p sound) most
+  right : Right t (stateOf p) pixel item
+  right = itemFor-right t (stateOf p) pixel (sound-height sound) most
 
   pub chosen-codable : Codable t i
-  chosen-codable = codable-coded t (itemFor t (stateOf p) pixel) i item-is (writable t (stateOf p) (itemFor t (stateOf p) pixel) (right .fits))
+  chosen-codable = codable t (stateOf p) item item-is (right .fits)
 
-  pub encodes : (f : Field) (r : Progress) → Holds (itemBits t (plain i)) f → Followed p i pixel r → Encodes t p pixel (record { field = f; next = r })
-  encodes f r holds followed =
-      let j = itemFor t (stateOf p) pixel in
-      let next = followed .next (stateOf p) j (sound .is) item-is (sym (right .pixel)) in
+  pub encodes : {f : Field} {r : Progress} → Holds (itemBits t (plain i)) f → Followed p i pixel r → Encodes t p pixel (record { field = f; next = r })
+  encodes {f} holds followed =
+      let next = followed .next (stateOf p) item (sound .is) item-is (sym (right .pixel)) in
       record {
-        bits = subst (λ (x : PlainItem). Holds (itemBits t x) f) (ap plain item-is ∙ plain-coded j) holds;
-        next = ap stateOf next ∙ stateOf-progress (after (stateOf p) j);
-        sound = sound-progress r (after (stateOf p) j) next (after-height t (stateOf p) j (sound-height p sound) (right .fits))
+        bits = subst (λ (j : row.Item). Holds (itemBits t j) f) (ap plain item-is ∙ plain-coded item) holds;
+        next = ap stateOf next ∙ stateOf-progress (after (stateOf p) item);
+        sound = sound-progress (after (stateOf p) item) next (after-height t (stateOf p) item (sound-height sound) (right .fits));
       }

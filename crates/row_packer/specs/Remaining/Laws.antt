@@ -1,8 +1,8 @@
 -- The laws of what is left of a row. Assumes nothing.
-use Prim.Native.Nat.{ℕ, suc, _+_, _≤_, _<_}
+use Prim.Native.Nat.{ℕ, _+_, _≤_, _<_}
 use native.Mathlib.Numerals.{add-one}
 use native.Mathlib.Omega.{arith}
-use mathlib.Core.Path.{_≡_, refl, sym, ap, _∙_}
+use mathlib.Core.Path.{_≡_, ap, _∙_}
 use mathlib.Core.List.{List, [], _∷_, _++_}
 use lib.ListN.{length, drop, getD, length-append}
 use lib.Seq.{drop-cons, drop-length}
@@ -11,35 +11,36 @@ use Rattle.bitstream.specs.Bits.Laws.{length-digits}
 use Rattle.row_format.specs.Row.{fresh, itemsFor, bits, rowBits}
 use Rattle.row_item.specs.declared.Progress.{Progress}
 use Rattle.row_item.specs.Coded.{progress}
-use Rattle.row_packer.specs.Encode.{stateOf, Encodes}
+use Rattle.row_packer.specs.Encode.{Encodes}
 use Rattle.row_packer.specs.Remaining.{remaining}
 use Rattle.row_packer.specs.declared.encode.Encoded.{Encoded}
 
-pub drop-more : (ps : List ℕ) (i pixel : ℕ) → i < length ps → pixel ≡ getD ps i 0 → drop i ps ≡ pixel ∷ drop (i + 1) ps
-drop-more ps i pixel h e = drop-cons ps i 0 h ∙ rw (e, add-one i)
+pub drop-more : (ps : List ℕ) (i : ℕ) {pixel : ℕ} → i < length ps → pixel ≡ getD ps i 0 → drop i ps ≡ pixel ∷ drop (i + 1) ps
+drop-more ps i h e = drop-cons ps i 0 h ∙ rw (e, add-one i)
 
 pub drop-end : (ps : List ℕ) (i : ℕ) → i ≤ length ps → length ps ≤ i → drop i ps ≡ []
 drop-end ps i h g = let e : i ≡ length ps = omega arith in rw e (drop-length ps)
 
 module _ (t ps : List ℕ) where
   -- at the start all is left
-  pub remaining-none : (p : Progress) → p ≡ progress fresh → remaining t ps p 0 ≡ rowBits t ps
+  pub remaining-none : {p : Progress} → p ≡ progress fresh → remaining t ps p 0 ≡ rowBits t ps
   unfolding remaining rowBits
-  remaining-none p e = rw e
+  remaining-none e = rw e
 
   -- the next pixel's bits, and what is left after it
-  pub remaining-more : (p : Progress) (i pixel : ℕ) (r : Encoded) → i < length ps → pixel ≡ getD ps i 0 → Encodes t p pixel r
-      → remaining t ps p i ≡ digits (r .field .len) (r .field .bits) ++ remaining t ps (r .next) (i + 1)
-  unfolding remaining itemsFor bits
-  remaining-more p i pixel r h e en = rw (drop-more ps i pixel h e, en .bits .bits, en .next)
+  module _ {p : Progress} (i : ℕ) {pixel : ℕ} {r : Encoded} (h : i < length ps) (e : pixel ≡ getD ps i 0) (en : Encodes t p pixel r) where
+    pub remaining-more : remaining t ps p i ≡ digits (r .field .len) (r .field .bits) ++ remaining t ps (r .next) (i + 1)
+    unfolding remaining itemsFor bits
+    remaining-more = rw (drop-more ps i h e, en .bits .bits, en .next)
 
-  pub length-remaining-more : (p : Progress) (i pixel : ℕ) (r : Encoded) → i < length ps → pixel ≡ getD ps i 0 → Encodes t p pixel r
-      → length (remaining t ps p i) ≡ r .field .len + length (remaining t ps (r .next) (i + 1))
-  length-remaining-more p i pixel r h e en =
-      ap length (remaining-more p i pixel r h e en)
-      ∙ length-append (digits (r .field .len) (r .field .bits)) (remaining t ps (r .next) (i + 1))
-      ∙ ap (_+ length (remaining t ps (r .next) (i + 1))) (length-digits (r .field .len) (r .field .bits))
+    pub length-remaining-more : length (remaining t ps p i) ≡ r .field .len + length (remaining t ps (r .next) (i + 1))
+    length-remaining-more =
+        let left = remaining t ps (r .next) (i + 1) in
+        ap length remaining-more
+        ∙ length-append (digits (r .field .len) (r .field .bits)) left
+        ∙ ap (_+ length left) (length-digits (r .field .len) (r .field .bits))
 
+  -- at the end nothing is left
   pub remaining-all : (p : Progress) (i : ℕ) → i ≤ length ps → length ps ≤ i → remaining t ps p i ≡ []
   unfolding remaining itemsFor bits
   remaining-all p i h g = rw (drop-end ps i h g)

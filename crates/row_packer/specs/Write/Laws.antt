@@ -1,22 +1,21 @@
 -- The laws of the pass that writes a row: its turns and its way out. Assumes nothing.
-use Prim.Native.Nat.{ℕ, _+_, _-_, _*_, _/_, _≤_, _<_}
+use Prim.Native.Nat.{ℕ, _+_, _-_, _*_, _≤_, _<_}
 use native.Mathlib.Omega.{arith}
 use mathlib.Core.Path.{_≡_, refl, sym, ap, _∙_}
 use mathlib.Core.Bool.{false}
 use mathlib.Core.List.{List, [], _++_, append-assoc, append-nil}
-use lib.ListN.{length, take, drop, getD, length-append, take-append-drop}
+use lib.ListN.{length, take, drop, getD, take-append-drop}
 use lib.Seq.{drop-drop, length-take-le}
 use lib.Dec.{ltb}
 use borrow.Author.Tests.{ltb-false}
-use Rattle.bitstream.specs.Bits.{digits, flat, bitsOf, bytesOf, wordsFor}
-use Rattle.bitstream.specs.Bits.Laws.{Below, below-cut, below-take, length-digits, length-cut, flat-cut, pad}
-use Rattle.bitstream.specs.Writer.{held, Good, Ready, Closable, Put, Finished}
+use Rattle.bitstream.specs.Bits.{digits, flat, bytesOf, wordsFor}
+use Rattle.bitstream.specs.Bits.Laws.{Below, below-cut, below-take, length-cut, flat-cut, pad}
+use Rattle.bitstream.specs.Writer.{held, Ready, Closable, Put, Finished}
 use Rattle.bitstream.specs.declared.writer.Writer.{Writer}
 use Rattle.row_format.specs.Lists.{any}
 use Rattle.row_format.specs.Lists.Laws.{any-false-at}
 use Rattle.row_format.specs.BitLaws.{bitsOf-inj}
 use Rattle.row_format.specs.Row.{fresh, rowBits}
-use Rattle.row_format.specs.Calls.Laws.{rowBytes}
 use Rattle.row_format.specs.Theorems.Words.{below-rowBits}
 use Rattle.row_item.specs.declared.Progress.{Progress}
 use Rattle.row_item.specs.Coded.{progress}
@@ -33,77 +32,85 @@ drop-later a b o m h e =
     let place : a + (b - a) ≡ b = omega arith in
     ap (λ (k : ℕ). drop k o) (sym place) ∙ sym (drop-drop (b - a) a o) ∙ ap (drop (b - a)) e ∙ drop-drop (b - a) a m ∙ ap (λ (k : ℕ). drop k m) place
 
--- no pixel is above 4095
-pub within-row : (ps : List ℕ) (i : ℕ) → any (ltb 4095) ps ≡ false → i < length ps → getD ps i 0 ≤ 4095
-within-row ps i e h = ltb-false 4095 (getD ps i 0) (any-false-at (ltb 4095) ps i 0 e h)
+-- a pixel of a row that has none above 4095
+pub pixel-most : (ps : List ℕ) (i : ℕ) {pixel : ℕ} → any (ltb 4095) ps ≡ false → i < length ps → pixel ≡ getD ps i 0 → pixel ≤ 4095
+pixel-most ps i none-above h e = rw e (ltb-false 4095 (getD ps i 0) (any-false-at (ltb 4095) ps i 0 none-above h))
 
-module _ (t ps m : List ℕ) where
-  pub writing-none : (w : Writer) (p : Progress) → w ≡ record { words = 0; count = 0; acc = 0 } → p ≡ progress fresh → Writing t ps m m w p 0
-  unfolding flat digits
-  writing-none w p e q =
-      rw e
-      (record {
-        within = omega arith;
-        sound = sound-progress p fresh q (omega arith);
-        whole = remaining-none t ps p q;
-        good = record { few = omega arith; low = omega arith };
-        sum = omega (arith, ap length (remaining-none t ps p q));
-        size = refl;
-        rest = refl
-      })
+pub writing-none : (t ps m : List ℕ) {w : Writer} {p : Progress} → w ≡ record { words = 0; count = 0; acc = 0 } → p ≡ progress fresh → Writing t ps m m w p 0
+unfolding flat digits
+writing-none t ps m e q =
+    rw e
+    (record {
+      within = omega arith;
+      sound = sound-progress fresh q (omega arith);
+      whole = remaining-none t ps q;
+      good = record { few = omega arith; low = omega arith };
+      sum = omega (arith, ap length (remaining-none t ps q));
+      size = refl;
+      rest = refl;
+    })
 
-  module _ (room : 4 * wordsFor (length (rowBits t ps)) ≤ length m) (o : List ℕ) (w : Writer) (p : Progress) (i : ℕ) (s : Writing t ps m o w p i) where
-    -- the next pixel
-    module _ (h : i < length ps) (pixel : ℕ) (e : pixel ≡ getD ps i 0) (r : Encoded) (en : Encodes t p pixel r) where
-      pub writing-ready : Ready o w (r .field .len)
-      writing-ready =
-          record {
-            good = s .good;
-            most = omega (arith, en .bits .most);
-            fits = omega (arith, s .sum, s .size, length-remaining-more t ps p i pixel r h e en)
-          }
+module _ {t ps m o : List ℕ} {w : Writer} {p : Progress} {i : ℕ} (s : Writing t ps m o w p i) (room : 4 * wordsFor (length (rowBits t ps)) ≤ length m) where
+  -- the next pixel
+  module _ (h : i < length ps) {pixel : ℕ} (e : pixel ≡ getD ps i 0) {r : Encoded} (en : Encodes t p pixel r) where
+    pub writing-ready : {n : ℕ} → n ≤ r .field .len → Ready o w n
+    writing-ready few =
+        record {
+          good = s .good;
+          most = omega (arith, en .bits .most);
+          fits = omega (arith, s .sum, s .size, length-remaining-more t ps i h e en);
+        }
 
-      pub writing-more : (o′ : List ℕ) (w′ : Writer) → Put o w (r .field .bits) (r .field .len) o′ w′ → length o′ ≡ length o → Writing t ps m o′ w′ (r .next) (i + 1)
-      writing-more o′ w′ put same =
-          let bits = digits (r .field .len) (r .field .bits) in
-          let left = remaining t ps (r .next) (i + 1) in
-          let later : 4 * (w .words) ≤ 4 * (w′ .words) = omega (arith, put .size, put .good .few) in
-          record {
-            within = omega arith;
-            sound = en .sound;
-            whole = ap (_++ left) (put .bits) ∙ append-assoc (held o w) bits left ∙ ap (held o w ++_) (sym (remaining-more t ps p i pixel r h e en)) ∙ s .whole;
-            good = put .good;
-            sum = omega (arith, put .size, s .sum, length-remaining-more t ps p i pixel r h e en);
-            size = same ∙ s .size;
-            rest = put .rest ∙ drop-later (4 * (w .words)) (4 * (w′ .words)) o m later (s .rest)
-          }
+    pub writing-more : {o′ : List ℕ} {w′ : Writer} → Put o w (r .field .bits) (r .field .len) o′ w′ → length o′ ≡ length o → Writing t ps m o′ w′ (r .next) (i + 1)
+    writing-more {o′} {w′} put same =
+        let bits = digits (r .field .len) (r .field .bits) in
+        let left = remaining t ps (r .next) (i + 1) in
+        let later : 4 * (w .words) ≤ 4 * (w′ .words) = omega (arith, put .size, put .good .few) in
+        record {
+          within = omega arith;
+          sound = en .sound;
+          whole =
+              ap (_++ left) (put .bits)
+              ∙ append-assoc (held o w) bits left
+              ∙ ap (held o w ++_) (sym (remaining-more t ps i h e en))
+              ∙ s .whole;
+          good = put .good;
+          sum = omega (arith, put .size, s .sum, length-remaining-more t ps i h e en);
+          size = same ∙ s .size;
+          rest = put .rest ∙ drop-later (4 * (w .words)) (4 * (w′ .words)) o m later (s .rest);
+        }
 
-    -- all pixels are done
-    module _ (g : length ps ≤ i) where
-      end : remaining t ps p i ≡ []
-      end = remaining-all t ps p i (s .within) g
+  -- every pixel is put
+  module _ (g : length ps ≤ i) where
+    end : remaining t ps p i ≡ []
+    end = remaining-all t ps p i (s .within) g
 
-      count : 32 * (w .words) + w .count ≡ length (rowBits t ps)
-      count = omega (arith, s .sum, ap length end)
+    count : 32 * (w .words) + w .count ≡ length (rowBits t ps)
+    count = omega (arith, s .sum, ap length end)
 
-      held-all : held o w ≡ rowBits t ps
-      held-all = sym (append-nil (held o w)) ∙ ap (held o w ++_) (sym end) ∙ s .whole
+    held-all : held o w ≡ rowBits t ps
+    held-all = sym (append-nil (held o w)) ∙ ap (held o w ++_) (sym end) ∙ s .whole
 
-      pub written-closable : Closable o w
-      written-closable = record { good = s .good; fits = rw count (omega (arith, s .size)) }
+    pub written-closable : Closable o w
+    written-closable = record { good = s .good; fits = rw count (omega (arith, s .size)) }
 
-      pub written-all : (o′ : List ℕ) (n : ℕ) → Finished o w o′ n → length o′ ≡ length o → Below 256 o′ → o′ ≡ rowWritten t ps m
-      written-all o′ n f same bytes =
-          let b = rowBits t ps in
-          let whole : n ≡ wordsFor (length b) = f .count ∙ ap wordsFor count in
-          let enough : 4 * n ≤ length o′ = omega (arith, s .size) in
-          let place : 8 * (4 * n) ≡ 32 * n = omega arith in
-          let later : 4 * (w .words) ≤ 4 * n = omega (arith, count) in
-          let front : take (4 * n) o′ ≡ bytesOf (4 * n) b =
-          bitsOf-inj (4 * n) (take (4 * n) o′) (bytesOf (4 * n) b)
-          (below-take (4 * n) o′ bytes) (below-cut 8 (4 * n) b (below-rowBits t ps))
-          (length-take-le (4 * n) o′ enough) (length-cut 8 (4 * n) b)
-          (f .front ∙ ap (pad (32 * n)) held-all ∙ ap (λ (k : ℕ). pad k b) (sym place) ∙ sym (flat-cut 8 (4 * n) b (below-rowBits t ps))) in
-          let back : drop (4 * n) o′ ≡ drop (4 * n) m = f .rest ∙ drop-later (4 * (w .words)) (4 * n) o m later (s .rest) in
-          sym (take-append-drop (4 * n) o′)
-          ∙ rw (front, back) (rw (whole, length-cut 8 (4 * wordsFor (length b)) b))
+    -- the words hold the row's bits and zeros, and what follows them is as it was
+    pub written-all : {o′ : List ℕ} {n : ℕ} → Finished o w o′ n → length o′ ≡ length o → Below 256 o′ → o′ ≡ rowWritten t ps m
+    written-all {o′} {n} f same bytes =
+        let b = rowBits t ps in
+        let whole : n ≡ wordsFor (length b) = f .count ∙ ap wordsFor count in
+        let place : 8 * (4 * n) ≡ 32 * n = omega arith in
+        let enough : 4 * n ≤ length o′ = omega (arith, s .size) in
+        let later : 4 * (w .words) ≤ 4 * n = omega (arith, count) in
+        let front : take (4 * n) o′ ≡ bytesOf (4 * n) b =
+        bitsOf-inj (4 * n) (take (4 * n) o′) (bytesOf (4 * n) b)
+        (below-take (4 * n) o′ bytes)
+        (below-cut 8 (4 * n) b (below-rowBits t ps))
+        (length-take-le (4 * n) o′ enough)
+        (length-cut 8 (4 * n) b)
+        (f .front
+        ∙ ap (pad (32 * n)) held-all
+        ∙ ap (λ (k : ℕ). pad k b) (sym place)
+        ∙ sym (flat-cut 8 (4 * n) b (below-rowBits t ps))) in
+        let back : drop (4 * n) o′ ≡ drop (4 * n) m = f .rest ∙ drop-later (4 * (w .words)) (4 * n) o m later (s .rest) in
+        sym (take-append-drop (4 * n) o′) ∙ rw (front, back, whole, length-cut 8 (4 * wordsFor (length b)) b)

@@ -1,6 +1,9 @@
 /*
  * Tahliruz: rows of heights packed by the truncated Huffman first-difference
- * code of MIT memo 36-56102.
+ * code of MIT memo 36-56102, adaptive-precision numbers, and sheets of both.
+ * docs/FORMAT.md describes the formats byte by byte. Names here keep document
+ * 01's words where a comment has the usual ones: a string is a codeword, a step
+ * a difference, a raw height a height written in 12 bits after the escape.
  *
  * Every call answers for every input. It ends, uses no heap and no static
  * memory, keeps nothing between calls, and may be made from several threads at
@@ -14,7 +17,15 @@
  *  - 64 KiB of stack are free at the call.
  *
  * Tables, words and pixels are little-endian bytes: a table or packed row is
- * made of 4-byte words, a pixel has 2 bytes. All lengths are in bytes.
+ * made of 4-byte words, a pixel has 2 bytes. All lengths are in bytes. An
+ * incomplete word, pixel or number at the end counts for nothing, in what is
+ * read and in what is lent; in a table it is refused 1.
+ *
+ * Number 0 is done: the call has written the bytes that its comment names, and
+ * the rest of the lent memory is as it was. Any other number is a refusal:
+ * every count and value in the answer is 0, and all lent memory is as it was.
+ * Where several numbers apply, the first in the order of the call's comment is
+ * answered.
  */
 #ifndef TAHLIRUZ_H
 #define TAHLIRUZ_H
@@ -31,15 +42,20 @@ enum tahliruz_number {
     TAHLIRUZ_DONE = 0,
     TAHLIRUZ_TABLE_SIZE = 1,    /* the table's word count, tableSize or lowLimit is wrong */
     TAHLIRUZ_TABLE_STRING = 2,  /* a string word of the table is wrong */
-    TAHLIRUZ_TABLE_PREFIX = 3,  /* a string of the table equals or begins another */
+    TAHLIRUZ_TABLE_PREFIX = 3,  /* a codeword of the table equals or begins another */
     TAHLIRUZ_PIXEL = 4,         /* a pixel is above 4095 */
     TAHLIRUZ_ROOM = 5,          /* the lent room is smaller than this call's output */
     TAHLIRUZ_WORDS_END = 6,     /* the words end within an item */
-    TAHLIRUZ_NO_STRING = 7,     /* no string stands at an item's place */
-    TAHLIRUZ_STEP_OUTSIDE = 8,  /* a step leads outside 0 to 4093 */
-    TAHLIRUZ_RAW_HEIGHT = 9,    /* a raw height is 4094 or 4095 */
+    TAHLIRUZ_NO_STRING = 7,     /* no codeword stands at an item's place */
+    TAHLIRUZ_STEP_OUTSIDE = 8,  /* a difference leads outside 0 to 4093 */
+    TAHLIRUZ_RAW_HEIGHT = 9,    /* an escaped height is 4094 or 4095 */
     TAHLIRUZ_UNUSED_BIT = 10,   /* an unused bit of the last used word is set */
-    TAHLIRUZ_TOO_MANY = 11      /* more than 4096 pixels or numbers */
+    TAHLIRUZ_TOO_MANY = 11,     /* more than 4096 pixels or numbers */
+    TAHLIRUZ_BYTES_END = 12,    /* the bytes end before an adaptive number does */
+    TAHLIRUZ_NUMBER_RANGE = 13, /* a fifth byte asks for a sixth, or the value is outside its range */
+    TAHLIRUZ_RECORD = 14,       /* a record's length, fixed fields, word alignment or leftover is wrong */
+    TAHLIRUZ_KIND = 15,         /* the record's kind is unknown */
+    TAHLIRUZ_PLACE = 16         /* no table first, a second table, or a row number not risen */
 };
 
 /* A number of the list above and a count. A refusal, any number but 0, has the count 0. */
@@ -47,6 +63,8 @@ struct tahliruz_answer {
     uint32_t number;
     uint32_t count;
 };
+
+/* ---- Tables ---- */
 
 /*
  * Checks a table. Numbers: 0, 1, 2, 3, the first that applies in this order.
@@ -62,9 +80,275 @@ struct tahliruz_answer tahliruz_check(const uint8_t *table, size_t table_len);
  */
 struct tahliruz_answer tahliruz_plain_table(uint8_t *out, size_t out_len);
 
-struct tahliruz_answer tahliruz_pack(const uint8_t *table, size_t table_len, const uint8_t *pixels, size_t pixels_len, uint8_t *words, size_t words_len);
-struct tahliruz_answer tahliruz_unpack(const uint8_t *table, size_t table_len, const uint8_t *words, size_t words_len, uint64_t n, uint8_t *pixels, size_t pixels_len);
+/* ---- Rows ---- */
+
+/*
+ * Packs a row under a table.
+ *
+ *   table   the table, table_len bytes; it is checked at every call
+ *   pixels  the row, 2 bytes a pixel: pixels_len / 2 pixels of 0 to 4095, of
+ *           which 4094 and 4095 mark bad spots
+ *   words   lent for writing: room for words_len / 4 words
+ *
+ * Numbers, in this order:
+ *   1, 2, 3  the table, as in tahliruz_check
+ *   11       more than 4096 pixels
+ *   4        a pixel above 4095
+ *   5        the bits that the row takes, rounded up to words, exceed the words
+ *            lent; tahliruz_room tells how many are always enough
+ *   0        done
+ *
+ * Count: the bits that the row takes. The row is in the first
+ * 4 * ((count + 31) / 32) bytes of words; the unused bits of its last word are
+ * 0. After a refusal words is as it was.
+ */
+struct tahliruz_answer tahliruz_pack(const uint8_t *table, size_t table_len,
+                                     const uint8_t *pixels, size_t pixels_len,
+                                     uint8_t *words, size_t words_len);
+
+/*
+ * Unpacks n pixels that were packed under a table.
+ *
+ *   table   the table, table_len bytes; it is checked at every call
+ *   words   the packed row: words_len / 4 words. Words after the last used one
+ *           are not looked at
+ *   n       the pixels of the row, 0 to 4096
+ *   pixels  lent for writing: room for pixels_len / 2 pixels
+ *
+ * Numbers, in this order:
+ *   1, 2, 3  the table, as in tahliruz_check
+ *   11       n is above 4096, however large
+ *   5        n exceeds the pixels lent
+ *   6, 7, 8, 9  the first item that is faulty:
+ *            6  the words end before or within it
+ *            7  no codeword stands at its place
+ *            8  its difference leads outside 0 to 4093
+ *            9  its escaped height is 4094 or 4095
+ *   10       an unused bit of the last used word is set
+ *   0        done
+ *
+ * Count: the bits that the n pixels used. The pixels are in the first 2 * n
+ * bytes of pixels. After a refusal pixels is as it was.
+ */
+struct tahliruz_answer tahliruz_unpack(const uint8_t *table, size_t table_len,
+                                       const uint8_t *words, size_t words_len,
+                                       uint64_t n,
+                                       uint8_t *pixels, size_t pixels_len);
+
+/*
+ * Tells how many words are enough for every row of n pixels under a table.
+ *
+ *   table   the table, table_len bytes; it is checked at every call
+ *   n       the pixels, 0 to 4096
+ *
+ * Numbers, in this order:
+ *   1, 2, 3  the table, as in tahliruz_check
+ *   11       n is above 4096, however large
+ *   0        done
+ *
+ * Count: n times M, divided by 32 and rounded up; words, of 4 bytes each. It is
+ * at most 3456. Writes nothing.
+ */
 struct tahliruz_answer tahliruz_room(const uint8_t *table, size_t table_len, uint64_t n);
+
+/* ---- Adaptive-precision numbers ---- */
+
+/* What reading a number answers. A refusal has the value 0 and used 0. */
+struct tahliruz_signed {
+    uint32_t number;
+    int32_t value;
+    uint32_t used;      /* the bytes that the number takes, 1 to 5 */
+};
+
+struct tahliruz_unsigned {
+    uint32_t number;
+    uint32_t value;
+    uint32_t used;      /* the bytes that the number takes, 1 to 5 */
+};
+
+/*
+ * Read the signed or the unsigned number at the start of bytes. What follows it
+ * is not looked at. A form longer than needed is accepted, within five bytes.
+ *
+ *   bytes   bytes_len bytes
+ *
+ * Numbers, in this order:
+ *   12  the bytes end, and no byte ends the number; or there are none
+ *   13  the fifth byte asks for a sixth
+ *   13  the value is outside -2147483648 to 2147483647, or 0 to 4294967295
+ *   0   done
+ *
+ * Write nothing.
+ */
+struct tahliruz_signed tahliruz_read_signed(const uint8_t *bytes, size_t bytes_len);
+struct tahliruz_unsigned tahliruz_read_unsigned(const uint8_t *bytes, size_t bytes_len);
+
+/*
+ * Write a signed or an unsigned number in the fewest bytes.
+ *
+ *   out     lent for writing: out_len bytes, of which 5 are always enough
+ *
+ * Numbers, in this order:
+ *   5   the number takes more than out_len bytes
+ *   0   done
+ *
+ * Count: the bytes that the number takes, 1 to 5. It is in the first count bytes
+ * of out. After a refusal out is as it was.
+ */
+struct tahliruz_answer tahliruz_write_signed(int32_t value, uint8_t *out, size_t out_len);
+struct tahliruz_answer tahliruz_write_unsigned(uint32_t value, uint8_t *out, size_t out_len);
+
+/* ---- Sheets ---- */
+
+/* The kinds of records. */
+enum tahliruz_kind {
+    TAHLIRUZ_KIND_TABLE = 1,    /* the sheet's one table, its first record */
+    TAHLIRUZ_KIND_PACKED = 2,   /* a row, packed under that table */
+    TAHLIRUZ_KIND_PLAIN = 3,    /* a row, unpacked */
+    TAHLIRUZ_KIND_LINE = 4      /* a contour line: signed numbers */
+};
+
+/*
+ * What a sheet holds so far. It is { 0, 0 } before the first record; after that
+ * it is the state that the call for the record before has answered. least_row is
+ * the least number that the next row may have: the last row's number plus 1, up
+ * to 65536, after which no row can come. A record is out of place, 16, if it is
+ *  - a table, and has_table is not 0;
+ *  - no table, and has_table is 0;
+ *  - a row whose number is below least_row.
+ */
+struct tahliruz_sheet {
+    uint32_t has_table;     /* 1 once the sheet has its table, 0 before */
+    uint32_t least_row;     /* 0 to 65536 */
+};
+
+/*
+ * What judging or reading a record answers. What a kind does not have is 0. A
+ * refusal has 0 in all fields but number and state, which is as it was given.
+ */
+struct tahliruz_record {
+    uint32_t number;
+    uint32_t kind;          /* 1 to 4 */
+    uint32_t row;           /* kinds 2 and 3: the row number */
+    uint32_t count;         /* the words of a table, the pixels of a row, the numbers of a line */
+    uint32_t bits;          /* kind 2: the bits used */
+    uint32_t words;         /* kind 2: the words used */
+    uint32_t length;        /* the bytes of the whole record: the next one starts there */
+    struct tahliruz_sheet state;    /* after the record */
+};
+
+/*
+ * Judges the record at the start of sheet.
+ *
+ *   table   the sheet's table, table_len bytes; looked at for kind 2 only, and
+ *           then checked. Where has_table is 0 it may be null with length 0
+ *   sheet   the sheet from this record on, sheet_len bytes. 32778 bytes hold any
+ *           record; what follows the record is not looked at
+ *   state   what the sheet holds before this record
+ *
+ * Numbers, in this order:
+ *   14  sheet_len is below 4, the length is below 2 or above 32774, or it
+ *       exceeds the bytes after it
+ *   15  the kind is not 1 to 4
+ *   14  row number or count is missing; kinds 1 and 2: not whole words
+ *   16  the record is out of place
+ *   then for a table
+ *     1, 2, 3     the body, as in tahliruz_check
+ *   for a packed row
+ *     1, 2, 3     table, as in tahliruz_check
+ *     11          more than 4096 pixels
+ *     6, 7, 8, 9  the first item that is faulty, as in tahliruz_unpack
+ *     10          an unused bit of the last used word is set
+ *     14          words after the last used one
+ *   for a plain row
+ *     11          more than 4096 pixels
+ *     14          the bytes are not twice the count
+ *     4           a pixel above 4095
+ *   for a line
+ *     11          more than 4096 numbers
+ *     12, 13      the first number that is faulty, as in tahliruz_read_signed
+ *     14          bytes after the last number
+ *   0   done
+ *
+ * Writes nothing. A table's bytes are the 4 * count bytes from sheet + 6 on;
+ * they are the table for the records after it.
+ *
+ * The end of a sheet is where no bytes are left, and is the caller's to see: a
+ * call with sheet_len 0 answers 14. A sheet of no bytes at all is refused 16.
+ */
+struct tahliruz_record tahliruz_judge_record(const uint8_t *table, size_t table_len,
+                                             const uint8_t *sheet, size_t sheet_len,
+                                             struct tahliruz_sheet state);
+
+/*
+ * Judges the record at the start of sheet and gives its content.
+ *
+ *   table, sheet, state   as in tahliruz_judge_record
+ *   content   lent for writing: content_len bytes, of which 16384 are always
+ *             enough
+ *
+ * Numbers: those of tahliruz_judge_record in their order, and 5 where content
+ * is too small: for a packed row after 11 and before the first item, where
+ * count exceeds content_len / 2; for a plain row and a line last, where
+ * 2 * count or 4 * count exceeds content_len; for a table never.
+ *
+ * Done, the content is at the start of content:
+ *   table   nothing is written; its bytes are those from sheet + 6 on
+ *   row     count pixels of 2 bytes
+ *   line    count numbers of 4 bytes, signed, two's complement, little-endian
+ * After a refusal content is as it was.
+ */
+struct tahliruz_record tahliruz_read_record(const uint8_t *table, size_t table_len,
+                                            const uint8_t *sheet, size_t sheet_len,
+                                            struct tahliruz_sheet state,
+                                            uint8_t *content, size_t content_len);
+
+/* What writing a record answers. A refusal has the count 0 and the state as it was given. */
+struct tahliruz_written {
+    uint32_t number;
+    uint32_t count;
+    struct tahliruz_sheet state;    /* after the record */
+};
+
+/*
+ * Writes one record of a sheet.
+ *
+ *   kind     1 to 4; any other, however large, is 15
+ *   row      the row number; looked at for kinds 2 and 3 only
+ *   content  content_len bytes: a table; or the pixels of a row, 2 bytes each;
+ *            or the numbers of a line, 4 bytes each, signed, two's complement,
+ *            little-endian
+ *   table    the sheet's table, table_len bytes, to pack under; looked at for
+ *            kind 2 only, and then checked. For the other kinds it may be null
+ *            with length 0
+ *   state    what the sheet holds before this record
+ *   out      lent for writing: out_len bytes, of which 32778 are always enough
+ *
+ * Numbers, in this order:
+ *   15  the kind is not 1 to 4
+ *   16  the record would be out of place
+ *   then for a table
+ *     1, 2, 3   content, as in tahliruz_check
+ *   for a packed row
+ *     1, 2, 3   table, as in tahliruz_check
+ *     11        more than 4096 pixels
+ *     4         a pixel above 4095
+ *   for a plain row
+ *     11        more than 4096 pixels
+ *     4         a pixel above 4095
+ *   for a line
+ *     11        more than 4096 numbers
+ *   5   the whole record takes more than out_len bytes
+ *   0   done
+ *
+ * Count: the bytes of the whole record, its length field included. It is in the
+ * first count bytes of out. After a refusal out is as it was.
+ */
+struct tahliruz_written tahliruz_write_record(uint32_t kind, uint16_t row,
+                                              const uint8_t *content, size_t content_len,
+                                              const uint8_t *table, size_t table_len,
+                                              struct tahliruz_sheet state,
+                                              uint8_t *out, size_t out_len);
 
 #ifdef __cplusplus
 }

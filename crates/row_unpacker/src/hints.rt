@@ -1,10 +1,10 @@
 // Hints for a quick search. No two codewords of an accepted table begin the same bits, so a word whose codeword begins the
 // rest is the one: a hint is tried and never trusted, and of what stands in the hints nothing is claimed.
 //
-// heads   by the window's low 12 bits: the word of a codeword of at most 12 bits; or 8192 and the length of the shortest
-//         longer codeword that has these bits; or 0
-// slots   by a hash of its bits: the last word of a longer codeword
-// nexts   by that word: the word before it in the same slot, or 0
+// from 0      heads, by the window's low 12 bits: the word of a codeword of at most 12 bits; or 8192 and the length of the
+//             shortest longer codeword that has these bits; or 0
+// from 4096   slots, by a hash of its bits: the last word of a longer codeword, or 0
+// from 8192   nexts, by that word: the word before it in the same slot, or 0
 use code_table::header::word_at;
 use crate::search::Hit;
 use crate::search::begins_rest;
@@ -17,12 +17,15 @@ ghost use Rattle.bitstream.specs.Bits.{wordsOf};
 ghost use Rattle.row_format.specs.Table.{tableNumber};
 ghost use Rattle.row_unpacker.specs.Search.{Finds};
 
+// A table has at most 8193 words.
+pub type Hints = [u16; 16385];
+
 // The codeword of an accepted table that begins the rest.
-pub fn hinted_search(table: &[u8], heads: &[u16; 4096], slots: &[u16; 4096], nexts: &[u16; 8193], v: View) -> Hit
+pub fn hinted_search(table: &[u8], hints: &Hints, v: View) -> Hit
     requires { ⌜ tableNumber (now table) ≡ 0 ⌝ }
     ensures { λ r. ⌜ Finds (wordsOf (now (table .entry))) v r ⌝ }
 {
-    let i = guess(table, heads, slots, nexts, v);
+    let i = guess(table, hints, v);
     if 3 <= i {
         if i < table.len() / 4 {
             if begins_rest(word_at(table, i), v) {
@@ -34,14 +37,15 @@ pub fn hinted_search(table: &[u8], heads: &[u16; 4096], slots: &[u16; 4096], nex
 }
 
 // A word whose codeword may begin the rest.
-fn guess(table: &[u8], heads: &[u16; 4096], slots: &[u16; 4096], nexts: &[u16; 8193], v: View) -> usize {
-    let head = wide(heads[(v.window % 4096) as usize]);
+fn guess(table: &[u8], hints: &Hints, v: View) -> usize {
+    let head = wide(hints[(v.window % 4096) as usize]);
     if head <= 8192 {
         return head;
     }
     let mut len = (head - 8192) as u32;
     while len < 28 {
-        let i = walk(table, nexts, slots[slot(low_bits(v.window, len))], v);
+        let s = slot(low_bits(v.window, len));
+        let i = walk(table, hints, hints[4096 + s], v);
         if 0 < i {
             return i;
         }
@@ -50,8 +54,8 @@ fn guess(table: &[u8], heads: &[u16; 4096], slots: &[u16; 4096], nexts: &[u16; 8
     0
 }
 
-// The first word from i on in its slot whose codeword begins the rest, or 0. A word's next is less, so the walk ends.
-fn walk(table: &[u8], nexts: &[u16; 8193], from: u16, v: View) -> usize {
+// The first word in a slot, from a word on, whose codeword begins the rest, or 0. A word's next is less, so the walk ends.
+fn walk(table: &[u8], hints: &Hints, from: u16, v: View) -> usize {
     let words = table.len() / 4;
     let mut i = from as usize;
     while 0 < i {
@@ -64,7 +68,7 @@ fn walk(table: &[u8], nexts: &[u16; 8193], from: u16, v: View) -> usize {
         if 8193 <= i {
             return 0;
         }
-        let next = wide(nexts[i]);
+        let next = wide(hints[8192 + i]);
         if i <= next {
             return 0;
         }
@@ -87,7 +91,7 @@ fn slot(bits: u32) -> usize
 }
 
 // Fills empty hints.
-pub fn fill(table: &[u8], heads: &mut [u16; 4096], slots: &mut [u16; 4096], nexts: &mut [u16; 8193]) {
+pub fn fill(table: &[u8], hints: &mut Hints) {
     let words = table.len() / 4;
     let mut i: u16 = 3;
     while i < 8193 {
@@ -96,49 +100,50 @@ pub fn fill(table: &[u8], heads: &mut [u16; 4096], slots: &mut [u16; 4096], next
         }
         let word = word_at(table, i as usize);
         let len = word % 32;
+        let bits = word / 32;
         if len <= 12 {
-            spread(heads, word / 32 % 4096, len, i);
+            spread(hints, bits % 4096, len, i);
         } else {
-            link(slots, nexts, slot(word / 32), i);
-            shorten(heads, word / 32 % 4096, len);
+            link(hints, slot(bits), i);
+            shorten(hints, bits % 4096, len);
         }
         i += 1;
     }
 }
 
-// A codeword of at most 12 bits: word i stands at all places that it begins.
-fn spread(heads: &mut [u16; 4096], bits: u32, len: u32, i: u16)
+// A codeword of at most 12 bits: word i stands at all heads that it begins.
+fn spread(hints: &mut Hints, bits: u32, len: u32, i: u16)
     requires { ⌜ len < 32 ⌝ }
 {
     let step = 1usize << len;
     let mut k = bits as usize;
     while k < 4096 {
-        heads[k] = i;
+        hints[k] = i;
         k += step;
     }
 }
 
-// A longer codeword: word i is the last in its slot.
-fn link(slots: &mut [u16; 4096], nexts: &mut [u16; 8193], s: usize, i: u16)
+// A longer codeword: word i is the last in slot s.
+fn link(hints: &mut Hints, s: usize, i: u16)
     requires { ⌜ s < 4096 ⌝ }
     requires { ⌜ i < 8193 ⌝ }
 {
-    nexts[i as usize] = slots[s];
-    slots[s] = i;
+    hints[8192 + i as usize] = hints[4096 + s];
+    hints[4096 + s] = i;
 }
 
-// The search for a longer codeword starts with its length at the latest.
-fn shorten(heads: &mut [u16; 4096], k: u32, len: u32)
+// The search for a longer codeword at head k starts with its length at the latest.
+fn shorten(hints: &mut Hints, k: u32, len: u32)
     requires { ⌜ k < 4096 ⌝ }
     requires { ⌜ len < 32 ⌝ }
 {
     let mark = 8192 + len as u16;
-    let head = heads[k as usize];
+    let head = hints[k as usize];
     if head == 0 {
-        heads[k as usize] = mark;
+        hints[k as usize] = mark;
         return;
     }
     if mark < head {
-        heads[k as usize] = mark;
+        hints[k as usize] = mark;
     }
 }

@@ -2,6 +2,7 @@
 use code_table::entry::signed_of;
 use code_table::header::low_limit;
 use code_table::header::word_at;
+use crate::hints::Hints;
 use crate::hints::hinted_search;
 use crate::search::Hit;
 use crate::search::cut_short;
@@ -43,13 +44,13 @@ pub fn read_item(table: &[u8], words: &[u8], at: usize, p: Progress) -> Read
 }
 
 // The same under an accepted table, by hints.
-pub fn hinted_item(table: &[u8], words: &[u8], heads: &[u16; 4096], slots: &[u16; 4096], nexts: &[u16; 8193], at: usize, p: Progress) -> Read
+pub fn hinted_item(table: &[u8], words: &[u8], hints: &Hints, at: usize, p: Progress) -> Read
     requires { ⌜ tableNumber (now table) ≡ 0 ⌝ }
     requires { ⌜ at ≤ 2 ^ 32 ⌝ }
     ensures { λ r. ⌜ r ≡ itemAt (now (table .entry)) (now (words .entry)) at p ⌝ }
 {
     let v = look_ahead(words, at);
-    item_seen(table, words, at, p, v, hinted_search(table, heads, slots, nexts, v))
+    item_seen(table, words, at, p, v, hinted_search(table, hints, v))
 }
 
 // The item at a place, from what is seen and found there.

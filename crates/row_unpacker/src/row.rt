@@ -1,5 +1,6 @@
 // The items of a row, one after the other, and their pixels.
 use bitstream::number::put_u16;
+use crate::hints::Hints;
 use crate::hints::fill;
 use crate::item::Read;
 use crate::item::hinted_item;
@@ -30,17 +31,15 @@ pub fn read_row(table: &[u8], words: &[u8], n: usize, row: &mut [u8]) -> RowRead
     requires { ⌜ 2 * n ≤ length (now row) ⌝ }
     ensures { λ r. ⌜ RowIs n (now (row .exit)) r (reached n fresh (readItems (wordsOf (now (table .entry))) n (stream (now (words .entry))))) ⌝ }
 {
-    let mut heads = [0u16; 4096];
-    let mut slots = [0u16; 4096];
-    let mut nexts = [0u16; 8193];
-    fill(table, &mut heads, &mut slots, &mut nexts);
-    read_items(table, words, &heads, &slots, &nexts, n, row)
+    let mut hints = [0u16; 16385];
+    fill(table, &mut hints);
+    read_items(table, words, &hints, n, row)
 }
 
 // The same by hints.
 // at   the bit place of the next item
 // p    what the row has come to
-fn read_items(table: &[u8], words: &[u8], heads: &[u16; 4096], slots: &[u16; 4096], nexts: &[u16; 8193], n: usize, row: &mut [u8]) -> RowRead
+fn read_items(table: &[u8], words: &[u8], hints: &Hints, n: usize, row: &mut [u8]) -> RowRead
     requires { ⌜ tableNumber (now table) ≡ 0 ⌝ }
     requires { ⌜ n ≤ 4096 ⌝ }
     requires { ⌜ 2 * n ≤ length (now row) ⌝ }
@@ -50,7 +49,7 @@ fn read_items(table: &[u8], words: &[u8], heads: &[u16; 4096], slots: &[u16; 409
     let mut p = start();
     let mut i = 0;
     while i < n {
-        let read = hinted_item(table, words, heads, slots, nexts, at, p);
+        let read = hinted_item(table, words, hints, at, p);
         match read {
             Read::Got { item, pixel, next } => {
                 put_u16(row, 2 * i, pixel);

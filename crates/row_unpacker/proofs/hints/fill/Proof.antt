@@ -11,60 +11,60 @@ use Rattle.row_unpacker.proofs.hints.slot.Reads as slot-reads
 use Rattle.row_unpacker.proofs.hints.spread.Reads as spread-reads
 
 abbrev Inv-loop : tie.InvT-loop
-Inv-loop table heads₀ slots₀ nexts₀ words i₀ heads slots nexts i = Unit {0}
+Inv-loop table hints₀ words i₀ hints i = Unit {0}
 
 abbrev μ-loop : tie.MeasureT-loop
-μ-loop table heads₀ slots₀ nexts₀ words i₀ heads slots nexts i = 8193 - i
+μ-loop table hints₀ words i₀ hints i = 8193 - i
 
--- src/hints.rt:93:5
+-- src/hints.rt:97:5
 loop-holds : tie.Need-loop-holds Inv-loop μ-loop
 loop-holds c = search needs
 
--- src/hints.rt:94:21
+-- src/hints.rt:98:21
 cast-if1 : tie.Need-cast-if1 Inv-loop μ-loop
 cast-if1 c = search needs
 
--- src/hints.rt:95:13
+-- src/hints.rt:99:13
 returns : tie.Need-returns Inv-loop μ-loop
 returns c = search needs
 
--- src/hints.rt:97:35
+-- src/hints.rt:101:35
 cast-word-at : tie.Need-cast-word-at Inv-loop μ-loop
 cast-word-at c = search needs
 
--- src/hints.rt:97:13
+-- src/hints.rt:101:13
 word-at-requires : tie.Need-word-at-requires Inv-loop μ-loop
 word-at-requires c κs = search needs
 
--- src/hints.rt:100:13
+-- src/hints.rt:105:13
 spread-requires : tie.Need-spread-requires Inv-loop μ-loop
 spread-requires c κs = search needs
 
--- src/hints.rt:102:32
+-- src/hints.rt:107:25
 slot-requires : tie.Need-slot-requires Inv-loop μ-loop
 slot-requires c κs = search needs
 
--- src/hints.rt:102:13
+-- src/hints.rt:107:13
 link-requires : tie.Need-link-requires Inv-loop μ-loop
 link-requires c κs = search needs
 
--- src/hints.rt:103:13
+-- src/hints.rt:108:13
 shorten-requires : tie.Need-shorten-requires Inv-loop μ-loop
 shorten-requires c κs = search needs
 
--- src/hints.rt:105:9
+-- src/hints.rt:110:9
 add-i : tie.Need-add-i Inv-loop μ-loop
 add-i c = search needs
 
--- src/hints.rt:93:5
+-- src/hints.rt:97:5
 loop-less : tie.Need-loop-less Inv-loop μ-loop
 loop-less c = search needs
 
--- src/hints.rt:93:5
+-- src/hints.rt:97:5
 loop-again : tie.Need-loop-again Inv-loop μ-loop
 loop-again c = search needs
 
--- src/hints.rt:90:1
+-- src/hints.rt:94:1
 returns-2 : tie.Need-returns-2 Inv-loop μ-loop
 returns-2 c = search needs
 

@@ -8,40 +8,40 @@ use Rattle.row_unpacker.proofs.hints.spread.Reads as reads
 use Rattle.row_unpacker.proofs.hints.spread.Lts as lts
 
 abbrev Inv-loop : tie.InvT-loop
-Inv-loop heads₀ bits len i step k₀ heads k = Unit {0}
+Inv-loop hints₀ bits len i step k₀ hints k = Unit {0}
 
 abbrev μ-loop : tie.MeasureT-loop
-μ-loop heads₀ bits len i step k₀ heads k = 4096 - k
+μ-loop hints₀ bits len i step k₀ hints k = 4096 - k
 
--- src/hints.rt:107:16
+-- src/hints.rt:118:16
 shl-step : tie.Need-shl-step Inv-loop μ-loop
 shl-step c = search needs
 
--- src/hints.rt:109:5
+-- src/hints.rt:120:5
 loop-holds : tie.Need-loop-holds Inv-loop μ-loop
 loop-holds c = search needs
 
--- src/hints.rt:110:9
-mul-heads : tie.Need-mul-heads Inv-loop μ-loop
-mul-heads c = search needs
+-- src/hints.rt:121:9
+mul-hints : tie.Need-mul-hints Inv-loop μ-loop
+mul-hints c = search needs
 
--- src/hints.rt:110:9
-element-write-heads : tie.Need-element-write-heads Inv-loop μ-loop
-element-write-heads c = search needs
+-- src/hints.rt:121:9
+element-write-hints : tie.Need-element-write-hints Inv-loop μ-loop
+element-write-hints c = search needs
 
--- src/hints.rt:111:9
+-- src/hints.rt:122:9
 add-k : tie.Need-add-k Inv-loop μ-loop
 add-k c = record { fits = omega (arith, step-most (c .before .before .args .len) (c .before .before .pre)) }
 
--- src/hints.rt:109:5
+-- src/hints.rt:120:5
 loop-less : tie.Need-loop-less Inv-loop μ-loop
 loop-less c = omega (arith, step-least (c .before .before .args .len) (c .before .before .pre))
 
--- src/hints.rt:109:5
+-- src/hints.rt:120:5
 loop-again : tie.Need-loop-again Inv-loop μ-loop
 loop-again c = search needs
 
--- src/hints.rt:104:1
+-- src/hints.rt:115:1
 returns : tie.Need-returns Inv-loop μ-loop
 returns c = search needs
 
@@ -53,8 +53,8 @@ spread-spec =
     μ-loop
     shl-step
     loop-holds
-    mul-heads
-    element-write-heads
+    mul-hints
+    element-write-hints
     add-k
     loop-less
     loop-again

@@ -18,10 +18,10 @@ use Rattle.row_item.proofs.start.Reads as start-reads
 use Rattle.row_unpacker.proofs.item.hinted_item.Reads as hinted-item-reads
 
 abbrev Inv-loop : tie.InvT-loop
-Inv-loop table words heads slots nexts n row₀ at₀ p₀ i₀ row at p i = Partly (readItem (wordsOf table)) n (stream words) (length row₀) row at p i
+Inv-loop table words hints n row₀ at₀ p₀ i₀ row at p i = Partly (readItem (wordsOf table)) n (stream words) (length row₀) row at p i
 
 abbrev μ-loop : tie.MeasureT-loop
-μ-loop table words heads slots nexts n row₀ at₀ p₀ i₀ row at p i = n - i
+μ-loop table words hints n row₀ at₀ p₀ i₀ row at p i = n - i
 
 -- src/row.rt:50:9
 start-requires : tie.Need-start-requires Inv-loop μ-loop

@@ -36,8 +36,10 @@ pub fn hinted_search(table: &[u8], hints: &Hints, v: View) -> Hit
     search(table, v)
 }
 
-// A word whose codeword may begin the rest.
-fn guess(table: &[u8], hints: &Hints, v: View) -> usize {
+// A word whose codeword may begin the rest, or 0.
+fn guess(table: &[u8], hints: &Hints, v: View) -> usize
+    requires { ⌜ tableNumber (now table) ≡ 0 ⌝ }
+{
     let head = wide(hints[(v.window % 4096) as usize]);
     if head <= 8192 {
         return head;
@@ -55,7 +57,9 @@ fn guess(table: &[u8], hints: &Hints, v: View) -> usize {
 }
 
 // The first word in a slot, from a word on, whose codeword begins the rest, or 0. A word's next is less, so the walk ends.
-fn walk(table: &[u8], hints: &Hints, from: u16, v: View) -> usize {
+fn walk(table: &[u8], hints: &Hints, from: u16, v: View) -> usize
+    requires { ⌜ tableNumber (now table) ≡ 0 ⌝ }
+{
     let words = table.len() / 4;
     let mut i = from as usize;
     while 0 < i {
@@ -64,9 +68,6 @@ fn walk(table: &[u8], hints: &Hints, from: u16, v: View) -> usize {
         }
         if begins_rest(word_at(table, i), v) {
             return i;
-        }
-        if 8193 <= i {
-            return 0;
         }
         let next = wide(hints[8192 + i]);
         if i <= next {
@@ -91,23 +92,22 @@ fn slot(bits: u32) -> usize
 }
 
 // Fills empty hints.
-pub fn fill(table: &[u8], hints: &mut Hints) {
+pub fn fill(table: &[u8], hints: &mut Hints)
+    requires { ⌜ tableNumber (now table) ≡ 0 ⌝ }
+{
     let words = table.len() / 4;
-    let mut i: u16 = 3;
-    while i < 8193 {
-        if words <= i as usize {
-            return;
-        }
-        let word = word_at(table, i as usize);
+    let mut i = 3;
+    while i < words {
+        let word = word_at(table, i);
         let len = word % 32;
         let bits = word / 32;
         if len <= 12 {
-            spread(hints, bits % 4096, len, i);
+            spread(hints, bits % 4096, len, i as u16);
+            i += 1;
         } else {
-            link(hints, slot(bits), i);
-            shorten(hints, bits % 4096, len);
+            link(hints, bits, len, i as u16);
+            i += 1;
         }
-        i += 1;
     }
 }
 
@@ -123,27 +123,22 @@ fn spread(hints: &mut Hints, bits: u32, len: u32, i: u16)
     }
 }
 
-// A longer codeword: word i is the last in slot s.
-fn link(hints: &mut Hints, s: usize, i: u16)
-    requires { ⌜ s < 4096 ⌝ }
+// A longer codeword: word i is the last in its slot, and the search from its head starts with its length at the latest.
+fn link(hints: &mut Hints, bits: u32, len: u32, i: u16)
+    requires { ⌜ len < 32 ⌝ }
     requires { ⌜ i < 8193 ⌝ }
 {
-    hints[8192 + i as usize] = hints[4096 + s];
-    hints[4096 + s] = i;
+    let s = 4096 + slot(bits);
+    let k = (bits % 4096) as usize;
+    hints[8192 + i as usize] = hints[s];
+    hints[s] = i;
+    hints[k] = lesser(hints[k], 8192 + len as u16);
 }
 
-// The search for a longer codeword at head k starts with its length at the latest.
-fn shorten(hints: &mut Hints, k: u32, len: u32)
-    requires { ⌜ k < 4096 ⌝ }
-    requires { ⌜ len < 32 ⌝ }
-{
-    let mark = 8192 + len as u16;
-    let head = hints[k as usize];
-    if head == 0 {
-        hints[k as usize] = mark;
-        return;
+// The lesser of two, where 0 stands for none.
+fn lesser(a: u16, b: u16) -> u16 {
+    if a == 0 {
+        return b;
     }
-    if mark < head {
-        hints[k as usize] = mark;
-    }
+    if a < b { a } else { b }
 }

@@ -160,3 +160,7 @@ finds-only tb v ok i w least h is b yes′ = record { is = λ r seen.
   let begins-it : begins (codewordAt t (i - 3)) r ≡ true =
   ap (λ (s : List ℕ). begins s r) (sym (getD-codewords t (i - 3)) ∙ place t v i least ∙ ap codeword (sym is)) ∙ sym (b .is r seen) ∙ yes′ in
   sym (ap hit (find-only t a (i - 3) r (omega (arith, a .words, length-words tb)) begins-it)) }
+
+-- "A table is 6 + tableSize words", of at most 8187 entries
+pub words-most : (tb : List ℕ) → tableNumber tb ≡ 0 → length tb / 4 ≤ 8193
+words-most tb ok = let a = accepted (wordsOf tb) (tableNumber-verdict tb ok) in omega (arith, a .words, a .size-most, length-words tb)

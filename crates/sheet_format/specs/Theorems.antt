@@ -1,3 +1,5 @@
 pub mod Given
 pub mod Bodies
 pub mod ReadBack
+pub mod Memory
+pub mod Locality

@@ -1,7 +1,9 @@
 -- The laws of a record's number: it is 0 exactly where each of its parts is. Assumes nothing.
 use Prim.Native.Nat.{ℕ, zero, suc, _+_, _-_, _*_, _/_, _%_, _≤_, _<_}
+use native.Mathlib.Decide.{decLt}
 use native.Mathlib.Omega.{arith}
 use mathlib.Core.Path.{_≡_, refl, sym, _∙_}
+use mathlib.Core.Logic.{by-cases}
 use mathlib.Core.Bool.{Bool, true, false, not}
 use mathlib.Core.List.{List, [], _∷_, _++_}
 use lib.ListN.{length, take, drop}
@@ -66,6 +68,15 @@ right-length r e =
       most = lessNumber-zero 32774 (lengthField r) 13 (orElse-zero-left large past e2);
       there = lessNumber-zero (length r) (4 + lengthField r) 13 (orElse-zero-right large past e2);
     }
+
+-- a length outside its limits is refused whatever follows
+pub lengthNumber-wrong : (r : List ℕ) → (2 ≤ lengthField r → 32774 < lengthField r) → lengthNumber r ≡ 14
+unfolding lengthNumber
+lengthNumber-wrong r h =
+    by-cases (decLt (length r) 4) (λ short. rw (lt-ltb (length r) 4 short))
+    (λ four. by-cases (decLt (lengthField r) 2)
+    (λ small. rw (le-ltb (length r) 4 (omega arith), lt-ltb (lengthField r) 2 small))
+    (λ large. rw (le-ltb (length r) 4 (omega arith), le-ltb (lengthField r) 2 (omega arith), lt-ltb 32774 (lengthField r) (h (omega arith)))))
 
 -- ---- the kind
 pub kindOf-known : (code : ℕ) → kindNumber (kindOf code) ≡ 0 → code ≤ 4

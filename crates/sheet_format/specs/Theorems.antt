@@ -3,3 +3,5 @@ pub mod Bodies
 pub mod ReadBack
 pub mod Memory
 pub mod Locality
+pub mod Judged
+pub mod Room

@@ -142,3 +142,9 @@ recordNumber-read m tb r st e =
       known = known;
       parts = passed k m tb (bodyOf r) st (orElse-zero-right (kindNumber k) _ e1);
     }
+
+pub read-recordNumber : (m : Lent) (tb r : List ℕ) (st : SheetState) → Read m tb r st → recordNumber m tb r st ≡ 0
+unfolding recordNumber
+read-recordNumber m tb r st h =
+    rw (lengthNumber-right r (h .size), h .known)
+    (contentNumber-passed (kindOf (kindField r)) m tb (bodyOf r) st (h .parts))

@@ -11,6 +11,7 @@ use Rattle.sheet_format.specs.declared.SheetState.{SheetState}
 use Rattle.sheet_format.specs.declared.RecordRead.{RecordRead}
 use Rattle.sheet_format.specs.Line.{Line, numbers, faulty, wordOf}
 use Rattle.sheet_format.specs.Record.{lengthField, kindField, bodyOf, Kind, tableRecord, packedRecord, plainRecord, lineRecord, unknown, kindOf, rowNumber, pixelCount, rowContent, numberCount, lineContent, runOf, lineOf, bitsOfRun, Lent, nothing, lent, recordNumber}
+pub mod Laws
 
 -- ---- the state of a sheet: a new sheet's, and the state after an accepted record
 abbrev pub newSheet : SheetState

@@ -7,6 +7,7 @@ use Rattle.sheet_format.specs.declared.SheetState.{SheetState}
 use Rattle.sheet_format.specs.declared.RecordRead.{RecordRead}
 use Rattle.sheet_format.specs.Record.{bodyOf, kindOf, kindField}
 use Rattle.sheet_format.specs.Reading.{newSheet, tableAfter, recordJudged}
+pub mod Laws
 
 -- an accepted record of a sheet: what it holds, and its bytes
 pub record SheetRecord : Type 0 where

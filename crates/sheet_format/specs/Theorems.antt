@@ -5,3 +5,4 @@ pub mod Memory
 pub mod Locality
 pub mod Judged
 pub mod Room
+pub mod Rising

@@ -27,7 +27,7 @@ use Rattle.sheet_format.specs.Line.Laws.{Gives, readLine-gives}
 use Rattle.sheet_format.specs.Record.{kindField, bodyOf, Kind, tableRecord, packedRecord, plainRecord, lineRecord, unknown, kindOf, rowNumber, pixelCount, rowContent, numberCount, lineContent, runOf, lineOf, kindNumber, lengthNumber, fixedNumber, placeNumber, Lent, nothing, lent, roomNumber, runNumber, packedNumber, plainNumber, faultNumber, lineNumber, bodyNumber, leftoverNumber, lastRoomNumber, contentNumber, recordNumber}
 use Rattle.sheet_format.specs.Record.Laws.{lessNumber-zero, lessNumber-none, lessNumber-given, unequalNumber-zero, Passed, passed, contentNumber-passed, Read, recordNumber-read}
 use Rattle.sheet_format.specs.Reading.{countHeld, contentHeld, pixelBytes, numberBytes, recordHeld, recordContent, heldUnless, ReadOutcome, readUnless, recordJudged, recordRead}
-use Rattle.sheet_format.specs.Theorems.Memory.{Within, within-front}
+use Rattle.sheet_format.specs.Reading.Laws.{recordRead-answer}
 
 -- what is read of so many pixels or numbers: 2 bytes a pixel, 4 a number
 abbrev pub contentBytes : Kind → ℕ → ℕ
@@ -174,39 +174,7 @@ pub recordNumber-enough : (n : ℕ) → 16384 ≤ n → (tb r : List ℕ) (st : 
 unfolding recordNumber
 recordNumber-enough n enough tb r st = rw (contentNumber-enough n enough tb (bodyOf r) (kindOf (kindField r)) st)
 
--- ---- the calls
-readUnless-answer : (e : ℕ) (st : SheetState) (m : List ℕ) (a : RecordRead) (c : List ℕ) → readUnless e st m a c .answer ≡ heldUnless e st a
-readUnless-answer zero st m a c = refl
-readUnless-answer (suc e) st m a c = refl
-
-heldUnless-number : (e : ℕ) (st : SheetState) (a : RecordRead) → a .number ≡ 0 → heldUnless e st a .number ≡ e
-heldUnless-number zero st a h = h
-heldUnless-number (suc e) st a h = refl
-
-module _ (tb r : List ℕ) (st : SheetState) where
-  pub recordJudged-number : recordJudged tb r st .number ≡ recordNumber nothing tb r st
-  unfolding recordJudged recordHeld
-  recordJudged-number = heldUnless-number (recordNumber nothing tb r st) st (recordHeld tb r st) refl
-
-  pub recordJudged-done : recordNumber nothing tb r st ≡ 0 → recordJudged tb r st ≡ recordHeld tb r st
-  unfolding recordJudged
-  recordJudged-done e = rw e
-
-  module _ (m : List ℕ) where
-    recordRead-answer : recordRead tb r st m .answer ≡ heldUnless (recordNumber (lent (length m)) tb r st) st (recordHeld tb r st)
-    unfolding recordRead
-    recordRead-answer = readUnless-answer (recordNumber (lent (length m)) tb r st) st m (recordHeld tb r st) (recordContent tb r)
-
-    pub recordRead-number : recordRead tb r st m .answer .number ≡ recordNumber (lent (length m)) tb r st
-    unfolding recordHeld
-    recordRead-number = rw recordRead-answer (heldUnless-number (recordNumber (lent (length m)) tb r st) st (recordHeld tb r st) refl)
-
-    pub recordRead-done : recordNumber (lent (length m)) tb r st ≡ 0
-        → recordRead tb r st m ≡ record { answer = recordHeld tb r st; memory = recordContent tb r ++ drop (length (recordContent tb r)) m }
-    unfolding recordRead
-    recordRead-done e = rw e
-
-    -- with 16384 bytes lent, judging and reading answer the same
-    pub recordRead-judged : 16384 ≤ length m → recordRead tb r st m .answer ≡ recordJudged tb r st
-    unfolding recordJudged
-    recordRead-judged enough = rw (recordRead-answer, recordNumber-enough (length m) enough tb r st)
+-- with 16384 bytes lent, judging and reading answer the same
+pub recordRead-judged : (tb r : List ℕ) (st : SheetState) (m : List ℕ) → 16384 ≤ length m → recordRead tb r st m .answer ≡ recordJudged tb r st
+unfolding recordJudged
+recordRead-judged tb r st m enough = rw (recordRead-answer tb r st m, recordNumber-enough (length m) enough tb r st)

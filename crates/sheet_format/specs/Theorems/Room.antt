@@ -16,7 +16,8 @@ use Rattle.sheet_format.specs.Record.{kindField, bodyOf, Kind, tableReco
 use Rattle.sheet_format.specs.Record.Laws.{lessNumber-zero, lessNumber-none, lessNumber-given, lengthNumber-right, Passed, Read, recordNumber-read, read-recordNumber}
 use Rattle.sheet_format.specs.Reading.{countHeld, contentHeld, recordHeld, recordContent, ReadOutcome, recordJudged, recordRead}
 use Rattle.sheet_format.specs.Theorems.Memory.{Within, within-front, recordRead-refused}
-use Rattle.sheet_format.specs.Theorems.Judged.{contentBytes, passed-content, passed-other, recordJudged-number, recordJudged-done, recordRead-number, recordRead-done}
+use Rattle.sheet_format.specs.Theorems.Judged.{contentBytes, passed-content, passed-other}
+use Rattle.sheet_format.specs.Reading.Laws.{recordJudged-number, recordJudged-done, recordRead-number, recordRead-done}
 
 -- the bytes that the content of an accepted record takes, by its answer
 abbrev pub answerBytes : RecordRead → ℕ

@@ -6,3 +6,5 @@ pub mod Locality
 pub mod Judged
 pub mod Room
 pub mod Rising
+pub mod TableFirst
+pub mod Sheets

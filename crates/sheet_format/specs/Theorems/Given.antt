@@ -1,14 +1,18 @@
--- What a written record is to be read as, from what the writer was given. Definitions only. Assumes nothing.
-use Prim.Native.Nat.{ℕ, _*_, _/_}
-use mathlib.Core.List.{List, []}
+-- What a written record, and a sheet of written records, is to be read as, from what the writer was given.
+-- Definitions only. Assumes nothing.
+use Prim.Native.Nat.{ℕ, _*_, _/_, _<_}
+use mathlib.Core.Path.{_≡_}
+use mathlib.Core.List.{List, [], _∷_, _++_}
 use lib.ListN.{length, take}
 use Rattle.bitstream.specs.Bits.{wordsOf, wordsFor}
+use Rattle.bitstream.specs.Bits.Laws.{Below}
 use Rattle.row_format.specs.Row.{rowBits}
 use Rattle.sheet_format.specs.declared.SheetState.{SheetState}
 use Rattle.sheet_format.specs.declared.RecordRead.{RecordRead}
 use Rattle.sheet_format.specs.Record.{Kind, tableRecord, packedRecord, plainRecord, lineRecord, unknown, kindOf}
-use Rattle.sheet_format.specs.Reading.{stateAfter}
-use Rattle.sheet_format.specs.Writing.{givenPixels, givenNumbers, bodyFor, recordBytes}
+use Rattle.sheet_format.specs.Reading.{stateAfter, tableAfter}
+use Rattle.sheet_format.specs.Writing.{givenPixels, givenNumbers, bodyFor, recordBytes, WriteOutcome, recordWritten}
+use Rattle.sheet_format.specs.Sheet.{SheetRecord}
 
 abbrev pub rowGiven : Kind → ℕ → ℕ
 rowGiven tableRecord row = 0
@@ -51,3 +55,42 @@ recordGiven code row tb c st =
       length = length (recordBytes code (bodyFor (kindOf code) row tb c));
       state = stateAfter (kindOf code) row st
     }
+
+-- ---- records written one after another
+-- what the writer is given for a record, beside what the sheet holds so far
+pub record Write : Type 0 where
+  pub kind : ℕ
+  pub row : ℕ
+  pub content : List ℕ
+  pub memory : List ℕ
+
+abbrev pub writtenBy : List ℕ → SheetState → Write → WriteOutcome
+writtenBy tb st w = recordWritten (w .kind) (w .row) tb (w .content) st (w .memory)
+
+-- the sheet's table after it
+abbrev pub tableGiven : List ℕ → Write → List ℕ
+tableGiven tb w = tableAfter (kindOf (w .kind)) tb (w .content)
+
+-- the bytes that it wrote
+abbrev pub bytesWritten : List ℕ → SheetState → Write → List ℕ
+bytesWritten tb st w = take (writtenBy tb st w .answer .count) (writtenBy tb st w .memory)
+
+pub record Done (tb : List ℕ) (st : SheetState) (w : Write) : Type 0 where
+  pub small : w .row < 65536
+  pub bytes : Below 256 (w .content)
+  pub done : writtenBy tb st w .answer .number ≡ 0
+
+-- each is done in the state that the one before left, under the sheet's table
+abbrev pub AllDone : List ℕ → SheetState → List Write → Type 0
+AllDone tb st [] = Unit {0}
+AllDone tb st (w ∷ ws) = Done tb st w × AllDone (tableGiven tb w) (writtenBy tb st w .answer .state) ws
+
+unfoldable pub sheetBytes : List ℕ → SheetState → List Write → List ℕ
+sheetBytes tb st [] = []
+sheetBytes tb st (w ∷ ws) = bytesWritten tb st w ++ sheetBytes (tableGiven tb w) (writtenBy tb st w .answer .state) ws
+
+unfoldable pub sheetGiven : List ℕ → SheetState → List Write → List SheetRecord
+sheetGiven tb st [] = []
+sheetGiven tb st (w ∷ ws) =
+    record { answer = recordGiven (w .kind) (w .row) tb (w .content) st; bytes = bytesWritten tb st w }
+    ∷ sheetGiven (tableGiven tb w) (writtenBy tb st w .answer .state) ws

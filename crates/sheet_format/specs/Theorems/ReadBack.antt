@@ -13,7 +13,7 @@ use Rattle.row_format.specs.Table.{tableNumber}
 use Rattle.row_format.specs.Calls.{tooMany}
 use Rattle.row_format.specs.Calls.Laws.{orElse-zero-left, orElse-zero-right}
 use Rattle.sheet_format.specs.declared.SheetState.{SheetState}
-use Rattle.sheet_format.specs.Record.{Kind, tableRecord, packedRecord, plainRecord, lineRecord, unknown, kindOf, kindNumber, placeNumber, Lent, nothing, lent, roomNumber, recordNumber}
+use Rattle.sheet_format.specs.Record.{bodyOf, Kind, tableRecord, packedRecord, plainRecord, lineRecord, unknown, kindOf, kindNumber, placeNumber, Lent, nothing, lent, roomNumber, recordNumber}
 use Rattle.sheet_format.specs.Record.Laws.{refuseIf-zero, lessNumber-zero, lessNumber-none, kindOf-known, contentNumber-passed}
 use Rattle.sheet_format.specs.Reading.{stateAfter, recordHeld, recordContent, ReadOutcome, recordJudged, recordRead}
 use Rattle.sheet_format.specs.Writing.{givenPixels, givenNumbers, bodyFor, recordBytes, tooHigh, givenNumber, writeNumber, WriteOutcome, writtenUnless, recordWritten}
@@ -44,15 +44,15 @@ body-back unknown row tb c small bytes known given = absurd (omega arith)
 
 module _ (code row : ℕ) (tb c : List ℕ) (st : SheetState) (small : row < 65536) (bytes : Below 256 c)
     (w : Writable code row tb c st) (rest : List ℕ) where
-  body : List ℕ
-  body = bodyFor (kindOf code) row tb c
-
   back : Back (kindOf code) row tb c (bodyFor (kindOf code) row tb c)
   back = body-back (kindOf code) row tb c small bytes (w .known) (w .given)
 
   found : Fields (recordBytes code (bodyFor (kindOf code) row tb c) ++ rest) code (bodyFor (kindOf code) row tb c)
   found =
       fields-recordBytes code (bodyFor (kindOf code) row tb c) rest (omega (arith, kindOf-known code (w .known))) (back .short)
+
+  pub bodyOf-back : bodyOf (recordBytes code (bodyFor (kindOf code) row tb c) ++ rest) ≡ bodyFor (kindOf code) row tb c
+  bodyOf-back = found .body
 
   pub recordNumber-back : (m : Lent) → roomNumber m (length (contentGiven (kindOf code) c)) ≡ 0
       → recordNumber m tb (recordBytes code (bodyFor (kindOf code) row tb c) ++ rest) st ≡ 0

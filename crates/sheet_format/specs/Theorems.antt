@@ -8,3 +8,4 @@ pub mod Room
 pub mod Rising
 pub mod TableFirst
 pub mod Sheets
+pub mod Numbers

@@ -9,9 +9,10 @@ use Rattle.bitstream.specs.Bits.Laws.{Below}
 use Rattle.row_format.specs.Row.{rowBits}
 use Rattle.sheet_format.specs.declared.SheetState.{SheetState}
 use Rattle.sheet_format.specs.declared.RecordRead.{RecordRead}
+use Rattle.sheet_format.specs.declared.RecordWritten.{RecordWritten}
 use Rattle.sheet_format.specs.Record.{Kind, tableRecord, packedRecord, plainRecord, lineRecord, unknown, kindOf}
-use Rattle.sheet_format.specs.Reading.{stateAfter, tableAfter}
-use Rattle.sheet_format.specs.Writing.{givenPixels, givenNumbers, bodyFor, recordBytes, WriteOutcome, recordWritten}
+use Rattle.sheet_format.specs.Reading.{tableAfter}
+use Rattle.sheet_format.specs.Writing.{givenPixels, givenNumbers, WriteOutcome, recordWritten}
 use Rattle.sheet_format.specs.Sheet.{SheetRecord}
 
 abbrev pub rowGiven : Kind → ℕ → ℕ
@@ -43,8 +44,9 @@ contentGiven plainRecord c = take (2 * length (givenPixels c)) c
 contentGiven lineRecord c = take (4 * length (givenNumbers c)) c
 contentGiven unknown c = []
 
-abbrev pub recordGiven : ℕ → ℕ → List ℕ → List ℕ → SheetState → RecordRead
-recordGiven code row tb c st =
+-- a is what the writer answered: its count is the record's length, its state is the sheet's after the record
+abbrev pub recordGiven : ℕ → ℕ → List ℕ → List ℕ → RecordWritten → RecordRead
+recordGiven code row tb c a =
     record {
       number = 0;
       kind = code;
@@ -52,8 +54,8 @@ recordGiven code row tb c st =
       count = countGiven (kindOf code) c;
       bits = bitsGiven (kindOf code) tb c;
       words = wordsFor (bitsGiven (kindOf code) tb c);
-      length = length (recordBytes code (bodyFor (kindOf code) row tb c));
-      state = stateAfter (kindOf code) row st
+      length = a .count;
+      state = a .state
     }
 
 -- ---- records written one after another
@@ -92,5 +94,5 @@ sheetBytes tb st (w ∷ ws) = bytesWritten tb st w ++ sheetBytes (tableGiven tb 
 unfoldable pub sheetGiven : List ℕ → SheetState → List Write → List SheetRecord
 sheetGiven tb st [] = []
 sheetGiven tb st (w ∷ ws) =
-    record { answer = recordGiven (w .kind) (w .row) tb (w .content) st; bytes = bytesWritten tb st w }
+    record { answer = recordGiven (w .kind) (w .row) tb (w .content) (writtenBy tb st w .answer); bytes = bytesWritten tb st w }
     ∷ sheetGiven (tableGiven tb w) (writtenBy tb st w .answer .state) ws

@@ -17,7 +17,7 @@ use Rattle.sheet_format.specs.Record.{bodyOf, Kind, tableRecord, packedR
 use Rattle.sheet_format.specs.Record.Laws.{refuseIf-zero, lessNumber-zero, lessNumber-none, kindOf-known, contentNumber-passed}
 use Rattle.sheet_format.specs.Reading.{stateAfter, recordHeld, recordContent, ReadOutcome, recordJudged, recordRead}
 use Rattle.sheet_format.specs.Writing.{givenPixels, givenNumbers, bodyFor, recordBytes, tooHigh, givenNumber, writeNumber, WriteOutcome, writtenUnless, recordWritten}
-use Rattle.sheet_format.specs.Writing.Laws.{Fields, fields-recordBytes, length-recordBytes, Writable, writable, recordWritten-number, recordWritten-front}
+use Rattle.sheet_format.specs.Writing.Laws.{Fields, fields-recordBytes, length-recordBytes, Writable, writable, doneAnswer}
 use Rattle.sheet_format.specs.Theorems.Given.{rowGiven, countGiven, bitsGiven, contentGiven, recordGiven}
 use Rattle.sheet_format.specs.Theorems.Bodies.{Back, table-back, packed-back, plain-back, line-back}
 
@@ -61,7 +61,7 @@ module _ (code row : ℕ) (tb c : List ℕ) (st : SheetState) (small : row < 655
       rw (found .right, found .body, found .kind, w .known)
       (contentNumber-passed (kindOf code) m tb (bodyFor (kindOf code) row tb c) st (back .passes m st (w .place) room))
 
-  pub recordHeld-back : recordHeld tb (recordBytes code (bodyFor (kindOf code) row tb c) ++ rest) st ≡ recordGiven code row tb c st
+  pub recordHeld-back : recordHeld tb (recordBytes code (bodyFor (kindOf code) row tb c) ++ rest) st ≡ recordGiven code row tb c (doneAnswer code row tb c st)
   unfolding recordHeld
   recordHeld-back =
       let size : 4 + (2 + length (bodyFor (kindOf code) row tb c)) ≡ length (recordBytes code (bodyFor (kindOf code) row tb c)) =
@@ -72,13 +72,13 @@ module _ (code row : ℕ) (tb c : List ℕ) (st : SheetState) (small : row < 655
   unfolding recordContent
   recordContent-back = rw (found .body, found .kind, back .content)
 
-  pub recordJudged-back : recordJudged tb (recordBytes code (bodyFor (kindOf code) row tb c) ++ rest) st ≡ recordGiven code row tb c st
+  pub recordJudged-back : recordJudged tb (recordBytes code (bodyFor (kindOf code) row tb c) ++ rest) st ≡ recordGiven code row tb c (doneAnswer code row tb c st)
   unfolding recordJudged
   recordJudged-back = rw (recordNumber-back nothing refl, recordHeld-back)
 
   pub recordRead-back : (m : List ℕ) → length (contentGiven (kindOf code) c) ≤ length m
       → recordRead tb (recordBytes code (bodyFor (kindOf code) row tb c) ++ rest) st m
-      ≡ record { answer = recordGiven code row tb c st; memory = contentGiven (kindOf code) c ++ drop (length (contentGiven (kindOf code) c)) m }
+      ≡ record { answer = recordGiven code row tb c (doneAnswer code row tb c st); memory = contentGiven (kindOf code) c ++ drop (length (contentGiven (kindOf code) c)) m }
   unfolding recordRead
   recordRead-back m room =
       rw (recordNumber-back (lent (length m)) (lessNumber-none (length m) (length (contentGiven (kindOf code) c)) 5 room), recordHeld-back, recordContent-back)

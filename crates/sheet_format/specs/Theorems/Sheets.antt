@@ -8,9 +8,9 @@ use lib.Seq.{take-append-seam, drop-append-seam}
 use Rattle.sheet_format.specs.declared.SheetState.{SheetState}
 use Rattle.sheet_format.specs.declared.RecordRead.{RecordRead}
 use Rattle.sheet_format.specs.Record.{bodyOf, Kind, tableRecord, packedRecord, plainRecord, lineRecord, unknown, kindOf}
-use Rattle.sheet_format.specs.Reading.{newSheet, stateAfter, tableAfter, recordJudged}
+use Rattle.sheet_format.specs.Reading.{newSheet, tableAfter, recordJudged}
 use Rattle.sheet_format.specs.Writing.{bodyFor, recordBytes, writeNumber, WriteOutcome, writtenUnless, recordWritten}
-use Rattle.sheet_format.specs.Writing.Laws.{length-recordBytes, Writable, writable, recordWritten-number, recordWritten-done, recordWritten-front}
+use Rattle.sheet_format.specs.Writing.Laws.{length-recordBytes, Writable, writable, recordWritten-number, recordWritten-answer, recordWritten-front, doneAnswer}
 use Rattle.sheet_format.specs.Sheet.{SheetRecord, SheetRead, endsWith, putFirst, sheetRead}
 use Rattle.sheet_format.specs.Sheet.Laws.{tableNext, restNext, recordHere, records, records-end, records-more}
 use Rattle.sheet_format.specs.Theorems.Given.{recordGiven, Write, writtenBy, tableGiven, bytesWritten, Done, AllDone, sheetBytes, sheetGiven}
@@ -36,6 +36,11 @@ fromHere tb r a =
     putFirst (record { answer = a; bytes = take (a .length) r })
     (records (tableAfter (kindOf (a .kind)) tb (bodyOf r)) (a .state) (drop (a .length) r))
 
+-- the record as it is to be read
+abbrev written : List ℕ → SheetState → Write → SheetRecord
+written tb st w =
+    record { answer = recordGiven (w .kind) (w .row) tb (w .content) (writtenBy tb st w .answer); bytes = bytesWritten tb st w }
+
 -- the bytes of the record that is written
 abbrev whole : List ℕ → Write → List ℕ
 whole tb w = recordBytes (w .kind) (bodyFor (kindOf (w .kind)) (w .row) tb (w .content))
@@ -54,25 +59,26 @@ module _ (tb : List ℕ) (st : SheetState) (w : Write) (d : Done tb st w) where
   bytes-written : bytesWritten tb st w ≡ whole tb w
   bytes-written = recordWritten-front (w .kind) (w .row) tb (w .content) st (w .memory) number
 
-  state-written : writtenBy tb st w .answer .state ≡ stateAfter (kindOf (w .kind)) (w .row) st
-  state-written = rw (recordWritten-done (w .kind) (w .row) tb (w .content) st (w .memory) number)
+  answer-written : writtenBy tb st w .answer ≡ doneAnswer (w .kind) (w .row) tb (w .content) st
+  answer-written = recordWritten-answer (w .kind) (w .row) tb (w .content) st (w .memory) number
 
   module _ (rest : List ℕ) where
-    back : recordJudged tb (whole tb w ++ rest) st ≡ recordGiven (w .kind) (w .row) tb (w .content) st
-    back = recordJudged-back (w .kind) (w .row) tb (w .content) st (d .small) (d .bytes) can rest
+    back : recordJudged tb (whole tb w ++ rest) st ≡ recordGiven (w .kind) (w .row) tb (w .content) (writtenBy tb st w .answer)
+    back = rw answer-written (recordJudged-back (w .kind) (w .row) tb (w .content) st (d .small) (d .bytes) can rest)
+
+    size : writtenBy tb st w .answer .count ≡ length (whole tb w)
+    size = rw answer-written
 
     table : tableAfter (kindOf (w .kind)) tb (bodyOf (whole tb w ++ rest)) ≡ tableGiven tb w
     table =
         rw (bodyOf-back (w .kind) (w .row) tb (w .content) st (d .small) (d .bytes) can rest)
         (table-same (kindOf (w .kind)) (w .row) tb (w .content))
 
-    written-first : records tb st (whole tb w ++ rest)
-        ≡ putFirst (record { answer = recordGiven (w .kind) (w .row) tb (w .content) st; bytes = whole tb w })
-        (records (tableGiven tb w) (stateAfter (kindOf (w .kind)) (w .row) st) rest)
+    written-first : records tb st (whole tb w ++ rest) ≡ putFirst (written tb st w) (records (tableGiven tb w) (writtenBy tb st w .answer .state) rest)
     written-first =
         records-accepted tb st (whole tb w ++ rest) (whole-some tb w rest) (ap (λ (a : RecordRead). a .number) back)
         ∙ ap (fromHere tb (whole tb w ++ rest)) back
-        ∙ rw (take-append-seam (whole tb w) rest, drop-append-seam (whole tb w) rest, table)
+        ∙ rw (bytes-written, size, take-append-seam (whole tb w) rest, drop-append-seam (whole tb w) rest, table)
 
 pub records-written : (tb : List ℕ) (st : SheetState) (ws : List Write) → AllDone tb st ws
     → records tb st (sheetBytes tb st ws) ≡ record { records = sheetGiven tb st ws; number = 0 }
@@ -80,12 +86,10 @@ unfolding sheetBytes sheetGiven
 records-written tb st [] d = records-end tb st
 records-written tb st (w ∷ ws) d =
     let st′ = writtenBy tb st w .answer .state in
-    let first : SheetRecord = record { answer = recordGiven (w .kind) (w .row) tb (w .content) st; bytes = whole tb w } in
     let rest = sheetBytes (tableGiven tb w) st′ ws in
-    rw (bytes-written tb st w (d .0))
-    (written-first tb st w (d .0) rest
-    ∙ ap (λ (s : SheetState). putFirst first (records (tableGiven tb w) s rest)) (sym (state-written tb st w (d .0)))
-    ∙ ap (putFirst first) (records-written (tableGiven tb w) st′ ws (d .1)))
+    ap (λ (b : List ℕ). records tb st (b ++ rest)) (bytes-written tb st w (d .0))
+    ∙ written-first tb st w (d .0) rest
+    ∙ ap (putFirst (written tb st w)) (records-written (tableGiven tb w) st′ ws (d .1))
 
 sheetRead-records : (s : List ℕ) → 0 < length s → sheetRead s ≡ records [] newSheet s
 unfolding sheetRead

@@ -14,6 +14,7 @@ use Rattle.row_format.specs.BitLaws.{pad-within}
 use Rattle.answer.specs.Outcome.{refuseIf}
 use Rattle.row_format.specs.Calls.Laws.{orElse-zero-left, orElse-zero-right}
 use Rattle.sheet_format.specs.declared.SheetState.{SheetState}
+use Rattle.sheet_format.specs.declared.RecordWritten.{RecordWritten}
 use Rattle.sheet_format.specs.Record.{lengthField, kindField, bodyOf, kindOf, lengthNumber, kindNumber, placeNumber}
 use Rattle.sheet_format.specs.Record.Laws.{lessNumber-zero}
 use Rattle.sheet_format.specs.Reading.{stateAfter}
@@ -110,6 +111,15 @@ pub writtenUnless-number : (e : ℕ) (st : SheetState) (m : List ℕ) (st′ : S
 writtenUnless-number zero st m st′ b = refl
 writtenUnless-number (suc e) st m st′ b = refl
 
+-- what a done write answers
+abbrev pub doneAnswer : ℕ → ℕ → List ℕ → List ℕ → SheetState → RecordWritten
+doneAnswer code row tb c st =
+    record {
+      number = 0;
+      count = length (recordBytes code (bodyFor (kindOf code) row tb c));
+      state = stateAfter (kindOf code) row st
+    }
+
 -- ---- what a done write passed
 pub record Writable (code row : ℕ) (tb c : List ℕ) (st : SheetState) : Type 0 where
   pub known : kindNumber (kindOf code) ≡ 0
@@ -152,6 +162,9 @@ module _ (code row : ℕ) (tb c : List ℕ) (st : SheetState) where
         → recordWritten code row tb c st m ≡ writtenUnless 0 st m (stateAfter (kindOf code) row st) (recordBytes code (bodyFor (kindOf code) row tb c))
     unfolding recordWritten
     recordWritten-done e = rw e
+
+    pub recordWritten-answer : writeNumber code row tb c st (length m) ≡ 0 → recordWritten code row tb c st m .answer ≡ doneAnswer code row tb c st
+    recordWritten-answer e = rw (recordWritten-done e)
 
     pub recordWritten-refused : (e : ℕ) → writeNumber code row tb c st (length m) ≡ suc e
         → recordWritten code row tb c st m ≡ writtenUnless (suc e) st m (stateAfter (kindOf code) row st) (recordBytes code (bodyFor (kindOf code) row tb c))

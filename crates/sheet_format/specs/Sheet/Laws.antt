@@ -37,6 +37,10 @@ fromRecord-accepted : (y : ℕ) (r : List ℕ) (e : ℕ) (x : SheetRecord) (rest
 fromRecord-accepted y r zero x rest h = refl
 fromRecord-accepted y r (suc e) x rest h = absurd (omega arith)
 
+fromRecord-refused : (y : ℕ) (r : List ℕ) (e : ℕ) (x : SheetRecord) (rest : SheetRead) → (e ≡ 0 → ⊥) → fromRecord (y ∷ r) e x rest ≡ endsWith e
+fromRecord-refused y r zero x rest h = absurd (h refl)
+fromRecord-refused y r (suc e) x rest h = refl
+
 -- what follows a record
 abbrev pub tableNext : List ℕ → List ℕ → SheetState → List ℕ
 tableNext tb r st = tableAfter (kindOf (recordJudged tb r st .kind)) tb (bodyOf r)
@@ -75,10 +79,10 @@ records tb st r = recordsFrom (length r) tb st r
 pub records-end : (tb : List ℕ) (st : SheetState) → records tb st [] ≡ endsWith 0
 records-end tb st = recordsFrom-nil 0 tb st
 
-pub records-refused : (tb : List ℕ) (st : SheetState) (x : ℕ) (r : List ℕ) (e : ℕ) → recordJudged tb (x ∷ r) st .number ≡ suc e
-    → records tb st (x ∷ r) ≡ endsWith (suc e)
+pub records-refused : (tb : List ℕ) (st : SheetState) (x : ℕ) (r : List ℕ) → (recordJudged tb (x ∷ r) st .number ≡ 0 → ⊥)
+    → records tb st (x ∷ r) ≡ endsWith (recordJudged tb (x ∷ r) st .number)
 unfolding recordsFrom
-records-refused tb st x r e h = rw h
+records-refused tb st x r h = fromRecord-refused x r (recordJudged tb (x ∷ r) st .number) (recordHere tb (x ∷ r) st) _ h
 
 pub records-more : (tb : List ℕ) (st : SheetState) (x : ℕ) (r : List ℕ) → recordJudged tb (x ∷ r) st .number ≡ 0
     → records tb st (x ∷ r) ≡ putFirst (recordHere tb (x ∷ r) st) (records (tableNext tb (x ∷ r) st) (recordJudged tb (x ∷ r) st .state) (restNext tb (x ∷ r) st))

@@ -22,7 +22,7 @@ use Rattle.sheet_format.specs.Record.{lengthField, kindField, bodyOf, Ki
 use Rattle.sheet_format.specs.Writing.{givenPixels, givenNumbers, bodyFor, recordBytes, tooHigh, givenNumber, writeNumber}
 
 module _ (P : ℕ → Type 0) (p0 : P 0) where
-  refuseIf-in : (b : Bool) (e : ℕ) → P e → P (refuseIf b e)
+  pub refuseIf-in : (b : Bool) (e : ℕ) → P e → P (refuseIf b e)
   refuseIf-in true e given = given
   refuseIf-in false e given = p0
 

@@ -16,6 +16,12 @@ use Rattle.row_format.specs.Calls.Laws.{orElse-zero-left, orElse-zero-right}
 use Rattle.sheet_format.specs.declared.SheetState.{SheetState}
 use Rattle.sheet_format.specs.Record.{lengthField, kindField, bodyOf, Kind, tableRecord, packedRecord, plainRecord, lineRecord, unknown, kindOf, rowNumber, lengthNumber, kindNumber, shorterThan, notWords, fixedNumber, noTable, notRisen, placeNumber, Lent, nothing, lent, roomNumber, bodyNumber, leftoverNumber, lastRoomNumber, contentNumber, recordNumber}
 
+-- ---- refusals in order
+-- after a refusal what follows is not looked at
+pub orElse-same : (a x y : ℕ) → (a ≡ 0 → x ≡ y) → a orElse x ≡ a orElse y
+orElse-same zero x y h = h refl
+orElse-same (suc a) x y h = refl
+
 -- ---- one refusal
 pub refuseIf-zero : (b : Bool) (e : ℕ) → refuseIf b (suc e) ≡ 0 → b ≡ false
 refuseIf-zero b e h = cond-zero-test b e 0 h

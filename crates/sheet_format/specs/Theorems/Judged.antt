@@ -25,7 +25,8 @@ use Rattle.sheet_format.specs.declared.RecordRead.{RecordRead}
 use Rattle.sheet_format.specs.Line.{Line, numbers, faulty, wordOf, readLine}
 use Rattle.sheet_format.specs.Line.Laws.{Gives, readLine-gives}
 use Rattle.sheet_format.specs.Record.{kindField, bodyOf, Kind, tableRecord, packedRecord, plainRecord, lineRecord, unknown, kindOf, rowNumber, pixelCount, rowContent, numberCount, lineContent, runOf, lineOf, kindNumber, lengthNumber, fixedNumber, placeNumber, Lent, nothing, lent, roomNumber, runNumber, packedNumber, plainNumber, faultNumber, lineNumber, bodyNumber, leftoverNumber, lastRoomNumber, contentNumber, recordNumber}
-use Rattle.sheet_format.specs.Record.Laws.{lessNumber-zero, lessNumber-none, lessNumber-given, unequalNumber-zero, Passed, passed, contentNumber-passed, Read, recordNumber-read}
+use Rattle.sheet_format.specs.Record.Laws.{orElse-same, lessNumber-zero, lessNumber-none, lessNumber-given, unequalNumber-zero, Passed, passed, contentNumber-passed, Read, recordNumber-read}
+use Rattle.sheet_format.specs.Record.Rows.{packedNumber-enough}
 use Rattle.sheet_format.specs.Reading.{countHeld, contentHeld, pixelBytes, numberBytes, recordHeld, recordContent, heldUnless, ReadOutcome, readUnless, recordJudged, recordRead}
 use Rattle.sheet_format.specs.Reading.Laws.{recordRead-answer}
 
@@ -135,10 +136,6 @@ module _ (m m′ : Lent) (tb b : List ℕ) (st : SheetState) where
       record { fixed = p .fixed; place = p .place; body = p .body; leftover = p .leftover; room = refl }
 
 -- ---- memory that is always enough
-orElse-same : (a x y : ℕ) → (a ≡ 0 → x ≡ y) → a orElse x ≡ a orElse y
-orElse-same zero x y h = h refl
-orElse-same (suc a) x y h = refl
-
 module _ (n : ℕ) (enough : 16384 ≤ n) (tb b : List ℕ) where
   few-enough : (k : ℕ) → k ≤ 4 → (p : ℕ) → tooMany p ≡ 0 → roomNumber (lent n) (k * p) ≡ 0
   few-enough k h p e =
@@ -149,8 +146,7 @@ module _ (n : ℕ) (enough : 16384 ≤ n) (tb b : List ℕ) where
   body-enough : (k : Kind) → bodyNumber k (lent n) tb b ≡ bodyNumber k nothing tb b
   unfolding bodyNumber
   body-enough tableRecord = refl
-  body-enough packedRecord =
-      ap (tableNumber tb orElse_) (orElse-same (tooMany (pixelCount b)) _ _ (λ e. rw (few-enough 2 (omega arith) (pixelCount b) e)))
+  body-enough packedRecord = packedNumber-enough n (omega arith) tb b
   body-enough plainRecord = refl
   body-enough lineRecord = refl
   body-enough unknown = refl

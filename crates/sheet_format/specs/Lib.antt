@@ -4,3 +4,4 @@ pub mod Reading
 pub mod Writing
 pub mod Sheet
 pub mod Theorems
+pub mod Cases

@@ -14,8 +14,8 @@ use Rattle.sheet_format.specs.declared.SheetState.{SheetState}
 use Rattle.sheet_format.specs.Line.{lineBytes, readLine}
 use Rattle.sheet_format.specs.Record.{lengthNumber, kindNumber, fixedNumber, placeNumber, Lent, nothing, lent, bodyNumber, leftoverNumber, lastRoomNumber, contentNumber, recordNumber}
 use Rattle.sheet_format.specs.Reading.{newSheet, recordHeld, recordContent, recordJudged, recordRead}
-use Rattle.sheet_format.specs.Writing.{bodyFor, recordBytes, givenNumber, writeNumber, WriteOutcome, recordWritten}
-use Rattle.sheet_format.specs.Sheet.{SheetRead, recordsFrom, sheetRead}
+use Rattle.sheet_format.specs.Writing.{bodyFor, recordBytes, givenNumber, writeNumber, recordWritten}
+use Rattle.sheet_format.specs.Sheet.{recordsFrom, sheetRead}
 
 -- the words 7, 4093, 1, 34, 99, 227, 1
 abbrev pub smallTable : List ℕ

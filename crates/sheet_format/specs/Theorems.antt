@@ -1,8 +1,9 @@
 -- The theorems about records and sheets, in document 01's words; the files below prove them. tb is the bytes of the sheet's
 -- table, r the sheet's bytes from a record's place on, c the content that the record writer is given, m the memory lent for
 -- writing, as it was, and st what the sheet holds so far. Assumes nothing.
-use Prim.Native.Nat.{ℕ, _+_, _*_, _≤_, _<_}
-use mathlib.Core.Path.{_≡_, refl, sym, _∙_}
+use Prim.Native.Nat.{ℕ, _+_, _≤_, _<_}
+use native.Mathlib.Omega.{arith}
+use mathlib.Core.Path.{_≡_, refl, sym, ap, _∙_}
 use mathlib.Core.Bool.{true}
 use mathlib.Core.List.{List, [], _∷_, _++_}
 use mathlib.Core.Logic.{_↔_}
@@ -12,22 +13,22 @@ use Rattle.bitstream.specs.Bits.Laws.{Below}
 use Rattle.row_format.specs.Lists.{any}
 use Rattle.sheet_format.specs.declared.SheetState.{SheetState}
 use Rattle.sheet_format.specs.declared.RecordRead.{RecordRead}
-use Rattle.sheet_format.specs.Record.{lengthField, kindOf, lengthNumber, nothing, lent}
-use Rattle.sheet_format.specs.Record.Laws.{right-length}
-use Rattle.sheet_format.specs.Reading.{newSheet, refusedRecord, ReadOutcome, recordContent, recordJudged, recordRead}
+use Rattle.sheet_format.specs.Record.{lengthField, kindOf, lengthNumber, nothing, lent, recordSpan}
+use Rattle.sheet_format.specs.Record.Laws.{lessNumber-none, lessNumber-given, right-length}
+use Rattle.sheet_format.specs.Reading.{newSheet, answerBytes, refusedRecord, recordContent, recordJudged, recordRead}
 use Rattle.sheet_format.specs.Reading.Laws.{recordJudged-number, recordRead-number}
-use Rattle.sheet_format.specs.Writing.{WriteOutcome, recordWritten}
-use Rattle.sheet_format.specs.Writing.Laws.{recordWritten-number, recordWritten-front, recordWritten-answer, writable}
-use Rattle.sheet_format.specs.Sheet.{SheetRead, endsWith, putFirst, sheetRead}
+use Rattle.sheet_format.specs.Writing.{bodyFor, recordBytes, recordWritten}
+use Rattle.sheet_format.specs.Writing.Laws.{recordWritten-number, recordWritten-front, recordWritten-answer, Writable, writable, writeNumber-writable}
+use Rattle.sheet_format.specs.Sheet.{endsWith, putFirst, sheetRead, recordKinds, rowNumbers}
 use Rattle.sheet_format.specs.Sheet.Laws.{judged-length, records, records-end, records-refused, records-more, recordHere, tableNext, restNext}
 use Given.{contentGiven, recordGiven, Write, AllDone, sheetBytes, sheetGiven}
 use ReadBack.{recordRead-back, recordJudged-back}
 use Memory.{Within, WriteKept, recordWritten-kept, recordWritten-within, recordJudged-refused, recordRead-refused}
-use Locality.{alike, recordRead-alike, recordJudged-alike, recordSpan, span-same, recordRead-same, recordJudged-same}
+use Locality.{alike, recordRead-alike, recordJudged-alike, span-same, recordRead-same, recordJudged-same}
 use Judged.{recordRead-judged}
-use Room.{answerBytes, recordRead-granted, recordRead-full, recordRead-within}
-use Rising.{rowNumbers, sheetRead-rising}
-use TableFirst.{recordKinds, sheetRead-table-first}
+use Room.{recordRead-granted, recordRead-full, recordRead-within}
+use Rising.{sheetRead-rising}
+use TableFirst.{sheetRead-table-first}
 use Sheets.{sheetRead-written}
 use Numbers.{refuseIf-in, recordNumber-in, writeNumber-in}
 pub mod Given
@@ -65,6 +66,18 @@ module _ (code row : ℕ) (tb c : List ℕ) (st : SheetState) (m : List ℕ) (sm
       let e = sym (recordWritten-number code row tb c st m) ∙ done in
       rw (recordWritten-front code row tb c st m e, recordWritten-answer code row tb c st m e)
       (recordJudged-back code row tb c st small bytes (writable code row tb c st (length m) e) rest)
+
+  -- it is 6 to 32778 bytes
+  pub written-length :
+      let w = recordWritten code row tb c st m in
+      (6 ≤ w .answer .count) × (w .answer .count ≤ 32778)
+  written-length =
+      let w = recordWritten code row tb c st m in
+      let front = take (w .answer .count) (w .memory) ++ [] in
+      let same = written-judged [] in
+      let size : recordJudged tb front st .length ≡ w .answer .count = ap (λ (a : RecordRead). a .length) same in
+      let h = judged-length tb front st (ap (λ (a : RecordRead). a .number) same) in
+      omega (arith, h .0, h .1)
 
 -- A sheet of written records, each done in the state that the one before left, is accepted, and its records are those.
 pub written-sheet : (w : Write) (ws : List Write) → AllDone [] newSheet (w ∷ ws)
@@ -132,6 +145,16 @@ module _ (tb r : List ℕ) (st : SheetState) (m : List ℕ) (ok : recordJudged t
 
   pub read-refused-room : length m < answerBytes (recordJudged tb r st) → recordRead tb r st m .answer .number ≡ 5
   read-refused-room = recordRead-full tb r st m ok
+
+-- Writing, where no other refusal is given, is refused 5 exactly when fewer bytes are lent than the whole record's.
+module _ (code row : ℕ) (tb c : List ℕ) (st : SheetState) (m : List ℕ) (ok : Writable code row tb c st) where
+  pub written-granted : length (recordBytes code (bodyFor (kindOf code) row tb c)) ≤ length m → recordWritten code row tb c st m .answer .number ≡ 0
+  written-granted h =
+      recordWritten-number code row tb c st m ∙ writeNumber-writable code row tb c st (length m) ok ∙ lessNumber-none (length m) _ 5 h
+
+  pub written-refused-room : length m < length (recordBytes code (bodyFor (kindOf code) row tb c)) → recordWritten code row tb c st m .answer .number ≡ 5
+  written-refused-room h =
+      recordWritten-number code row tb c st m ∙ writeNumber-writable code row tb c st (length m) ok ∙ lessNumber-given (length m) _ 5 h
 
 -- ---- demand 1
 -- "each call .. answers with a number from document 01", and its order lists which: judging never gives 5

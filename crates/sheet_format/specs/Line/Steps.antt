@@ -1,18 +1,18 @@
 -- A line read and written one number after another: for loops. Assumes nothing.
-use Prim.Native.Nat.{ℕ, zero, suc, _+_, _-_, _*_, _≤_, _<_}
+use Prim.Native.Nat.{ℕ, suc, _+_, _*_}
 use native.Mathlib.Nat.{add-assoc, add-zero, zero-add}
 use native.Mathlib.Omega.{arith}
-use mathlib.Core.Path.{_≡_, refl, sym, ap, ap₂, _∙_, subst}
+use mathlib.Core.Path.{_≡_, refl, sym, ap, ap₂, _∙_}
 use mathlib.Core.List.{List, [], _∷_, _++_, append-assoc, append-nil, map, map-append}
-use lib.ListN.{length, take, drop, length-append, length-map}
+use lib.ListN.{length, drop, length-append, length-map}
 use lib.Seq.{drop-drop}
 use lib.IntN.{ℤ}
-use Rattle.bitstream.specs.Bits.{digits, flat, cut, bytesOf}
+use Rattle.bitstream.specs.Bits.{digits, flat, bytesOf}
 use Rattle.bitstream.specs.Bits.Laws.{length-flat, flat-append, cut-append}
 use Rattle.adaptive.specs.Number.{Reading, accepted, rejected, signed, readAs, shortest}
 use Rattle.adaptive.specs.Calls.{signedRead, signedAnswer}
 use Rattle.adaptive.specs.Number.Read.{readAs-rejected}
-use Rattle.sheet_format.specs.Line.{wordOf, lineBytes, Line, numbers, faulty, prepend, follow, readLine}
+use Rattle.sheet_format.specs.Line.{wordOf, lineBytes, Line, numbers, faulty, prepend, readLine}
 
 -- ---- reading
 -- a line after the numbers vs, of u bytes

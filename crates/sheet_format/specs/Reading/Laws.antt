@@ -1,12 +1,12 @@
 -- The laws of the record calls' answers: their numbers, and what they answer where done. Assumes nothing.
 use Prim.Native.Nat.{ℕ, zero, suc}
-use mathlib.Core.Path.{_≡_, refl, sym, _∙_}
+use mathlib.Core.Path.{_≡_, refl}
 use mathlib.Core.List.{List, _++_}
 use lib.ListN.{length, drop}
 use Rattle.sheet_format.specs.declared.SheetState.{SheetState}
 use Rattle.sheet_format.specs.declared.RecordRead.{RecordRead}
 use Rattle.sheet_format.specs.Record.{nothing, lent, recordNumber}
-use Rattle.sheet_format.specs.Reading.{recordHeld, recordContent, heldUnless, ReadOutcome, readUnless, recordJudged, recordRead}
+use Rattle.sheet_format.specs.Reading.{recordHeld, recordContent, heldUnless, readUnless, recordJudged, recordRead}
 
 readUnless-answer : (e : ℕ) (st : SheetState) (m : List ℕ) (a : RecordRead) (c : List ℕ) → readUnless e st m a c .answer ≡ heldUnless e st a
 readUnless-answer zero st m a c = refl

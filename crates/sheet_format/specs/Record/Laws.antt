@@ -1,20 +1,19 @@
 -- The laws of a record's number: it is 0 exactly where each of its parts is. Assumes nothing.
-use Prim.Native.Nat.{ℕ, zero, suc, _+_, _-_, _*_, _/_, _%_, _≤_, _<_}
+use Prim.Native.Nat.{ℕ, zero, suc, _+_, _≤_, _<_}
 use native.Mathlib.Decide.{decLt}
 use native.Mathlib.Omega.{arith}
-use mathlib.Core.Path.{_≡_, refl, sym, _∙_}
+use mathlib.Core.Path.{_≡_, refl}
 use mathlib.Core.Logic.{by-cases}
-use mathlib.Core.Bool.{Bool, true, false, not}
-use mathlib.Core.List.{List, [], _∷_, _++_}
-use lib.ListN.{length, take, drop}
+use mathlib.Core.Bool.{Bool, false, not}
+use mathlib.Core.List.{List}
+use lib.ListN.{length}
 use lib.Dec.{ltb, eqb}
 use borrow.Author.Tests.{ltb-false, lt-ltb, le-ltb, eqb-true, eq-eqb, ne-eqb, not-false}
 use Rattle.answer.specs.Outcome.{_orElse_, refuseIf}
 use Rattle.row_format.specs.Lists.Laws.{cond-zero-test}
-use Rattle.row_format.specs.Calls.{tooMany}
 use Rattle.row_format.specs.Calls.Laws.{orElse-zero-left, orElse-zero-right}
 use Rattle.sheet_format.specs.declared.SheetState.{SheetState}
-use Rattle.sheet_format.specs.Record.{lengthField, kindField, bodyOf, Kind, tableRecord, packedRecord, plainRecord, lineRecord, unknown, kindOf, rowNumber, lengthNumber, kindNumber, shorterThan, notWords, fixedNumber, noTable, notRisen, placeNumber, Lent, nothing, lent, roomNumber, bodyNumber, leftoverNumber, lastRoomNumber, contentNumber, recordNumber}
+use Rattle.sheet_format.specs.Record.{lengthField, kindField, bodyOf, Kind, unknown, kindOf, rowNumber, lengthNumber, kindNumber, fixedNumber, placeNumber, Lent, bodyNumber, leftoverNumber, lastRoomNumber, contentNumber, recordNumber}
 
 -- ---- refusals in order
 -- after a refusal what follows is not looked at

@@ -1,21 +1,21 @@
 -- A packed row's part of a record's number and content, by the row call: for code that judges and reads it by unpacking.
 -- Assumes nothing.
-use Prim.Native.Nat.{ℕ, zero, suc, _+_, _-_, _*_, _/_, _≤_, _<_}
+use Prim.Native.Nat.{ℕ, zero, suc, _*_, _/_, _≤_, _<_}
 use native.Mathlib.Decide.{decLt}
 use native.Mathlib.Omega.{arith}
 use mathlib.Core.Path.{_≡_, refl, sym, ap, _∙_}
 use mathlib.Core.Logic.{by-cases}
-use mathlib.Core.List.{List, [], _++_}
-use lib.ListN.{length, drop}
+use mathlib.Core.List.{List}
+use lib.ListN.{length}
 use lib.Dec.{ltb}
 use borrow.Author.Tests.{lt-ltb, le-ltb}
 use Rattle.bitstream.specs.Bits.{wordsOf, stream}
 use Rattle.answer.specs.Outcome.{Outcome, refused, wrote, _orElse_, refuseIf, unless}
 use Rattle.row_format.specs.Table.{tableNumber}
-use Rattle.row_format.specs.Reading.{Run, done, stop, readItems}
+use Rattle.row_format.specs.Reading.{Run, done, stop}
 use Rattle.row_format.specs.Calls.{tooMany, afterRun, unpackNumber, unpacked}
 use Rattle.row_format.specs.Theorems.Numbers.{StopIn, readItems-in}
-use Rattle.sheet_format.specs.Record.{pixelCount, rowContent, runOf, bitsOfRun, nothing, lent, roomNumber, runNumber, packedNumber}
+use Rattle.sheet_format.specs.Record.{pixelCount, rowContent, runOf, bitsOfRun, nothing, lent, runNumber, packedNumber}
 use Rattle.sheet_format.specs.Record.Laws.{orElse-same, lessNumber-zero, lessNumber-none}
 use Rattle.sheet_format.specs.Reading.{pixelBytes}
 

@@ -1,13 +1,12 @@
 -- The laws of a sheet's records: the equations that a reader expects, without the bound on their count. Assumes nothing.
-use Prim.Native.Nat.{ℕ, zero, suc, _+_, _-_, _≤_, _<_}
+use Prim.Native.Nat.{ℕ, zero, suc, _≤_}
 use native.Mathlib.Omega.{arith}
-use mathlib.Core.Path.{_≡_, refl, sym, ap, _∙_, subst}
+use mathlib.Core.Path.{_≡_, refl, sym, ap, _∙_}
 use mathlib.Core.List.{List, [], _∷_}
 use lib.ListN.{length, take, drop, length-drop}
 use Rattle.sheet_format.specs.declared.SheetState.{SheetState}
-use Rattle.sheet_format.specs.declared.RecordRead.{RecordRead}
-use Rattle.sheet_format.specs.Record.{lengthField, bodyOf, kindOf, kindField, nothing, recordNumber}
-use Rattle.sheet_format.specs.Record.Laws.{Read, recordNumber-read}
+use Rattle.sheet_format.specs.Record.{bodyOf, kindOf, nothing}
+use Rattle.sheet_format.specs.Record.Laws.{recordNumber-read}
 use Rattle.sheet_format.specs.Reading.{tableAfter, recordHeld, recordJudged}
 use Rattle.sheet_format.specs.Reading.Laws.{recordJudged-number, recordJudged-done}
 use Rattle.sheet_format.specs.Sheet.{SheetRecord, SheetRead, endsWith, putFirst, fromRecord, recordsFrom}

@@ -1,20 +1,20 @@
 -- A body that was written is read back, kind by kind: no refusal but for room, and the content that was given.
 -- Assumes nothing.
-use Prim.Native.Nat.{ℕ, zero, suc, _+_, _-_, _*_, _/_, _%_, _^_, _≤_, _<_}
+use Prim.Native.Nat.{ℕ, _+_, _*_, _/_, _%_, _≤_, _<_}
 use native.Mathlib.Nat.{mul-le-mul-left}
 use native.Mathlib.Omega.{arith}
 use mathlib.Core.Path.{_≡_, refl, sym, ap, _∙_}
 use mathlib.Core.Bool.{false}
-use mathlib.Core.List.{List, [], _∷_, _++_, append-nil, map}
-use lib.ListN.{length, take, drop, length-append, length-map}
+use mathlib.Core.List.{List, [], _++_, append-nil}
+use lib.ListN.{length, take, length-append, length-map}
 use lib.Seq.{drop-drop, length-take-le}
 use lib.Dec.{ltb}
-use borrow.Author.Tests.{le-ltb, eq-eqb}
-use Rattle.bitstream.specs.Bits.{flat, numberOf, bitsOf, bytesOf, halvesOf, wordsOf, stream, wordsFor}
+use borrow.Author.Tests.{eq-eqb}
+use Rattle.bitstream.specs.Bits.{bitsOf, halvesOf, wordsOf, stream, wordsFor}
 use Rattle.bitstream.specs.Bits.Laws.{Below, below-flat, below-cut, length-cut}
 use Rattle.row_format.specs.Lists.{any}
 use Rattle.row_format.specs.BitLaws.{stream-bytesOf}
-use Rattle.row_format.specs.Table.{tableSize, tableNumber, maxItemBits}
+use Rattle.row_format.specs.Table.{tableNumber}
 use Rattle.row_format.specs.Table.Laws.{accepted, tableNumber-whole, tableNumber-verdict, maxItemBits-most}
 use Rattle.row_format.specs.Row.{fresh, itemsFor, rowBits}
 use Rattle.row_format.specs.Reading.{done, readItems, stray}
@@ -24,11 +24,11 @@ use Rattle.row_format.specs.Theorems.RoundTrip.{readItems-rowBits, pixelsOf-ite
 use Rattle.row_format.specs.Theorems.Words.{below-rowBits, stray-zeros, bytesOf-halvesOf, halvesOf-bytesOf}
 use Rattle.sheet_format.specs.declared.SheetState.{SheetState}
 use Rattle.sheet_format.specs.Line.{lineBytes, numbers, readLine}
-use Rattle.sheet_format.specs.Line.Laws.{InRange, in-range-signedOf, readLine-lineBytes, length-lineBytes, map-wordOf-signedOf, bytesOf-wordsOf}
-use Rattle.sheet_format.specs.Record.{Kind, tableRecord, packedRecord, plainRecord, lineRecord, unknown, rowNumber, pixelCount, rowContent, numberCount, lineContent, runOf, lineOf, kindNumber, fixedNumber, placeNumber, Lent, roomNumber, bodyNumber, leftoverNumber, lastRoomNumber}
+use Rattle.sheet_format.specs.Line.Laws.{in-range-signedOf, readLine-lineBytes, length-lineBytes, map-wordOf-signedOf, bytesOf-wordsOf}
+use Rattle.sheet_format.specs.Record.{Kind, tableRecord, packedRecord, plainRecord, lineRecord, rowNumber, pixelCount, rowContent, numberCount, lineContent, runOf, lineOf, fixedNumber, placeNumber, Lent, roomNumber, bodyNumber, leftoverNumber, lastRoomNumber}
 use Rattle.sheet_format.specs.Record.Laws.{Passed, lessNumber-none, unequalNumber-none}
 use Rattle.sheet_format.specs.Reading.{stateAfter, rowHeld, countHeld, bitsHeld, contentHeld}
-use Rattle.sheet_format.specs.Writing.{givenPixels, givenNumbers, twoBytes, bodyFor, givenNumber}
+use Rattle.sheet_format.specs.Writing.{givenPixels, givenNumbers, twoBytes, bodyFor}
 use Rattle.sheet_format.specs.Writing.Laws.{numberOf-twoBytes, length-twoBytes, take-twoBytes, drop-twoBytes}
 use Rattle.sheet_format.specs.Theorems.Given.{rowGiven, countGiven, bitsGiven, contentGiven}
 

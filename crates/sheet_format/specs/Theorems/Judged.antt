@@ -1,42 +1,31 @@
 -- Judging a record and reading it: they agree wherever the lent memory is long enough, and what is read fills the bytes of
 -- its count. Assumes nothing.
-use Prim.Native.Nat.{ℕ, zero, suc, _+_, _-_, _*_, _/_, _≤_, _<_}
+use Prim.Native.Nat.{ℕ, _*_, _≤_}
 use native.Mathlib.Nat.{mul-le-mul}
-use native.Mathlib.Decide.{decLt}
 use native.Mathlib.Omega.{arith}
-use mathlib.Core.Path.{_≡_, refl, sym, ap, _∙_}
-use mathlib.Core.Logic.{by-cases}
+use mathlib.Core.Path.{_≡_, refl, ap, _∙_}
 use mathlib.Core.Bool.{not}
-use mathlib.Core.List.{List, [], _∷_, _++_, map}
-use lib.ListN.{length, take, drop, length-append, length-drop}
+use mathlib.Core.List.{List, map}
+use lib.ListN.{length}
 use lib.Dec.{ltb, eqb}
-use Rattle.bitstream.specs.Bits.{flat, bytesOf, halvesOf, wordsOf, stream}
+use Rattle.bitstream.specs.Bits.{flat, halvesOf, wordsOf, stream}
 use Rattle.bitstream.specs.Bits.Laws.{length-cut}
 use Rattle.answer.specs.Outcome.{_orElse_, refuseIf}
 use Rattle.row_format.specs.Lists.{any}
 use Rattle.row_format.specs.Table.{tableNumber}
 use Rattle.row_format.specs.Row.{fresh, pixelsOf}
-use Rattle.row_format.specs.Reading.{Run, done, stop, readItems, stray}
+use Rattle.row_format.specs.Reading.{Run, done, stop}
 use Rattle.row_format.specs.Calls.{tooMany}
 use Rattle.row_format.specs.Calls.Laws.{orElse-zero-left, orElse-zero-right}
 use Rattle.row_format.specs.Theorems.Numbers.{StopIn, readItems-in}
 use Rattle.sheet_format.specs.declared.SheetState.{SheetState}
-use Rattle.sheet_format.specs.declared.RecordRead.{RecordRead}
-use Rattle.sheet_format.specs.Line.{Line, numbers, faulty, wordOf, readLine}
+use Rattle.sheet_format.specs.Line.{Line, numbers, faulty, wordOf}
 use Rattle.sheet_format.specs.Line.Laws.{Gives, readLine-gives}
-use Rattle.sheet_format.specs.Record.{kindField, bodyOf, Kind, tableRecord, packedRecord, plainRecord, lineRecord, unknown, kindOf, rowNumber, pixelCount, rowContent, numberCount, lineContent, runOf, lineOf, kindNumber, lengthNumber, fixedNumber, placeNumber, Lent, nothing, lent, roomNumber, runNumber, packedNumber, plainNumber, faultNumber, lineNumber, bodyNumber, leftoverNumber, lastRoomNumber, contentNumber, recordNumber}
-use Rattle.sheet_format.specs.Record.Laws.{orElse-same, lessNumber-zero, lessNumber-none, lessNumber-given, unequalNumber-zero, Passed, passed, contentNumber-passed, Read, recordNumber-read}
+use Rattle.sheet_format.specs.Record.{kindField, bodyOf, Kind, tableRecord, packedRecord, plainRecord, lineRecord, unknown, kindOf, rowNumber, pixelCount, rowContent, numberCount, lineContent, runOf, lineOf, fixedNumber, placeNumber, Lent, nothing, lent, roomNumber, runNumber, packedNumber, plainNumber, faultNumber, lineNumber, bodyNumber, leftoverNumber, lastRoomNumber, contentNumber, recordNumber}
+use Rattle.sheet_format.specs.Record.Laws.{orElse-same, lessNumber-zero, lessNumber-none, unequalNumber-zero, Passed}
 use Rattle.sheet_format.specs.Record.Rows.{packedNumber-enough}
-use Rattle.sheet_format.specs.Reading.{countHeld, contentHeld, pixelBytes, numberBytes, recordHeld, recordContent, heldUnless, ReadOutcome, readUnless, recordJudged, recordRead}
+use Rattle.sheet_format.specs.Reading.{countHeld, contentBytes, contentHeld, pixelBytes, numberBytes, recordJudged, recordRead}
 use Rattle.sheet_format.specs.Reading.Laws.{recordRead-answer}
-
--- what is read of so many pixels or numbers: 2 bytes a pixel, 4 a number
-abbrev pub contentBytes : Kind → ℕ → ℕ
-contentBytes tableRecord n = 0
-contentBytes packedRecord n = 2 * n
-contentBytes plainRecord n = 2 * n
-contentBytes lineRecord n = 4 * n
-contentBytes unknown n = 0
 
 -- ---- an accepted body
 few : (n e : ℕ) → tooMany n orElse e ≡ 0 → n ≤ 4096

@@ -1,22 +1,18 @@
 -- Reading a record looks at no byte after it. Assumes nothing.
-use Prim.Native.Nat.{ℕ, zero, suc, _+_, _-_, _*_, _/_, _≤_, _<_}
-use native.Mathlib.Nat.{suc-add}
+use Prim.Native.Nat.{ℕ, zero, suc, _+_, _-_, _≤_, _<_}
 use native.Mathlib.Decide.{decLt}
 use native.Mathlib.Omega.{arith}
 use mathlib.Core.Path.{_≡_, refl, sym, ap, _∙_}
 use mathlib.Core.Logic.{by-cases}
-use mathlib.Core.Bool.{cond}
 use mathlib.Core.List.{List, [], _∷_, _++_, append-nil}
 use lib.ListN.{length, take, drop, length-append, length-drop}
 use lib.Seq.{take-append-le, drop-append-le, take-take, length-take-le, take-all}
-use lib.Dec.{ltb}
 use borrow.Author.Tests.{le-ltb, lt-ltb}
 use Rattle.bitstream.specs.Bits.{numberOf}
-use Rattle.answer.specs.Outcome.{_orElse_}
 use Rattle.sheet_format.specs.declared.SheetState.{SheetState}
-use Rattle.sheet_format.specs.Record.{lengthField, kindField, bodyOf, kindOf, Lent, nothing, lent, lengthNumber, recordNumber}
+use Rattle.sheet_format.specs.Record.{lengthField, kindField, bodyOf, Lent, nothing, lent, lengthNumber, recordNumber, recordSpan}
 use Rattle.sheet_format.specs.Record.Laws.{RightLength, lengthNumber-right, lengthNumber-wrong}
-use Rattle.sheet_format.specs.Reading.{recordHeld, recordContent, refusedRecord, ReadOutcome, recordJudged, recordRead}
+use Rattle.sheet_format.specs.Reading.{recordHeld, recordContent, refusedRecord, recordJudged, recordRead}
 
 -- a field that lies in front
 field-take : (at n k : ℕ) (l : List ℕ) → at + n ≤ k → take n (drop at (take k l)) ≡ take n (drop at l)
@@ -109,11 +105,7 @@ module _ (tb : List ℕ) (st : SheetState) where
   recordJudged-same r s (fields a) = recordJudged-alike r s a tb st
   recordJudged-same r s (unfit e d) = refused-judged s d ∙ sym (refused-judged r e)
 
--- ---- for a reader that streams a sheet: the bytes that it has to hold to judge the record at r, whatever stands there. Four,
--- and where the length they say is within its limits as many more
-unfoldable pub recordSpan : List ℕ → ℕ
-recordSpan r = cond (ltb (lengthField r) 2) 4 (cond (ltb 32774 (lengthField r)) 4 (4 + lengthField r))
-
+-- ---- the bytes that a reader has to hold
 recordSpan-outside : (r : List ℕ) → (2 ≤ lengthField r → 32774 < lengthField r) → recordSpan r ≡ 4
 unfolding recordSpan
 recordSpan-outside r h =

@@ -1,16 +1,16 @@
 -- A refused call moves nothing; a done one changes only the bytes that it counts. Assumes nothing.
-use Prim.Native.Nat.{ℕ, zero, suc, _+_, _-_, _*_, _/_, _≤_, _<_}
+use Prim.Native.Nat.{ℕ, zero, suc, _≤_}
 use native.Mathlib.Omega.{arith}
-use mathlib.Core.Path.{_≡_, refl, sym, ap, _∙_}
-use mathlib.Core.List.{List, [], _∷_, _++_}
-use lib.ListN.{length, take, drop, length-append, length-drop}
+use mathlib.Core.Path.{_≡_, refl}
+use mathlib.Core.List.{List, _++_}
+use lib.ListN.{length, drop, length-append, length-drop}
 use lib.Seq.{drop-append-seam}
 use Rattle.sheet_format.specs.declared.SheetState.{SheetState}
 use Rattle.sheet_format.specs.declared.RecordRead.{RecordRead}
-use Rattle.sheet_format.specs.Record.{kindOf, Lent, nothing, lent, recordNumber}
-use Rattle.sheet_format.specs.Reading.{stateAfter, refusedRecord, heldUnless, ReadOutcome, readUnless, recordHeld, recordContent, recordJudged, recordRead}
+use Rattle.sheet_format.specs.Record.{kindOf, nothing, lent, recordNumber}
+use Rattle.sheet_format.specs.Reading.{stateAfter, refusedRecord, heldUnless, readUnless, recordHeld, recordContent, recordJudged, recordRead}
 use Rattle.sheet_format.specs.Writing.{bodyFor, recordBytes, writeNumber, WriteOutcome, writtenUnless, recordWritten}
-use Rattle.sheet_format.specs.Writing.Laws.{writeNumber-room, recordWritten-number, recordWritten-done, recordWritten-refused}
+use Rattle.sheet_format.specs.Writing.Laws.{writeNumber-room, recordWritten-done, recordWritten-refused}
 
 -- memory that keeps its length and, past its first k bytes, its bytes
 pub record Within (k : ℕ) (m m′ : List ℕ) : Type 0 where

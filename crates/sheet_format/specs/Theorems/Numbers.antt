@@ -1,8 +1,7 @@
 -- The record calls answer a number from document 01, and only those that it lists for the call. Each law is over any property
 -- P that these numbers have. Assumes nothing.
-use Prim.Native.Nat.{ℕ, zero, suc, _+_, _-_, _*_, _/_, _%_}
-use mathlib.Core.Path.{_≡_, refl}
-use mathlib.Core.Bool.{Bool, true, false, cond, not}
+use Prim.Native.Nat.{ℕ, zero, suc, _+_, _*_, _%_}
+use mathlib.Core.Bool.{Bool, true, false, not}
 use mathlib.Core.List.{List, [], _∷_}
 use lib.ListN.{length, drop}
 use lib.Dec.{ltb, leb, eqb}
@@ -12,14 +11,14 @@ use Rattle.answer.specs.Outcome.{_orElse_, refuseIf}
 use Rattle.row_format.specs.Lists.{any}
 use Rattle.row_format.specs.Lists.Laws.{by-test}
 use Rattle.row_format.specs.Table.{wrongSize, wrongCodeword, clash, codewords, verdict, tableNumber}
-use Rattle.row_format.specs.Reading.{Run, done, stop, readItems, stray}
+use Rattle.row_format.specs.Reading.{Run, done, stop, stray}
 use Rattle.row_format.specs.Calls.{tooMany}
 use Rattle.row_format.specs.Theorems.Numbers.{StopIn, readItems-in}
 use Rattle.adaptive.specs.Number.{Front, whole, fault, before, front, Reading, accepted, rejected, signed, judged, readAs}
 use Rattle.sheet_format.specs.declared.SheetState.{SheetState}
 use Rattle.sheet_format.specs.Line.{Line, numbers, faulty, prepend, follow, readLine}
-use Rattle.sheet_format.specs.Record.{lengthField, kindField, bodyOf, Kind, tableRecord, packedRecord, plainRecord, lineRecord, unknown, kindOf, rowNumber, pixelCount, rowContent, numberCount, lineContent, runOf, lineOf, bitsOfRun, bytesOfLine, lengthNumber, kindNumber, shorterThan, notWords, fixedNumber, noTable, notRisen, placeNumber, Lent, nothing, lent, roomNumber, runNumber, packedNumber, plainNumber, faultNumber, lineNumber, bodyNumber, leftoverNumber, lastRoomNumber, contentNumber, recordNumber}
-use Rattle.sheet_format.specs.Writing.{givenPixels, givenNumbers, bodyFor, recordBytes, tooHigh, givenNumber, writeNumber}
+use Rattle.sheet_format.specs.Record.{lengthField, kindField, bodyOf, Kind, tableRecord, packedRecord, plainRecord, lineRecord, unknown, kindOf, rowNumber, pixelCount, rowContent, numberCount, lineContent, runOf, lineOf, bitsOfRun, bytesOfLine, lengthNumber, kindNumber, shorterThan, fixedNumber, noTable, placeNumber, Lent, roomNumber, runNumber, faultNumber, bodyNumber, leftoverNumber, lastRoomNumber, contentNumber, recordNumber}
+use Rattle.sheet_format.specs.Writing.{givenPixels, givenNumbers, bodyFor, recordBytes, givenNumber, writeNumber}
 
 module _ (P : ℕ → Type 0) (p0 : P 0) where
   pub refuseIf-in : (b : Bool) (e : ℕ) → P e → P (refuseIf b e)

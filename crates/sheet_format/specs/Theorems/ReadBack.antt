@@ -1,24 +1,23 @@
 -- What is written is read back, whatever follows it. Assumes nothing.
-use Prim.Native.Nat.{ℕ, zero, suc, _+_, _-_, _*_, _≤_, _<_}
+use Prim.Native.Nat.{ℕ, _+_, _≤_, _<_}
 use native.Mathlib.Omega.{arith}
-use mathlib.Core.Path.{_≡_, refl, sym, ap, _∙_}
-use mathlib.Core.List.{List, [], _∷_, _++_}
-use lib.ListN.{length, take, drop}
-use lib.Seq.{take-at}
+use mathlib.Core.Path.{_≡_, refl}
+use mathlib.Core.List.{List, _++_}
+use lib.ListN.{length, drop}
 use lib.Dec.{ltb}
 use Rattle.bitstream.specs.Bits.Laws.{Below}
-use Rattle.answer.specs.Outcome.{_orElse_, refuseIf}
+use Rattle.answer.specs.Outcome.{_orElse_}
 use Rattle.row_format.specs.Lists.{any}
 use Rattle.row_format.specs.Table.{tableNumber}
 use Rattle.row_format.specs.Calls.{tooMany}
 use Rattle.row_format.specs.Calls.Laws.{orElse-zero-left, orElse-zero-right}
 use Rattle.sheet_format.specs.declared.SheetState.{SheetState}
-use Rattle.sheet_format.specs.Record.{bodyOf, Kind, tableRecord, packedRecord, plainRecord, lineRecord, unknown, kindOf, kindNumber, placeNumber, Lent, nothing, lent, roomNumber, recordNumber}
+use Rattle.sheet_format.specs.Record.{bodyOf, Kind, tableRecord, packedRecord, plainRecord, lineRecord, unknown, kindOf, kindNumber, Lent, nothing, lent, roomNumber, recordNumber}
 use Rattle.sheet_format.specs.Record.Laws.{refuseIf-zero, lessNumber-zero, lessNumber-none, kindOf-known, contentNumber-passed}
-use Rattle.sheet_format.specs.Reading.{stateAfter, recordHeld, recordContent, ReadOutcome, recordJudged, recordRead}
-use Rattle.sheet_format.specs.Writing.{givenPixels, givenNumbers, bodyFor, recordBytes, tooHigh, givenNumber, writeNumber, WriteOutcome, writtenUnless, recordWritten}
-use Rattle.sheet_format.specs.Writing.Laws.{Fields, fields-recordBytes, length-recordBytes, Writable, writable, doneAnswer}
-use Rattle.sheet_format.specs.Theorems.Given.{rowGiven, countGiven, bitsGiven, contentGiven, recordGiven}
+use Rattle.sheet_format.specs.Reading.{recordHeld, recordContent, recordJudged, recordRead}
+use Rattle.sheet_format.specs.Writing.{givenPixels, givenNumbers, bodyFor, recordBytes, tooHigh, givenNumber}
+use Rattle.sheet_format.specs.Writing.Laws.{Fields, fields-recordBytes, length-recordBytes, Writable, doneAnswer}
+use Rattle.sheet_format.specs.Theorems.Given.{contentGiven, recordGiven}
 use Rattle.sheet_format.specs.Theorems.Bodies.{Back, table-back, packed-back, plain-back, line-back}
 
 few-pixels : (n e : ℕ) → tooMany n orElse e ≡ 0 → n ≤ 4096

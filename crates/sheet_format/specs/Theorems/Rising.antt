@@ -1,36 +1,19 @@
 -- In every sheet, up to its end or to the refused record, the row numbers rise strictly and the one table comes first.
 -- Assumes nothing.
-use Prim.Native.Nat.{ℕ, zero, suc, _+_, _-_, _≤_, _<_}
+use Prim.Native.Nat.{ℕ, zero, suc, _≤_, _<_}
 use native.Mathlib.Numerals.{add-one}
 use native.Mathlib.Omega.{arith}
-use mathlib.Core.Path.{_≡_, refl, sym, ap, _∙_, subst}
-use mathlib.Core.Bool.{not}
+use mathlib.Core.Path.{_≡_, sym, _∙_}
 use mathlib.Core.List.{List, [], _∷_}
-use lib.ListN.{length, take, drop, getD}
-use lib.Dec.{ltb, eqb}
-use borrow.Author.Tests.{eqb-false, eqb-true, not-false}
-use Rattle.answer.specs.Outcome.{_orElse_}
-use Rattle.row_format.specs.Calls.Laws.{orElse-zero-left, orElse-zero-right}
+use lib.ListN.{length, getD}
+use Rattle.row_format.specs.Calls.Laws.{orElse-zero-right}
 use Rattle.sheet_format.specs.declared.SheetState.{SheetState}
-use Rattle.sheet_format.specs.declared.RecordRead.{RecordRead}
 use Rattle.sheet_format.specs.Record.{bodyOf, Kind, tableRecord, packedRecord, plainRecord, lineRecord, unknown, kindOf, kindField, rowNumber, noTable, notRisen, placeNumber, nothing}
-use Rattle.sheet_format.specs.Record.Laws.{refuseIf-zero, lessNumber-zero, recordNumber-read}
+use Rattle.sheet_format.specs.Record.Laws.{lessNumber-zero, recordNumber-read}
 use Rattle.sheet_format.specs.Reading.{newSheet, stateAfter, rowHeld, recordHeld, recordJudged}
 use Rattle.sheet_format.specs.Reading.Laws.{recordJudged-number, recordJudged-done}
-use Rattle.sheet_format.specs.Sheet.{SheetRecord, SheetRead, endsWith, putFirst, fromRecord, recordsFrom, sheetRead}
+use Rattle.sheet_format.specs.Sheet.{recordsFrom, sheetRead, withRow, rowNumbers}
 use Rattle.sheet_format.specs.Sheet.Laws.{fromRecord-cases, tableNext, restNext, recordHere}
-
--- ---- the row numbers of some records, "over kinds 2 and 3"
-abbrev pub withRow : Kind → ℕ → List ℕ → List ℕ
-withRow tableRecord row rows = rows
-withRow packedRecord row rows = row ∷ rows
-withRow plainRecord row rows = row ∷ rows
-withRow lineRecord row rows = rows
-withRow unknown row rows = rows
-
-unfoldable pub rowNumbers : List SheetRecord → List ℕ
-rowNumbers [] = []
-rowNumbers (x ∷ xs) = withRow (kindOf (x .answer .kind)) (x .answer .row) (rowNumbers xs)
 
 -- numbers that rise strictly from low on
 abbrev Rising : ℕ → List ℕ → Type 0

@@ -1,27 +1,21 @@
 -- When reading a record is refused for room, and what a done reading writes. Assumes nothing.
-use Prim.Native.Nat.{ℕ, zero, suc, _+_, _-_, _*_, _/_, _≤_, _<_}
+use Prim.Native.Nat.{ℕ, zero, suc, _*_, _≤_, _<_}
 use native.Mathlib.Omega.{arith}
-use mathlib.Core.Path.{_≡_, refl, sym, ap, _∙_, subst}
-use mathlib.Core.Logic.{_↔_}
-use mathlib.Core.List.{List, [], _∷_, _++_}
-use lib.ListN.{length, take, drop}
+use mathlib.Core.Path.{_≡_, refl, sym, _∙_}
+use mathlib.Core.List.{List, _++_}
+use lib.ListN.{length, drop}
 use Rattle.bitstream.specs.Bits.{stream}
-use Rattle.answer.specs.Outcome.{_orElse_, refuseIf}
+use Rattle.answer.specs.Outcome.{_orElse_}
 use Rattle.row_format.specs.Table.{tableNumber}
 use Rattle.row_format.specs.Calls.{tooMany}
 use Rattle.row_format.specs.Calls.Laws.{orElse-zero-left, orElse-zero-right}
 use Rattle.sheet_format.specs.declared.SheetState.{SheetState}
-use Rattle.sheet_format.specs.declared.RecordRead.{RecordRead}
-use Rattle.sheet_format.specs.Record.{kindField, bodyOf, Kind, tableRecord, packedRecord, plainRecord, lineRecord, unknown, kindOf, pixelCount, rowContent, runOf, Lent, nothing, lent, roomNumber, runNumber, packedNumber, bodyNumber, lastRoomNumber, contentNumber, recordNumber}
+use Rattle.sheet_format.specs.Record.{kindField, bodyOf, Kind, tableRecord, packedRecord, plainRecord, lineRecord, unknown, kindOf, pixelCount, rowContent, runOf, nothing, lent, runNumber, packedNumber, bodyNumber, lastRoomNumber, contentNumber, recordNumber}
 use Rattle.sheet_format.specs.Record.Laws.{lessNumber-zero, lessNumber-none, lessNumber-given, lengthNumber-right, Passed, Read, recordNumber-read, read-recordNumber}
-use Rattle.sheet_format.specs.Reading.{countHeld, contentHeld, recordHeld, recordContent, ReadOutcome, recordJudged, recordRead}
+use Rattle.sheet_format.specs.Reading.{countHeld, contentBytes, answerBytes, recordHeld, recordContent, recordJudged, recordRead}
 use Rattle.sheet_format.specs.Theorems.Memory.{Within, within-front, recordRead-refused}
-use Rattle.sheet_format.specs.Theorems.Judged.{contentBytes, passed-content, passed-other}
+use Rattle.sheet_format.specs.Theorems.Judged.{passed-content, passed-other}
 use Rattle.sheet_format.specs.Reading.Laws.{recordJudged-number, recordJudged-done, recordRead-number, recordRead-done}
-
--- the bytes that the content of an accepted record takes, by its answer
-abbrev pub answerBytes : RecordRead → ℕ
-answerBytes a = contentBytes (kindOf (a .kind)) (a .count)
 
 -- ---- a body that is accepted, and too little memory for it
 packed-full : (n : ℕ) (tb b : List ℕ) → packedNumber nothing tb b ≡ 0 → n < 2 * pixelCount b → packedNumber (lent n) tb b ≡ 5

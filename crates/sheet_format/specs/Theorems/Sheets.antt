@@ -1,7 +1,7 @@
 -- A sheet of written records is accepted, and its records are those that were written. Assumes nothing.
-use Prim.Native.Nat.{ℕ, zero, suc, _+_, _-_, _≤_, _<_}
+use Prim.Native.Nat.{ℕ, _<_}
 use native.Mathlib.Omega.{arith}
-use mathlib.Core.Path.{_≡_, refl, sym, ap, _∙_, subst}
+use mathlib.Core.Path.{_≡_, refl, sym, ap, _∙_}
 use mathlib.Core.List.{List, [], _∷_, _++_}
 use lib.ListN.{length, take, drop, length-append}
 use lib.Seq.{take-append-seam, drop-append-seam}
@@ -9,9 +9,9 @@ use Rattle.sheet_format.specs.declared.SheetState.{SheetState}
 use Rattle.sheet_format.specs.declared.RecordRead.{RecordRead}
 use Rattle.sheet_format.specs.Record.{bodyOf, Kind, tableRecord, packedRecord, plainRecord, lineRecord, unknown, kindOf}
 use Rattle.sheet_format.specs.Reading.{newSheet, tableAfter, recordJudged}
-use Rattle.sheet_format.specs.Writing.{bodyFor, recordBytes, writeNumber, WriteOutcome, writtenUnless, recordWritten}
+use Rattle.sheet_format.specs.Writing.{bodyFor, recordBytes, writeNumber}
 use Rattle.sheet_format.specs.Writing.Laws.{length-recordBytes, Writable, writable, recordWritten-number, recordWritten-answer, recordWritten-front, doneAnswer}
-use Rattle.sheet_format.specs.Sheet.{SheetRecord, SheetRead, endsWith, putFirst, sheetRead}
+use Rattle.sheet_format.specs.Sheet.{SheetRecord, SheetRead, putFirst, sheetRead}
 use Rattle.sheet_format.specs.Sheet.Laws.{tableNext, restNext, recordHere, records, records-end, records-more}
 use Rattle.sheet_format.specs.Theorems.Given.{recordGiven, Write, writtenBy, tableGiven, bytesWritten, Done, AllDone, sheetBytes, sheetGiven}
 use Rattle.sheet_format.specs.Theorems.ReadBack.{recordJudged-back, bodyOf-back}

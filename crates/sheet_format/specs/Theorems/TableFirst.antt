@@ -1,21 +1,17 @@
 -- In every sheet, up to its end or to the refused record, the first record is a table and no other is. Assumes nothing.
-use Prim.Native.Nat.{ℕ, zero, suc, _+_, _-_, _≤_, _<_}
+use Prim.Native.Nat.{ℕ, zero, suc, _<_}
 use native.Mathlib.Omega.{arith}
 use mathlib.Core.Path.{_≡_, refl, sym, ap, _∙_}
 use mathlib.Core.Logic.{_↔_}
 use mathlib.Core.List.{List, [], _∷_}
-use lib.ListN.{length, drop, getD}
+use lib.ListN.{length, getD}
 use Rattle.sheet_format.specs.declared.SheetState.{SheetState}
 use Rattle.sheet_format.specs.Record.{bodyOf, Kind, tableRecord, packedRecord, plainRecord, lineRecord, unknown, kindOf, kindField, rowNumber, kindNumber, placeNumber, nothing}
 use Rattle.sheet_format.specs.Record.Laws.{unequalNumber-zero, Read, recordNumber-read}
 use Rattle.sheet_format.specs.Reading.{newSheet, stateAfter, recordHeld, recordJudged}
 use Rattle.sheet_format.specs.Reading.Laws.{recordJudged-number, recordJudged-done}
-use Rattle.sheet_format.specs.Sheet.{SheetRecord, SheetRead, recordsFrom, sheetRead}
+use Rattle.sheet_format.specs.Sheet.{recordsFrom, sheetRead, recordKinds}
 use Rattle.sheet_format.specs.Sheet.Laws.{fromRecord-cases, tableNext, restNext, recordHere}
-
-unfoldable pub recordKinds : List SheetRecord → List ℕ
-recordKinds [] = []
-recordKinds (x ∷ xs) = x .answer .kind ∷ recordKinds xs
 
 abbrev NoTable : List ℕ → Type 0
 NoTable [] = Unit {0}

@@ -1,14 +1,14 @@
 -- The fields of a record that was written, whatever follows it. Assumes nothing.
-use Prim.Native.Nat.{ℕ, zero, suc, _+_, _-_, _*_, _/_, _%_, _^_, _≤_, _<_}
+use Prim.Native.Nat.{ℕ, zero, suc, _+_, _-_, _*_, _^_, _≤_, _<_}
 use native.Mathlib.Nat.{mod-eq-of-lt}
 use native.Mathlib.Omega.{arith}
 use mathlib.Core.Path.{_≡_, refl, sym, ap, _∙_}
-use mathlib.Core.List.{List, [], _∷_, _++_, append-assoc}
+use mathlib.Core.List.{List, _++_, append-assoc}
 use lib.ListN.{length, take, drop, length-append}
 use lib.Seq.{take-at, drop-at, take-all, drop-drop}
 use lib.Dec.{ltb}
 use borrow.Author.Tests.{le-ltb}
-use Rattle.bitstream.specs.Bits.{digits, numOf, flat, cut, numberOf, bytesOf}
+use Rattle.bitstream.specs.Bits.{digits, numberOf, bytesOf}
 use Rattle.bitstream.specs.Bits.Laws.{length-digits, below-digits, flat-cut, numOf-digits, length-cut}
 use Rattle.row_format.specs.BitLaws.{pad-within}
 use Rattle.answer.specs.Outcome.{refuseIf}
@@ -18,7 +18,7 @@ use Rattle.sheet_format.specs.declared.RecordWritten.{RecordWritten}
 use Rattle.sheet_format.specs.Record.{lengthField, kindField, bodyOf, kindOf, lengthNumber, kindNumber, placeNumber}
 use Rattle.sheet_format.specs.Record.Laws.{lessNumber-zero}
 use Rattle.sheet_format.specs.Reading.{stateAfter}
-use Rattle.sheet_format.specs.Writing.{twoBytes, fourBytes, bodyFor, recordBytes, givenNumber, writeNumber, WriteOutcome, writtenUnless, recordWritten}
+use Rattle.sheet_format.specs.Writing.{twoBytes, fourBytes, bodyFor, recordBytes, givenNumber, writeNumber, writtenUnless, recordWritten}
 
 -- a number in n bytes is read back from them
 pub numberOf-bytesOf : (n v : ℕ) → v < 2 ^ (8 * n) → numberOf (bytesOf n (digits (8 * n) v)) ≡ v

@@ -171,10 +171,10 @@ wholeSheet = tableBytes ++ (packedBytes ++ (plainBytes ++ contourBytes))
 pub sheet-right : sheetRead wholeSheet ≡ record {
   number = 0;
   records =
-    record { bytes = tableBytes; answer = record { number = 0; kind = 1; row = 0; count = 7; bits = 0; words = 0; length = 34; state = record { tables = 1; least = 0 } } } ∷
-    record { bytes = packedBytes; answer = record { number = 0; kind = 2; row = 5; count = 2; bits = 4; words = 1; length = 14; state = record { tables = 1; least = 6 } } } ∷
-    record { bytes = plainBytes; answer = record { number = 0; kind = 3; row = 9; count = 1; bits = 0; words = 0; length = 12; state = record { tables = 1; least = 10 } } } ∷
-    record { bytes = contourBytes; answer = record { number = 0; kind = 4; row = 0; count = 2; bits = 0; words = 0; length = 11; state = record { tables = 1; least = 10 } } } ∷ [];
+      record { bytes = tableBytes; answer = record { number = 0; kind = 1; row = 0; count = 7; bits = 0; words = 0; length = 34; state = record { tables = 1; least = 0 } } } ∷
+      record { bytes = packedBytes; answer = record { number = 0; kind = 2; row = 5; count = 2; bits = 4; words = 1; length = 14; state = record { tables = 1; least = 6 } } } ∷
+      record { bytes = plainBytes; answer = record { number = 0; kind = 3; row = 9; count = 1; bits = 0; words = 0; length = 12; state = record { tables = 1; least = 10 } } } ∷
+      record { bytes = contourBytes; answer = record { number = 0; kind = 4; row = 0; count = 2; bits = 0; words = 0; length = 11; state = record { tables = 1; least = 10 } } } ∷ [];
 }
 unfolding sheetRead recordsFrom recordJudged recordHeld recordNumber contentNumber lengthNumber kindNumber fixedNumber placeNumber bodyNumber leftoverNumber lastRoomNumber digits numOf flat cut begins any least codeword codewords codewordAt wrongSize wrongWord wrongCodeword clash verdict tableNumber byDifference find unmatched rawHeight matched readItem readBy readItems stray readLine readAs front dataOf signedValue
 sheet-right = refl

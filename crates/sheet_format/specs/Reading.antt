@@ -90,7 +90,7 @@ held k code whole tb b st =
       bits = bitsHeld k tb b;
       words = wordsFor (bitsHeld k tb b);
       length = whole;
-      state = stateAfter k (rowNumber b) st
+      state = stateAfter k (rowNumber b) st;
     }
 
 -- the bytes that a record's content takes, by its answer

@@ -64,10 +64,10 @@ module _ {n : ℕ} {s : List ℕ} {vs : List ℤ} {u : ℕ} where
       let a = signedRead (drop u s) in
       record {
         line =
-          h .line
-          ∙ ap (after vs u) (readLine-suc k (drop u s) ok)
-          ∙ after-prepend vs u (a .value) (a .used) (readLine k (drop (a .used) (drop u s)))
-          ∙ ap (λ (l : List ℕ). after (vs ++ (a .value ∷ [])) (u + a .used) (readLine k l)) (drop-drop (a .used) u s);
+            h .line
+            ∙ ap (after vs u) (readLine-suc k (drop u s) ok)
+            ∙ after-prepend vs u (a .value) (a .used) (readLine k (drop (a .used) (drop u s)))
+            ∙ ap (λ (l : List ℕ). after (vs ++ (a .value ∷ [])) (u + a .used) (readLine k l)) (drop-drop (a .used) u s);
       }
 
   pub line-fault : {k : ℕ} → LineSoFar n s vs u (suc k) → (signedRead (drop u s) .number ≡ 0 → ⊥) → readLine n s ≡ faulty (signedRead (drop u s) .number)

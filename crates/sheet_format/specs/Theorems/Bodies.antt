@@ -82,11 +82,11 @@ row-fields row n w small few = record {
   number = rw (take-twoBytes row (twoBytes n ++ w)) (numberOf-twoBytes row small);
   count = rw (drop-twoBytes row (twoBytes n ++ w), take-twoBytes n w) (numberOf-twoBytes n few);
   content =
-    sym (drop-drop 2 2 (twoBytes row ++ (twoBytes n ++ w)))
-    ∙ rw (drop-twoBytes row (twoBytes n ++ w)) (drop-twoBytes n w);
+      sym (drop-drop 2 2 (twoBytes row ++ (twoBytes n ++ w)))
+      ∙ rw (drop-twoBytes row (twoBytes n ++ w)) (drop-twoBytes n w);
   size =
-    length-append (twoBytes row) (twoBytes n ++ w)
-    ∙ rw (length-append (twoBytes n) w, length-twoBytes row, length-twoBytes n) (omega arith);
+      length-append (twoBytes row) (twoBytes n ++ w)
+      ∙ rw (length-append (twoBytes n) w, length-twoBytes row, length-twoBytes n) (omega arith);
 }
 
 -- a row's words are read back
@@ -133,14 +133,19 @@ module _ (row : ℕ) (tb c : List ℕ) (small : row < 65536) (bytes : Below 256 
       where
         t : List ℕ
         t = wordsOf tb
+
         ps : List ℕ
         ps = givenPixels c
+
         runs : runOf tb b ≡ done (itemsFor t fresh ps) (length (rowBits t ps))
         runs = rw (f .count, f .content) (row-run tb ps ok low .run)
+
         size : length (rowContent b) ≡ 4 * wordsFor (length (rowBits t ps))
         size = ap length (f .content) ∙ length-rowBytes t ps
+
         whole : length b % 4 ≡ 0
         whole = omega (arith, f .size, length-rowBytes t ps)
+
         passes : (m : Lent) (st : SheetState) → placeNumber packedRecord row st ≡ 0
             → roomNumber m (length (take (2 * length ps) c)) ≡ 0 → Passed packedRecord m tb b st
         passes m st place room = record {
@@ -228,6 +233,7 @@ module _ (row : ℕ) (tb c : List ℕ) (bytes : Below 256 c) (few : length (give
           rw (f .count, f .content)
           (ap (readLine (length (givenNumbers c))) (sym (append-nil (lineBytes (givenNumbers c))))
           ∙ readLine-lineBytes (givenNumbers c) [] (in-range-signedOf (wordsOf c) words-low))
+
       passes : (m : Lent) (st : SheetState) → placeNumber lineRecord row st ≡ 0
           → roomNumber m (length (take (4 * length (givenNumbers c)) c)) ≡ 0 → Passed lineRecord m tb b st
       passes m st place room = record {

@@ -55,7 +55,7 @@ recordGiven code row tb c a =
       bits = bitsGiven (kindOf code) tb c;
       words = wordsFor (bitsGiven (kindOf code) tb c);
       length = a .count;
-      state = a .state
+      state = a .state;
     }
 
 -- ---- records written one after another

@@ -97,9 +97,10 @@ recordsFrom-table-first (suc n) tb r =
     fromRecord-cases (λ s. TableFirst (recordKinds (s .records))) r (recordJudged tb r newSheet .number) (recordHere tb r newSheet) rest
     tt (λ k e. tt) (λ ok.
     let code = first-kind (kindField r) (rowNumber (bodyOf r)) (read tb r newSheet ok .known) (read tb r newSheet ok .parts .place) in
-    let one : recordJudged tb r newSheet .state .tables ≡ 1 = rw (state-held tb r newSheet ok, code) in
-    (kind-held tb r newSheet ok ∙ code,
-    recordsFrom-no-table n (tableNext tb r newSheet) (recordJudged tb r newSheet .state) (restNext tb r newSheet) (λ e. absurd (omega arith))))
+    let one : recordJudged tb r newSheet .state .tables ≡ 1 = rw (state-held tb r newSheet ok, code) in (
+      kind-held tb r newSheet ok ∙ code,
+      recordsFrom-no-table n (tableNext tb r newSheet) (recordJudged tb r newSheet .state) (restNext tb r newSheet) (λ e. absurd (omega arith)),
+    ))
 
 pub sheetRead-table-first : (s : List ℕ) (i : ℕ) → i < length (recordKinds (sheetRead s .records))
     → (getD (recordKinds (sheetRead s .records)) i 0 ≡ 1) ↔ (i ≡ 0)

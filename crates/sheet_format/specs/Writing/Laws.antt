@@ -117,7 +117,7 @@ doneAnswer code row tb c st =
     record {
       number = 0;
       count = length (recordBytes code (bodyFor (kindOf code) row tb c));
-      state = stateAfter (kindOf code) row st
+      state = stateAfter (kindOf code) row st;
     }
 
 -- ---- what a done write passed

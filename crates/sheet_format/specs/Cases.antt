@@ -11,11 +11,12 @@ use Rattle.row_format.specs.Row.{byDifference, itemFor, itemsFor, pixelsOf, bit
 use Rattle.row_format.specs.Reading.{find, unmatched, rawHeight, matched, readItem, readBy, readItems, stray}
 use Rattle.adaptive.specs.Number.{front, dataOf, signedValue, continued, bytesOf, laterBytes, readAs, shortest}
 use Rattle.sheet_format.specs.declared.SheetState.{SheetState}
+use Rattle.sheet_format.specs.declared.RecordRead.{RecordRead}
 use Rattle.sheet_format.specs.Line.{lineBytes, readLine}
 use Rattle.sheet_format.specs.Record.{lengthNumber, kindNumber, fixedNumber, placeNumber, Lent, nothing, lent, bodyNumber, leftoverNumber, lastRoomNumber, contentNumber, recordNumber}
 use Rattle.sheet_format.specs.Reading.{newSheet, recordHeld, recordContent, recordJudged, recordRead}
 use Rattle.sheet_format.specs.Writing.{bodyFor, recordBytes, givenNumber, writeNumber, recordWritten}
-use Rattle.sheet_format.specs.Sheet.{recordsFrom, sheetRead}
+use Rattle.sheet_format.specs.Sheet.{SheetRead, recordsFrom, sheetRead}
 
 -- the words 7, 4093, 1, 34, 99, 227, 1
 abbrev pub smallTable : List ℕ
@@ -25,6 +26,22 @@ smallTable =
 -- a sheet that has its table, and may have row 5 next
 abbrev pub begun : SheetState
 begun = record { tables = 1; least = 5 }
+
+-- named on an `unfolding` line, these open all that reading and writing compute with
+numbering : Unit {0}
+unfolding digits numOf flat cut begins any kindNumber placeNumber codeword codewords codewordAt wrongSize wrongWord
+    wrongCodeword clash verdict tableNumber byDifference
+numbering = tt
+
+reading : Unit {0}
+unfolding numbering recordNumber contentNumber lengthNumber fixedNumber bodyNumber leftoverNumber lastRoomNumber least find
+    unmatched rawHeight matched readItem readBy readItems stray readLine readAs front dataOf signedValue
+reading = tt
+
+writing : Unit {0}
+unfolding numbering recordWritten writeNumber givenNumber recordBytes bodyFor itemFor itemsFor bits rowBits lineBytes
+    shortest bytesOf continued laterBytes
+writing = tt
 
 pub record RecordCase : Type 0 where
   pub number : ℕ
@@ -115,7 +132,7 @@ claimed [] = []
 claimed (c ∷ cs) = c .number ∷ claimed cs
 
 pub records-right : numbersOf recordCases ≡ claimed recordCases
-unfolding numbersOf claimed recordNumber contentNumber lengthNumber kindNumber fixedNumber placeNumber bodyNumber leftoverNumber lastRoomNumber digits numOf flat cut begins any least codeword codewords codewordAt wrongSize wrongWord wrongCodeword clash verdict tableNumber byDifference find unmatched rawHeight matched readItem readBy readItems stray readLine readAs front dataOf signedValue
+unfolding numbersOf claimed reading
 records-right = refl
 
 -- ---- a sheet of four records: the table, row 5 `0 4095` packed, row 9 `4095` plain, and the line -1, 64
@@ -162,21 +179,37 @@ expected [] = []
 expected (c ∷ cs) = c .bytes ∷ expected cs
 
 pub writes-right : writtenFrom newSheet writeCases ≡ expected writeCases
-unfolding writtenFrom expected recordWritten writeNumber givenNumber recordBytes bodyFor kindNumber placeNumber digits numOf flat cut begins any codeword codewords codewordAt wrongSize wrongWord wrongCodeword clash verdict tableNumber byDifference itemFor itemsFor bits rowBits lineBytes shortest bytesOf continued laterBytes
+unfolding writtenFrom expected writing
 writes-right = refl
 
 abbrev pub wholeSheet : List ℕ
 wholeSheet = tableBytes ++ (packedBytes ++ (plainBytes ++ contourBytes))
 
-pub sheet-right : sheetRead wholeSheet ≡ record {
+abbrev pub answer : ℕ → ℕ → ℕ → ℕ → ℕ → ℕ → ℕ → RecordRead
+answer kind row count bits words whole least =
+    record {
+      number = 0;
+      kind = kind;
+      row = row;
+      count = count;
+      bits = bits;
+      words = words;
+      length = whole;
+      state = record { tables = 1; least = least };
+    }
+
+abbrev pub wholeRead : SheetRead
+wholeRead = record {
   number = 0;
   records =
-      record { bytes = tableBytes; answer = record { number = 0; kind = 1; row = 0; count = 7; bits = 0; words = 0; length = 34; state = record { tables = 1; least = 0 } } } ∷
-      record { bytes = packedBytes; answer = record { number = 0; kind = 2; row = 5; count = 2; bits = 4; words = 1; length = 14; state = record { tables = 1; least = 6 } } } ∷
-      record { bytes = plainBytes; answer = record { number = 0; kind = 3; row = 9; count = 1; bits = 0; words = 0; length = 12; state = record { tables = 1; least = 10 } } } ∷
-      record { bytes = contourBytes; answer = record { number = 0; kind = 4; row = 0; count = 2; bits = 0; words = 0; length = 11; state = record { tables = 1; least = 10 } } } ∷ [];
+      record { answer = answer 1 0 7 0 0 34 0; bytes = tableBytes } ∷
+      record { answer = answer 2 5 2 4 1 14 6; bytes = packedBytes } ∷
+      record { answer = answer 3 9 1 0 0 12 10; bytes = plainBytes } ∷
+      record { answer = answer 4 0 2 0 0 11 10; bytes = contourBytes } ∷ [];
 }
-unfolding sheetRead recordsFrom recordJudged recordHeld recordNumber contentNumber lengthNumber kindNumber fixedNumber placeNumber bodyNumber leftoverNumber lastRoomNumber digits numOf flat cut begins any least codeword codewords codewordAt wrongSize wrongWord wrongCodeword clash verdict tableNumber byDifference find unmatched rawHeight matched readItem readBy readItems stray readLine readAs front dataOf signedValue
+
+pub sheet-right : sheetRead wholeSheet ≡ wholeRead
+unfolding sheetRead recordsFrom recordJudged recordHeld reading
 sheet-right = refl
 
 -- what is read of its last three records, into 9 bytes of 9
@@ -184,7 +217,7 @@ pub contents-right :
     (recordRead smallTable packedBytes begun (replicate 9 9) .memory ≡ 0 ∷ 0 ∷ 255 ∷ 15 ∷ 9 ∷ 9 ∷ 9 ∷ 9 ∷ 9 ∷ [])
     × (recordRead smallTable plainBytes begun (replicate 9 9) .memory ≡ 255 ∷ 15 ∷ 9 ∷ 9 ∷ 9 ∷ 9 ∷ 9 ∷ 9 ∷ 9 ∷ [])
     × (recordRead smallTable contourBytes begun (replicate 9 9) .memory ≡ lineNumbers ++ (9 ∷ []))
-unfolding recordRead recordHeld recordContent recordNumber contentNumber lengthNumber kindNumber fixedNumber placeNumber bodyNumber leftoverNumber lastRoomNumber digits numOf flat cut begins any least codeword codewords codewordAt wrongSize wrongWord wrongCodeword clash verdict tableNumber byDifference pixelsOf find unmatched rawHeight matched readItem readBy readItems stray readLine readAs front dataOf signedValue
+unfolding recordRead recordHeld recordContent pixelsOf reading
 contents-right = (refl, refl, refl)
 
 -- no bytes at all; one byte; the same row twice, at record 2; one byte too many, at record 4
@@ -195,5 +228,5 @@ pub refused-right :
     (refusedAt [] ≡ 16 ∷ 0 ∷ []) × (refusedAt (30 ∷ []) ≡ 14 ∷ 0 ∷ [])
     × (refusedAt (tableBytes ++ (packedBytes ++ packedBytes)) ≡ 16 ∷ 2 ∷ [])
     × (refusedAt (wholeSheet ++ (0 ∷ [])) ≡ 14 ∷ 4 ∷ [])
-unfolding sheetRead recordsFrom recordJudged recordHeld recordNumber contentNumber lengthNumber kindNumber fixedNumber placeNumber bodyNumber leftoverNumber lastRoomNumber digits numOf flat cut begins any least codeword codewords codewordAt wrongSize wrongWord wrongCodeword clash verdict tableNumber byDifference find unmatched rawHeight matched readItem readBy readItems stray readLine readAs front dataOf signedValue
+unfolding sheetRead recordsFrom recordJudged recordHeld reading
 refused-right = (refl, refl, refl, refl)

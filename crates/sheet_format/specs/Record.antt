@@ -1,5 +1,5 @@
--- Document 01, "A sheet": the parts of a record, and the number that a record is refused with. r is the sheet's bytes from the
--- record's place on, b the record's body, tb the bytes of the sheet's table. Every definition is total.
+-- Document 01, "A sheet": the parts of a record, and the number that a record is refused with. r is the sheet's bytes from
+-- the record's place on, b the record's body, tb the bytes of the sheet's table. Every definition is total.
 -- Definitions only. Assumes nothing.
 use Prim.Native.Nat.{ℕ, zero, suc, _+_, _-_, _*_, _%_}
 use mathlib.Core.Bool.{cond, not}

@@ -47,6 +47,10 @@ bodyFor unknown row tb c = []
 unfoldable pub recordBytes : ℕ → List ℕ → List ℕ
 recordBytes code b = fourBytes (2 + length b) ++ (twoBytes code ++ b)
 
+-- the record for what the writer is given
+abbrev pub recordFor : ℕ → ℕ → List ℕ → List ℕ → List ℕ
+recordFor code row tb c = recordBytes code (bodyFor (kindOf code) row tb c)
+
 -- ---- the number. "It refuses 15, 16, then 1, 2, 3 for the table written or packed under, then 11, 4, 5"
 abbrev pub tooHigh : List ℕ → ℕ
 tooHigh c = refuseIf (any (ltb 4095) (givenPixels c)) 4
@@ -63,7 +67,7 @@ writeNumber code row tb c st roomBytes =
     kindNumber (kindOf code)
     orElse placeNumber (kindOf code) row st
     orElse givenNumber (kindOf code) tb c
-    orElse refuseIf (ltb roomBytes (length (recordBytes code (bodyFor (kindOf code) row tb c)))) 5
+    orElse refuseIf (ltb roomBytes (length (recordFor code row tb c))) 5
 
 -- ---- the call: a refusal has 0 for the count, and leaves the state as given and the memory as found
 pub record WriteOutcome : Type 0 where
@@ -78,4 +82,4 @@ writtenUnless (suc e) st m st′ b = record { answer = record { number = suc e; 
 unfoldable pub recordWritten : ℕ → ℕ → List ℕ → List ℕ → SheetState → List ℕ → WriteOutcome
 recordWritten code row tb c st m =
     writtenUnless (writeNumber code row tb c st (length m)) st m (stateAfter (kindOf code) row st)
-    (recordBytes code (bodyFor (kindOf code) row tb c))
+    (recordFor code row tb c)

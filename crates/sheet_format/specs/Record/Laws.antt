@@ -81,7 +81,11 @@ lengthNumber-wrong r h =
     by-cases (decLt (length r) 4) (λ short. rw (lt-ltb (length r) 4 short))
     (λ four. by-cases (decLt (lengthField r) 2)
     (λ small. rw (le-ltb (length r) 4 (omega arith), lt-ltb (lengthField r) 2 small))
-    (λ large. rw (le-ltb (length r) 4 (omega arith), le-ltb (lengthField r) 2 (omega arith), lt-ltb 32774 (lengthField r) (h (omega arith)))))
+    (λ large. rw (
+      le-ltb (length r) 4 (omega arith),
+      le-ltb (lengthField r) 2 (omega arith),
+      lt-ltb 32774 (lengthField r) (h (omega arith)),
+    )))
 
 -- ---- the kind
 pub kindOf-known : (code : ℕ) → kindNumber (kindOf code) ≡ 0 → code ≤ 4

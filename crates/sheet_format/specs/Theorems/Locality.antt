@@ -12,7 +12,7 @@ use Rattle.bitstream.specs.Bits.{numberOf}
 use Rattle.sheet_format.specs.declared.SheetState.{SheetState}
 use Rattle.sheet_format.specs.Record.{lengthField, kindField, bodyOf, Lent, nothing, lent, lengthNumber, recordNumber, recordSpan}
 use Rattle.sheet_format.specs.Record.Laws.{RightLength, lengthNumber-right, lengthNumber-wrong}
-use Rattle.sheet_format.specs.Reading.{recordHeld, recordContent, refusedRecord, recordJudged, recordRead}
+use Rattle.sheet_format.specs.Reading.{recordHeld, recordContent, refusedRecord, recordJudged, recordRead, readRefused}
 
 -- a field that lies in front
 field-take : (at n k : ℕ) (l : List ℕ) → at + n ≤ k → take n (drop at (take k l)) ≡ take n (drop at l)
@@ -66,13 +66,15 @@ module _ (r rest : List ℕ) (h : RightLength r) where
   same-kind = ap numberOf (field-front 4 2 (4 + lengthField r) r rest (omega (arith, h .least)) (h .there))
 
   same-body : bodyOf (take (4 + lengthField r) r ++ rest) ≡ bodyOf r
-  same-body = rw same-length (field-front 6 (lengthField r - 2) (4 + lengthField r) r rest (omega (arith, h .least)) (h .there))
+  same-body =
+      rw same-length (field-front 6 (lengthField r - 2) (4 + lengthField r) r rest (omega (arith, h .least)) (h .there))
 
   same-right : RightLength (take (4 + lengthField r) r ++ rest)
   same-right = record {
     least = rw same-length (h .least);
     most = rw same-length (h .most);
-    there = rw same-length (omega (arith, length-append (take (4 + lengthField r) r) rest, length-take-le (4 + lengthField r) r (h .there)));
+    there = rw same-length
+        (omega (arith, length-append (take (4 + lengthField r) r) rest, length-take-le (4 + lengthField r) r (h .there)));
   }
 
   pub alike : Alike r (take (4 + lengthField r) r ++ rest)
@@ -89,7 +91,7 @@ pub data Same (r s : List ℕ) : Type 0 where
   unfit : lengthNumber r ≡ 14 → lengthNumber s ≡ 14 → Same r s
 
 module _ (tb : List ℕ) (st : SheetState) where
-  refused-read : (s : List ℕ) (m : List ℕ) → lengthNumber s ≡ 14 → recordRead tb s st m ≡ record { answer = refusedRecord 14 st; memory = m }
+  refused-read : (s : List ℕ) (m : List ℕ) → lengthNumber s ≡ 14 → recordRead tb s st m ≡ readRefused 14 st m
   unfolding recordRead recordNumber
   refused-read s m e = rw e
 
@@ -132,5 +134,7 @@ module _ (r : List ℕ) where
   span-same =
       by-cases (decLt (recordSpan r) (length r))
       (λ h. by-cases (decLt (lengthField r) 2) (λ small. outside (λ g. absurd (omega arith)))
-      (λ least. by-cases (decLt 32774 (lengthField r)) (λ large. outside (λ g. large)) (λ most. inside (omega arith) (omega arith) h)))
-      (λ h. rw (take-all (recordSpan r) r (omega arith)) (fields (record { size = refl; whole = refl; kind = refl; body = refl })))
+      (λ least. by-cases (decLt 32774 (lengthField r)) (λ large. outside (λ g. large))
+      (λ most. inside (omega arith) (omega arith) h)))
+      (λ h. rw (take-all (recordSpan r) r (omega arith))
+      (fields (record { size = refl; whole = refl; kind = refl; body = refl })))

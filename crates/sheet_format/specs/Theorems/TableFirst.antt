@@ -89,22 +89,31 @@ recordsFrom-no-table (suc n) tb st r has =
     fromRecord-cases (λ s. NoTable (recordKinds (s .records))) r (recordJudged tb r st .number) (recordHere tb r st) rest
     tt (λ k e. tt) (λ ok. (other-kind tb r st ok has, ih (kept-table tb r st ok has)))
 
+first-table : (tb r : List ℕ) → recordJudged tb r newSheet .number ≡ 0 → kindField r ≡ 1
+first-table tb r ok =
+    let done = read tb r newSheet ok in
+    first-kind (kindField r) (rowNumber (bodyOf r)) (done .known) (done .parts .place)
+
+first-state : (tb r : List ℕ) → recordJudged tb r newSheet .number ≡ 0 → recordJudged tb r newSheet .state .tables ≡ 0 → ⊥
+first-state tb r ok e =
+    let one : recordJudged tb r newSheet .state .tables ≡ 1 = rw (state-held tb r newSheet ok, first-table tb r ok) in
+    absurd (omega arith)
+
 recordsFrom-table-first : (n : ℕ) (tb r : List ℕ) → TableFirst (recordKinds (recordsFrom n tb newSheet r .records))
 unfolding recordsFrom recordKinds
 recordsFrom-table-first zero tb r = tt
 recordsFrom-table-first (suc n) tb r =
-    let rest = recordsFrom n (tableNext tb r newSheet) (recordJudged tb r newSheet .state) (restNext tb r newSheet) in
-    fromRecord-cases (λ s. TableFirst (recordKinds (s .records))) r (recordJudged tb r newSheet .number) (recordHere tb r newSheet) rest
-    tt (λ k e. tt) (λ ok.
-    let code = first-kind (kindField r) (rowNumber (bodyOf r)) (read tb r newSheet ok .known) (read tb r newSheet ok .parts .place) in
-    let one : recordJudged tb r newSheet .state .tables ≡ 1 = rw (state-held tb r newSheet ok, code) in (
-      kind-held tb r newSheet ok ∙ code,
-      recordsFrom-no-table n (tableNext tb r newSheet) (recordJudged tb r newSheet .state) (restNext tb r newSheet) (λ e. absurd (omega arith)),
-    ))
+    let st = recordJudged tb r newSheet .state in
+    let rest = recordsFrom n (tableNext tb r newSheet) st (restNext tb r newSheet) in
+    let others = recordsFrom-no-table n (tableNext tb r newSheet) st (restNext tb r newSheet) in
+    fromRecord-cases (λ s. TableFirst (recordKinds (s .records)))
+    r (recordJudged tb r newSheet .number) (recordHere tb r newSheet) rest tt (λ k e. tt)
+    (λ ok. (kind-held tb r newSheet ok ∙ first-table tb r ok, others (first-state tb r ok)))
 
 pub sheetRead-table-first : (s : List ℕ) (i : ℕ) → i < length (recordKinds (sheetRead s .records))
     → (getD (recordKinds (sheetRead s .records)) i 0 ≡ 1) ↔ (i ≡ 0)
 unfolding sheetRead recordKinds
 sheetRead-table-first [] = table-first-at [] tt
 sheetRead-table-first (x ∷ s) =
-    table-first-at (recordKinds (recordsFrom (length (x ∷ s)) [] newSheet (x ∷ s) .records)) (recordsFrom-table-first (length (x ∷ s)) [] (x ∷ s))
+    let all = recordsFrom (length (x ∷ s)) [] newSheet (x ∷ s) in
+    table-first-at (recordKinds (all .records)) (recordsFrom-table-first (length (x ∷ s)) [] (x ∷ s))

@@ -7,10 +7,11 @@ use mathlib.Core.Path.{_≡_, refl, sym, ap, _∙_}
 use mathlib.Core.Bool.{true}
 use mathlib.Core.List.{List, [], _∷_, _++_}
 use mathlib.Core.Logic.{_↔_}
-use lib.ListN.{length, take, getD}
+use lib.ListN.{length, take, drop, getD}
 use lib.Dec.{ltb, eqb}
 use Rattle.bitstream.specs.Bits.Laws.{Below}
 use Rattle.row_format.specs.Lists.{any}
+use Rattle.row_format.specs.Table.{tableNumber}
 use Rattle.sheet_format.specs.declared.SheetState.{SheetState}
 use Rattle.sheet_format.specs.declared.RecordRead.{RecordRead}
 use Rattle.sheet_format.specs.Record.{lengthField, kindOf, lengthNumber, nothing, lent, recordSpan}
@@ -28,7 +29,7 @@ use Locality.{alike, recordRead-alike, recordJudged-alike, span-same, recordRead
 use Judged.{recordRead-judged}
 use Room.{recordRead-granted, recordRead-full, recordRead-within}
 use Rising.{sheetRead-rising}
-use TableFirst.{sheetRead-table-first}
+use TableFirst.{table-accepted, sheetRead-table-first}
 use Sheets.{sheetRead-written}
 use Numbers.{refuseIf-in, recordNumber-in, writeNumber-in}
 pub mod Given
@@ -106,6 +107,11 @@ row-numbers-rise = sheetRead-rising
 pub table-first : (s : List ℕ) (i : ℕ) → i < length (recordKinds (sheetRead s .records))
     → (getD (recordKinds (sheetRead s .records)) i 0 ≡ 1) ↔ (i ≡ 0)
 table-first = sheetRead-table-first
+
+-- the table that a sheet keeps, the bytes of its record from place 6 on, is accepted: no row is refused 1, 2 or 3
+pub kept-table : (tb r : List ℕ) (st : SheetState) → recordJudged tb r st .number ≡ 0 → recordJudged tb r st .kind ≡ 1
+    → tableNumber (drop 6 (take (recordJudged tb r st .length) r)) ≡ 0
+kept-table = table-accepted
 
 -- ---- a record alone
 -- "a 4-byte .. length"; "2 to 32,774": an accepted record is 6 to 32778 bytes, and they are there

@@ -1,12 +1,14 @@
 -- The laws of a record's number: it is 0 exactly where each of its parts is. Assumes nothing.
-use Prim.Native.Nat.{ℕ, zero, suc, _+_, _≤_, _<_}
+use Prim.Native.Nat.{ℕ, zero, suc, _+_, _-_, _≤_, _<_}
+use native.Mathlib.Nat.{sub-zero, zero-sub, suc-sub-suc}
 use native.Mathlib.Decide.{decLt}
 use native.Mathlib.Omega.{arith}
-use mathlib.Core.Path.{_≡_, refl}
+use mathlib.Core.Path.{_≡_, refl, sym, ap, _∙_}
 use mathlib.Core.Logic.{by-cases}
 use mathlib.Core.Bool.{Bool, false, not}
-use mathlib.Core.List.{List}
-use lib.ListN.{length}
+use mathlib.Core.List.{List, [], _∷_}
+use lib.ListN.{length, take, drop}
+use lib.Seq.{take-nil}
 use lib.Dec.{ltb, eqb}
 use borrow.Author.Tests.{ltb-false, lt-ltb, le-ltb, eqb-true, eq-eqb, ne-eqb, not-false}
 use Rattle.answer.specs.Outcome.{_orElse_, refuseIf}
@@ -87,6 +89,19 @@ lengthNumber-wrong r h =
       lt-ltb 32774 (lengthField r) (h (omega arith)),
     )))
 
+-- ---- the body
+pub drop-take : (n k : ℕ) (l : List ℕ) → drop n (take k l) ≡ take (k - n) (drop n l)
+drop-take zero k l = rw (sub-zero k)
+drop-take (suc n) zero l = rw (zero-sub (suc n))
+drop-take (suc n) (suc k) [] = sym (take-nil (suc k - suc n))
+drop-take (suc n) (suc k) (x ∷ l) = drop-take n k l ∙ rw (suc-sub-suc k n)
+
+-- the record's bytes from place 6 on
+pub bodyOf-whole : (r : List ℕ) → drop 6 (take (4 + lengthField r) r) ≡ bodyOf r
+bodyOf-whole r =
+    let same : 4 + lengthField r - 6 ≡ lengthField r - 2 = omega arith in
+    drop-take 6 (4 + lengthField r) r ∙ ap (λ (k : ℕ). take k (drop 6 r)) same
+
 -- ---- the kind
 pub kindOf-known : (code : ℕ) → kindNumber (kindOf code) ≡ 0 → code ≤ 4
 unfolding kindNumber
@@ -96,6 +111,15 @@ kindOf-known (suc (suc zero)) e = omega arith
 kindOf-known (suc (suc (suc zero))) e = omega arith
 kindOf-known (suc (suc (suc (suc zero)))) e = omega arith
 kindOf-known (suc (suc (suc (suc (suc k))))) e = absurd (omega arith)
+
+pub kindNumber-known : (code : ℕ) → 1 ≤ code → code ≤ 4 → kindNumber (kindOf code) ≡ 0
+unfolding kindNumber
+kindNumber-known zero h g = absurd (omega arith)
+kindNumber-known (suc zero) h g = refl
+kindNumber-known (suc (suc zero)) h g = refl
+kindNumber-known (suc (suc (suc zero))) h g = refl
+kindNumber-known (suc (suc (suc (suc zero)))) h g = refl
+kindNumber-known (suc (suc (suc (suc (suc k))))) h g = absurd (omega arith)
 
 pub kindOf-unknown : (code : ℕ) → 4 < code → kindOf code ≡ unknown
 kindOf-unknown zero h = absurd (omega arith)

@@ -1,25 +1,22 @@
 -- Reading a record looks at no byte after it. Assumes nothing.
-use Prim.Native.Nat.{ℕ, zero, suc, _+_, _-_, _≤_, _<_}
+use Prim.Native.Nat.{ℕ, _+_, _-_, _≤_, _<_}
 use native.Mathlib.Decide.{decLt}
 use native.Mathlib.Omega.{arith}
 use mathlib.Core.Path.{_≡_, refl, sym, ap, _∙_}
 use mathlib.Core.Logic.{by-cases}
-use mathlib.Core.List.{List, [], _∷_, _++_, append-nil}
+use mathlib.Core.List.{List, [], _++_, append-nil}
 use lib.ListN.{length, take, drop, length-append, length-drop}
 use lib.Seq.{take-append-le, drop-append-le, take-take, length-take-le, take-all}
 use borrow.Author.Tests.{le-ltb, lt-ltb}
 use Rattle.bitstream.specs.Bits.{numberOf}
 use Rattle.sheet_format.specs.declared.SheetState.{SheetState}
 use Rattle.sheet_format.specs.Record.{lengthField, kindField, bodyOf, Lent, nothing, lent, lengthNumber, recordNumber, recordSpan}
-use Rattle.sheet_format.specs.Record.Laws.{RightLength, lengthNumber-right, lengthNumber-wrong}
+use Rattle.sheet_format.specs.Record.Laws.{drop-take, RightLength, lengthNumber-right, lengthNumber-wrong}
 use Rattle.sheet_format.specs.Reading.{recordHeld, recordContent, refusedRecord, recordJudged, recordRead, readRefused}
 
 -- a field that lies in front
 field-take : (at n k : ℕ) (l : List ℕ) → at + n ≤ k → take n (drop at (take k l)) ≡ take n (drop at l)
-field-take zero n k l h = take-take n k l (omega arith)
-field-take (suc at) n zero l h = absurd (omega arith)
-field-take (suc at) n (suc k) [] h = refl
-field-take (suc at) n (suc k) (x ∷ l) h = field-take at n k l (omega arith)
+field-take at n k l h = rw (drop-take at k l) (take-take n (k - at) (drop at l) (omega arith))
 
 pub field-front : (at n k : ℕ) (l rest : List ℕ) → at + n ≤ k → k ≤ length l
     → take n (drop at (take k l ++ rest)) ≡ take n (drop at l)

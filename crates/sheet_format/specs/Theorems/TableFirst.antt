@@ -1,13 +1,16 @@
--- In every sheet, up to its end or to the refused record, the first record is a table and no other is. Assumes nothing.
+-- In every sheet, up to its end or to the refused record, the first record is a table, no other is, and the table kept is
+-- accepted. Assumes nothing.
 use Prim.Native.Nat.{ℕ, zero, suc, _<_}
 use native.Mathlib.Omega.{arith}
 use mathlib.Core.Path.{_≡_, refl, sym, ap, _∙_}
 use mathlib.Core.Logic.{_↔_}
 use mathlib.Core.List.{List, [], _∷_}
-use lib.ListN.{length, getD}
+use lib.ListN.{take, drop, length, getD}
+use Rattle.row_format.specs.Table.{tableNumber}
 use Rattle.sheet_format.specs.declared.SheetState.{SheetState}
-use Rattle.sheet_format.specs.Record.{bodyOf, Kind, tableRecord, packedRecord, plainRecord, lineRecord, unknown, kindOf, kindField, rowNumber, kindNumber, placeNumber, nothing}
-use Rattle.sheet_format.specs.Record.Laws.{unequalNumber-zero, Read, recordNumber-read}
+use Rattle.sheet_format.specs.declared.RecordRead.{RecordRead}
+use Rattle.sheet_format.specs.Record.{bodyOf, Kind, tableRecord, packedRecord, plainRecord, lineRecord, unknown, kindOf, kindField, rowNumber, kindNumber, placeNumber, nothing, bodyNumber}
+use Rattle.sheet_format.specs.Record.Laws.{bodyOf-whole, unequalNumber-zero, Read, recordNumber-read}
 use Rattle.sheet_format.specs.Reading.{newSheet, stateAfter, recordHeld, recordJudged}
 use Rattle.sheet_format.specs.Reading.Laws.{recordJudged-number, recordJudged-done}
 use Rattle.sheet_format.specs.Sheet.{recordsFrom, sheetRead, recordKinds}
@@ -77,6 +80,17 @@ module _ (tb r : List ℕ) (st : SheetState) (ok : recordJudged tb r st .number 
 
   kept-table : (st .tables ≡ 0 → ⊥) → recordJudged tb r st .state .tables ≡ 0 → ⊥
   kept-table has = rw state-held (has-table (kindOf (kindField r)) (rowNumber (bodyOf r)) st has)
+
+  -- the table that the sheet keeps is accepted
+  kept-accepted : (k : ℕ) → k ≡ 1 → bodyNumber (kindOf k) nothing tb (bodyOf r) ≡ 0 → tableNumber (bodyOf r) ≡ 0
+  unfolding bodyNumber
+  kept-accepted k e h = rw (ap kindOf e) at h
+
+  pub table-accepted : recordJudged tb r st .kind ≡ 1 → tableNumber (drop 6 (take (recordJudged tb r st .length) r)) ≡ 0
+  unfolding recordHeld
+  table-accepted e =
+      rw (ap (λ (a : RecordRead). a .length) done, bodyOf-whole r)
+      (kept-accepted (kindField r) (sym kind-held ∙ e) (read .parts .body))
 
 -- ---- all records
 recordsFrom-no-table : (n : ℕ) (tb : List ℕ) (st : SheetState) (r : List ℕ) → (st .tables ≡ 0 → ⊥)

@@ -16,7 +16,7 @@ use Rattle.sheet_format.specs.declared.SheetState.{SheetState}
 use Rattle.sheet_format.specs.declared.RecordRead.{RecordRead}
 use Rattle.sheet_format.specs.Record.{lengthField, kindOf, lengthNumber, nothing, lent, recordSpan}
 use Rattle.sheet_format.specs.Record.Laws.{lessNumber-none, lessNumber-given, right-length}
-use Rattle.sheet_format.specs.Reading.{newSheet, answerBytes, refusedRecord, recordContent, recordJudged, recordRead, readDone, readRefused}
+use Rattle.sheet_format.specs.Reading.{newSheet, answerBytes, recordContent, recordJudged, recordRead, readDone}
 use Rattle.sheet_format.specs.Reading.Laws.{recordJudged-number, recordRead-number}
 use Rattle.sheet_format.specs.Writing.{recordWritten, recordFor}
 use Rattle.sheet_format.specs.Writing.Laws.{recordWritten-number, recordWritten-front, recordWritten-answer, Writable, writable, writeNumber-writable}
@@ -199,11 +199,34 @@ written-numbers code row tb c st m =
 
 -- "A refused call gives its number, zero for every count and value, and leaves the lent memory as found"; the state too
 pub judged-refused-keeps : (tb r : List ℕ) (st : SheetState) → (recordJudged tb r st .number ≡ 0 → ⊥)
-    → recordJudged tb r st ≡ refusedRecord (recordJudged tb r st .number) st
+    → recordJudged tb r st
+    ≡ record {
+      number = recordJudged tb r st .number;
+      kind = 0;
+      row = 0;
+      count = 0;
+      bits = 0;
+      words = 0;
+      length = 0;
+      state = st;
+    }
 judged-refused-keeps = recordJudged-refused
 
 pub read-refused-keeps : (tb r : List ℕ) (st : SheetState) (m : List ℕ) → (recordRead tb r st m .answer .number ≡ 0 → ⊥)
-    → recordRead tb r st m ≡ readRefused (recordRead tb r st m .answer .number) st m
+    → recordRead tb r st m
+    ≡ record {
+      answer = record {
+        number = recordRead tb r st m .answer .number;
+        kind = 0;
+        row = 0;
+        count = 0;
+        bits = 0;
+        words = 0;
+        length = 0;
+        state = st;
+      };
+      memory = m;
+    }
 read-refused-keeps = recordRead-refused
 
 pub written-refused-keeps : (code row : ℕ) (tb c : List ℕ) (st : SheetState) (m : List ℕ)

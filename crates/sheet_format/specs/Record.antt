@@ -69,7 +69,7 @@ runOf tb b = readItems (wordsOf tb) (pixelCount b) (stream (rowContent b))
 abbrev pub lineOf : List ℕ → Line
 lineOf b = readLine (numberCount b) (lineContent b)
 
--- ---- which records are refused, and by which number. "For a record:
+-- ---- which records are refused, and by which number, in document 01's order
 -- "length (fewer than four bytes for it, outside its limits, or more than the bytes left; all 14)"; "2 to 32,774"
 unfoldable pub lengthNumber : List ℕ → ℕ
 lengthNumber r =

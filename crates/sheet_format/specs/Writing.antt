@@ -7,12 +7,12 @@ use mathlib.Core.List.{List, [], _++_, map}
 use lib.ListN.{length, take, drop}
 use lib.Dec.{ltb}
 use lib.IntN.{ℤ}
-use Rattle.bitstream.specs.Bits.{digits, bytesOf, halvesOf, wordsOf}
+use Rattle.bitstream.specs.Bits.{digits, bytesOf, halvesOf, wordsOf, wordsFor}
 use Rattle.answer.specs.Outcome.{_orElse_, refuseIf}
 use Rattle.row_format.specs.Lists.{any}
 use Rattle.row_format.specs.Table.{tableNumber}
+use Rattle.row_format.specs.Row.{rowBits}
 use Rattle.row_format.specs.Calls.{tooMany}
-use Rattle.row_format.specs.Calls.Laws.{rowBytes}
 use Rattle.sheet_format.specs.declared.SheetState.{SheetState}
 use Rattle.sheet_format.specs.declared.RecordWritten.{RecordWritten}
 use Rattle.sheet_format.specs.Line.{signedOf, lineBytes}
@@ -34,10 +34,14 @@ twoBytes v = bytesOf 2 (digits 16 v)
 abbrev pub fourBytes : ℕ → List ℕ
 fourBytes v = bytesOf 4 (digits 32 v)
 
+-- "for kind 2 it packs the pixels under the sheet's table": the words that packing writes for the row
+abbrev pub packedWords : List ℕ → List ℕ → List ℕ
+packedWords t ps = bytesOf (4 * wordsFor (length (rowBits t ps))) (rowBits t ps)
+
 unfoldable pub bodyFor : Kind → ℕ → List ℕ → List ℕ → List ℕ
 bodyFor tableRecord row tb c = c
 bodyFor packedRecord row tb c =
-    twoBytes row ++ (twoBytes (length (givenPixels c)) ++ rowBytes (wordsOf tb) (givenPixels c))
+    twoBytes row ++ (twoBytes (length (givenPixels c)) ++ packedWords (wordsOf tb) (givenPixels c))
 bodyFor plainRecord row tb c =
     twoBytes row ++ (twoBytes (length (givenPixels c)) ++ take (2 * length (givenPixels c)) c)
 bodyFor lineRecord row tb c = twoBytes (length (givenNumbers c)) ++ lineBytes (givenNumbers c)

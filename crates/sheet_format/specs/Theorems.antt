@@ -19,7 +19,7 @@ use Rattle.sheet_format.specs.Record.Laws.{lessNumber-none, lessNumber-g
 use Rattle.sheet_format.specs.Reading.{newSheet, answerBytes, recordContent, recordJudged, recordRead, readDone}
 use Rattle.sheet_format.specs.Reading.Laws.{recordJudged-number, recordRead-number}
 use Rattle.sheet_format.specs.Writing.{recordWritten, recordFor}
-use Rattle.sheet_format.specs.Writing.Laws.{recordWritten-number, recordWritten-front, recordWritten-answer, Writable, writable, writeNumber-writable}
+use Rattle.sheet_format.specs.Writing.Laws.{recordWritten-number, recordWritten-front, recordWritten-answer, recordBytes-table, Writable, writable, writeNumber-writable}
 use Rattle.sheet_format.specs.Sheet.{endsWith, putFirst, sheetRead, recordKinds, rowNumbers}
 use Rattle.sheet_format.specs.Sheet.Laws.{judged-length, records, records-end, records-refused, records-more, recordHere, recordsNext}
 use Given.{contentGiven, recordGiven, Write, AllDone, sheetBytes, sheetGiven}
@@ -51,7 +51,6 @@ module _ (code row : ℕ) (tb c : List ℕ) (st : SheetState) (m : List ℕ) (sm
     (done : recordWritten code row tb c st m .answer .number ≡ 0) where
   pub written-read : (rest m′ : List ℕ) → length (contentGiven (kindOf code) c) ≤ length m′
       → let w = recordWritten code row tb c st m in
-      let given = contentGiven (kindOf code) c in
       recordRead tb (take (w .answer .count) (w .memory) ++ rest) st m′
       ≡ readDone (recordGiven code row tb c (w .answer)) (contentGiven (kindOf code) c) m′
   written-read rest m′ room =
@@ -67,6 +66,12 @@ module _ (code row : ℕ) (tb c : List ℕ) (st : SheetState) (m : List ℕ) (sm
       let e = sym (recordWritten-number code row tb c st m) ∙ done in
       rw (recordWritten-front code row tb c st m e, recordWritten-answer code row tb c st m e)
       (recordJudged-back code row tb c st small bytes (writable code row tb c st (length m) e) rest)
+
+  -- a table's bytes are the record's from place 6 on
+  pub written-table : code ≡ 1 → let w = recordWritten code row tb c st m in drop 6 (take (w .answer .count) (w .memory)) ≡ c
+  written-table one =
+      let e = sym (recordWritten-number code row tb c st m) ∙ done in
+      rw (recordWritten-front code row tb c st m e) (recordBytes-table code row tb c one)
 
   -- it is 6 to 32778 bytes
   pub written-length :
@@ -108,7 +113,7 @@ pub table-first : (s : List ℕ) (i : ℕ) → i < length (recordKinds (sheetRea
     → (getD (recordKinds (sheetRead s .records)) i 0 ≡ 1) ↔ (i ≡ 0)
 table-first = sheetRead-table-first
 
--- the table that a sheet keeps, the bytes of its record from place 6 on, is accepted: no row is refused 1, 2 or 3
+-- the table that a sheet keeps, the bytes of its record from place 6 on, is accepted
 pub kept-table : (tb r : List ℕ) (st : SheetState) → recordJudged tb r st .number ≡ 0 → recordJudged tb r st .kind ≡ 1
     → tableNumber (drop 6 (take (recordJudged tb r st .length) r)) ≡ 0
 kept-table = table-accepted

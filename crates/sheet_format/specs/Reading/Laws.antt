@@ -6,7 +6,7 @@ use lib.ListN.{length}
 use Rattle.sheet_format.specs.declared.SheetState.{SheetState}
 use Rattle.sheet_format.specs.declared.RecordRead.{RecordRead}
 use Rattle.sheet_format.specs.Record.{nothing, lent, recordNumber}
-use Rattle.sheet_format.specs.Reading.{recordHeld, recordContent, heldUnless, readUnless, recordJudged, recordRead, readDone}
+use Rattle.sheet_format.specs.Reading.{refusedRecord, readRefused, recordHeld, recordContent, heldUnless, readUnless, recordJudged, recordRead, readDone}
 
 readUnless-answer : (e : ℕ) (st : SheetState) (m : List ℕ) (a : RecordRead) (c : List ℕ)
     → readUnless e st m a c .answer ≡ heldUnless e st a
@@ -26,6 +26,10 @@ module _ (tb r : List ℕ) (st : SheetState) where
   unfolding recordJudged
   recordJudged-done e = rw e
 
+  pub recordJudged-refuses : (e : ℕ) → recordNumber nothing tb r st ≡ suc e → recordJudged tb r st ≡ refusedRecord (suc e) st
+  unfolding recordJudged
+  recordJudged-refuses e h = rw h
+
   module _ (m : List ℕ) where
     pub recordRead-answer : recordRead tb r st m .answer
         ≡ heldUnless (recordNumber (lent (length m)) tb r st) st (recordHeld tb r st)
@@ -42,3 +46,8 @@ module _ (tb r : List ℕ) (st : SheetState) where
         → recordRead tb r st m ≡ readDone (recordHeld tb r st) (recordContent tb r) m
     unfolding recordRead
     recordRead-done e = rw e
+
+    pub recordRead-refuses : (e : ℕ) → recordNumber (lent (length m)) tb r st ≡ suc e
+        → recordRead tb r st m ≡ readRefused (suc e) st m
+    unfolding recordRead
+    recordRead-refuses e h = rw h

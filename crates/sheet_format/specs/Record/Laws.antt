@@ -5,7 +5,7 @@ use native.Mathlib.Decide.{decLt}
 use native.Mathlib.Omega.{arith}
 use mathlib.Core.Path.{_≡_, refl, sym, ap, _∙_}
 use mathlib.Core.Logic.{by-cases}
-use mathlib.Core.Bool.{Bool, false, not}
+use mathlib.Core.Bool.{Bool, true, false, not}
 use mathlib.Core.List.{List, [], _∷_}
 use lib.ListN.{length, take, drop}
 use lib.Seq.{take-nil}
@@ -75,6 +75,24 @@ right-length r e =
       most = lessNumber-zero 32774 (lengthField r) 13 (orElse-zero-left large past e2);
       there = lessNumber-zero (length r) (4 + lengthField r) 13 (orElse-zero-right large past e2);
     }
+
+-- fewer than four bytes for it, or more than the bytes left
+pub lengthNumber-short : (r : List ℕ) → length r < 4 → lengthNumber r ≡ 14
+unfolding lengthNumber
+lengthNumber-short r h = rw (lt-ltb (length r) 4 h)
+
+orElse-both : (e : ℕ) (b : Bool) → refuseIf b (suc e) orElse suc e ≡ suc e
+orElse-both e true = refl
+orElse-both e false = refl
+
+pub lengthNumber-past : (r : List ℕ) → length r < 4 + lengthField r → lengthNumber r ≡ 14
+unfolding lengthNumber
+lengthNumber-past r h =
+    rw (
+      lt-ltb (length r) (4 + lengthField r) h,
+      orElse-both 13 (ltb 32774 (lengthField r)),
+      orElse-both 13 (ltb (lengthField r) 2),
+    ) (orElse-both 13 (ltb (length r) 4))
 
 -- a length outside its limits is refused whatever follows
 pub lengthNumber-wrong : (r : List ℕ) → (2 ≤ lengthField r → 32774 < lengthField r) → lengthNumber r ≡ 14

@@ -6,17 +6,29 @@ use std::{env, fs, process};
 
 /// Reads `[count] [seed]` from the command line.
 pub fn count_and_seed(count: u64, seed: u64) -> (u64, u64) {
-    let given: Vec<String> = env::args().skip(1).collect();
-    let parsed: Option<Vec<u64>> = given.iter().map(|text| text.parse().ok()).collect();
-    match parsed.as_deref() {
-        Some([]) => (count, seed),
-        Some(&[count]) => (count, seed),
-        Some(&[count, seed]) => (count, seed),
-        _ => {
-            eprintln!("arguments: [count] [seed]");
-            process::exit(2);
-        }
+    let [count, seed] = numbers_given("[count] [seed]", 0, [count, seed]);
+    (count, seed)
+}
+
+/// The numbers on the command line after so many other words; those that are
+/// not given stay as they are here. Ends the program if anything else stands
+/// there.
+pub fn numbers_given<const N: usize>(usage: &str, after: usize, numbers: [u64; N]) -> [u64; N] {
+    let words: Vec<String> = env::args().skip(1 + after).collect();
+    parsed(&words, numbers).unwrap_or_else(|| {
+        eprintln!("arguments: {usage}");
+        process::exit(2);
+    })
+}
+
+fn parsed<const N: usize>(words: &[String], mut numbers: [u64; N]) -> Option<[u64; N]> {
+    if words.len() > N {
+        return None;
     }
+    for (number, word) in numbers.iter_mut().zip(words) {
+        *number = word.parse().ok()?;
+    }
+    Some(numbers)
 }
 
 /// Bytes as hexadecimal text, 32 a line.
@@ -40,7 +52,21 @@ pub fn report(program: &str, text: &str) -> ExitCode {
 
 #[cfg(test)]
 mod tests {
-    use super::hex;
+    use super::*;
+
+    #[test]
+    fn numbers_replace_the_usual_ones() {
+        let given = |words: &[&str]| {
+            let words: Vec<String> = words.iter().map(|word| word.to_string()).collect();
+            parsed(&words, [10, 20])
+        };
+        assert_eq!(given(&[]), Some([10, 20]));
+        assert_eq!(given(&["7"]), Some([7, 20]));
+        assert_eq!(given(&["7", "8"]), Some([7, 8]));
+        for wrong in [&["x"][..], &["-1"], &["1", "2", "3"], &[""]] {
+            assert_eq!(given(wrong), None);
+        }
+    }
 
     #[test]
     fn hex_lines() {

@@ -1,21 +1,17 @@
 //! The C interface of the proved library, in safe wrappers.
 
-/// A call's answer; the count is 0 beside a refusal.
-#[repr(C)]
-#[derive(Clone, Copy, PartialEq, Eq, Debug)]
-pub struct Answer {
-    pub number: u32,
-    pub count: u32,
-}
+#[cfg(feature = "sheets")]
+mod sheets;
 
-impl Answer {
-    pub fn pair(self) -> (u32, u32) {
-        (self.number, self.count)
-    }
-}
+use std::ptr;
+
+use crate::answers::Answer;
+#[cfg(feature = "sheets")]
+pub use sheets::*;
 
 extern "C" {
     fn tahliruz_check(table: *const u8, table_len: usize) -> Answer;
+    fn tahliruz_plain_table(out: *mut u8, out_len: usize) -> Answer;
 }
 
 #[cfg(feature = "rows")]
@@ -40,10 +36,33 @@ extern "C" {
     fn tahliruz_room(table: *const u8, table_len: usize, n: u64) -> Answer;
 }
 
+/// Where a slice begins. Nothing is given as null, which C may do as well.
+fn at(bytes: &[u8]) -> *const u8 {
+    if bytes.is_empty() {
+        ptr::null()
+    } else {
+        bytes.as_ptr()
+    }
+}
+
+fn at_mut(bytes: &mut [u8]) -> *mut u8 {
+    if bytes.is_empty() {
+        ptr::null_mut()
+    } else {
+        bytes.as_mut_ptr()
+    }
+}
+
 /// The table check; the count is the most bits that an item takes.
 pub fn check(table: &[u8]) -> (u32, u32) {
     // SAFETY: the pointer and the length are those of a live slice.
-    unsafe { tahliruz_check(table.as_ptr(), table.len()) }.pair()
+    unsafe { tahliruz_check(at(table), table.len()) }.pair()
+}
+
+/// The plain table, written out; the count is its bytes.
+pub fn plain_table(out: &mut [u8]) -> (u32, u32) {
+    // SAFETY: as for the check.
+    unsafe { tahliruz_plain_table(at_mut(out), out.len()) }.pair()
 }
 
 /// Packing; the count is the bits.
@@ -52,14 +71,7 @@ pub fn pack(table: &[u8], pixels: &[u8], words: &mut [u8]) -> (u32, u32) {
     // SAFETY: pointers and lengths are those of live slices, and the one that
     // is written to overlaps no other.
     let answer = unsafe {
-        tahliruz_pack(
-            table.as_ptr(),
-            table.len(),
-            pixels.as_ptr(),
-            pixels.len(),
-            words.as_mut_ptr(),
-            words.len(),
-        )
+        tahliruz_pack(at(table), table.len(), at(pixels), pixels.len(), at_mut(words), words.len())
     };
     answer.pair()
 }
@@ -70,12 +82,12 @@ pub fn unpack(table: &[u8], words: &[u8], n: u64, pixels: &mut [u8]) -> (u32, u3
     // SAFETY: as for packing.
     let answer = unsafe {
         tahliruz_unpack(
-            table.as_ptr(),
+            at(table),
             table.len(),
-            words.as_ptr(),
+            at(words),
             words.len(),
             n,
-            pixels.as_mut_ptr(),
+            at_mut(pixels),
             pixels.len(),
         )
     };
@@ -86,5 +98,5 @@ pub fn unpack(table: &[u8], words: &[u8], n: u64, pixels: &mut [u8]) -> (u32, u3
 #[cfg(feature = "rows")]
 pub fn room(table: &[u8], n: u64) -> (u32, u32) {
     // SAFETY: the pointer and the length are those of a live slice.
-    unsafe { tahliruz_room(table.as_ptr(), table.len(), n) }.pair()
+    unsafe { tahliruz_room(at(table), table.len(), n) }.pair()
 }

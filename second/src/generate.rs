@@ -1,6 +1,11 @@
 //! Random inputs for the comparisons.
 
 pub mod damage;
+pub mod entries;
+pub mod flaws;
+pub mod mutations;
+pub mod numbers;
 pub mod rows;
 pub mod runs;
+pub mod sheets;
 pub mod tables;

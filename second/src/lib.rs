@@ -3,19 +3,33 @@
 //!
 //! The programs link `libtahliruz.a` from the folder that `TAHLIRUZ_LIB_DIR`
 //! names when they are built: by default its table check, with the feature
-//! `rows` packing, unpacking and the room question too. With
-//! `--no-default-features` nothing is linked and the tests run alone.
+//! `rows` packing, unpacking and the room question too, with `sheets` also
+//! adaptive numbers and records. With `--no-default-features` nothing is
+//! linked and the tests run alone.
+//!
+//! `compare_tables`, `compare_rows` and `compare_sheets` compare with it a
+//! given number of random inputs, `fuzz` changed ones for a given time, and
+//! `bench` times. `compare_listers` runs the two listing programs. Each exits
+//! with 1 at the first difference and saves the case.
 
 pub mod adaptive;
+pub mod agreement;
+pub mod answers;
+pub mod calls;
 pub mod command;
+#[cfg(feature = "sheets")]
+pub mod compared;
 #[cfg(feature = "check")]
 pub mod ffi;
 pub mod generate;
 pub mod known;
 pub mod listing;
+pub mod memory;
+pub mod opened;
 pub mod random;
 pub mod reader;
 pub mod refusal;
 pub mod row;
 pub mod sheet;
 pub mod table;
+pub mod tally;

@@ -15,33 +15,39 @@ pub const KIND_PLAIN: u16 = 3;
 pub const KIND_LINE: u16 = 4;
 
 /// Bytes of the length, which counts what follows it.
-const LENGTH_BYTES: usize = 4;
-const KIND_BYTES: usize = 2;
-const MAX_RECORD: usize = 32_774;
+pub const LENGTH_BYTES: usize = 4;
+pub const KIND_BYTES: usize = 2;
+/// The greatest number that a length may be.
+pub const MAX_RECORD: usize = 32_774;
 
-/// What later records depend on. It is passed by value: no call parses the
-/// records before its own.
+/// What later records depend on, laid out as C has it. It is passed by value:
+/// no call parses the records before its own. All 0 at a sheet's start.
+#[repr(C)]
 #[derive(Clone, Copy, PartialEq, Eq, Debug, Default)]
 pub struct State {
-    pub has_table: bool,
-    pub last_row: Option<u16>,
+    /// 0 before there is a table; any other number says that there is one.
+    pub has_table: u32,
+    /// The least row number allowed next; 65536 and more allow none.
+    pub least_row: u32,
 }
 
 impl State {
     /// Whether a record of this kind may come next. `row` is looked at only
     /// for the kinds that have one.
     fn allows(self, kind: u16, row: u16) -> bool {
+        let has_table = self.has_table != 0;
         match kind {
-            KIND_TABLE => !self.has_table,
-            KIND_LINE => self.has_table,
-            _ => self.has_table && self.last_row.is_none_or(|last| row > last),
+            KIND_TABLE => !has_table,
+            KIND_LINE => has_table,
+            _ => has_table && u32::from(row) >= self.least_row,
         }
     }
 
+    /// The state after such a record, which changes no more than it must.
     fn after(self, kind: u16, row: u16) -> State {
         match kind {
-            KIND_TABLE => State { has_table: true, ..self },
-            KIND_PACKED | KIND_PLAIN => State { last_row: Some(row), ..self },
+            KIND_TABLE => State { has_table: 1, ..self },
+            KIND_PACKED | KIND_PLAIN => State { least_row: u32::from(row) + 1, ..self },
             _ => self,
         }
     }

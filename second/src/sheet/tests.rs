@@ -1,9 +1,10 @@
 use super::*;
 use crate::known::{plain_table, table_bytes};
 use crate::reader::Codec;
+use crate::table::Table;
 
-const READY: State = State { has_table: true, last_row: Some(4) };
-const EMPTY: State = State { has_table: false, last_row: None };
+const READY: State = State { has_table: 1, least_row: 5 };
+const EMPTY: State = State { has_table: 0, least_row: 0 };
 
 fn record(kind: u16, body: &[u8]) -> Vec<u8> {
     let length = (2 + body.len()) as u32;
@@ -76,7 +77,7 @@ fn tables() {
     let answer = judge_record(EMPTY, Err(1), &record(1, &table));
     let content = Content::Table { id: 1, low_limit: 3837, size: 512, worst: 14 };
     assert_eq!(answer.content, Some(content));
-    assert_eq!(answer.state, State { has_table: true, last_row: None });
+    assert_eq!(answer.state, State { has_table: 1, least_row: 0 });
     assert_eq!(answer.used, 6 + table.len());
 }
 
@@ -139,16 +140,16 @@ fn lent_memory() {
 }
 
 /// Writes with ample room and checks that the record reads back in order.
-fn written(state: State, kind: u16, row: u16, content: &[u8]) -> (u32, Vec<u8>) {
+fn written(state: State, kind: u32, row: u16, content: &[u8]) -> (u32, Vec<u8>) {
     let mut out = vec![0xA5; 40_000];
-    let answer = write_record(state, &plain_table(), kind, row, content, &mut out);
+    let codec = Codec::open(&plain_table()).unwrap();
+    let answer = write_record(state, Ok(&codec.table), kind, row, content, &mut out);
     assert!(out[answer.bytes..].iter().all(|&byte| byte == 0xA5));
     if answer.number != 0 {
         assert_eq!((answer.bytes, answer.state), (0, state));
         return (answer.number, vec![]);
     }
     out.truncate(answer.bytes);
-    let codec = Codec::open(&plain_table()).unwrap();
     let judged = judge_record(state, Ok(&codec), &out);
     assert_eq!((judged.number, judged.used, judged.state), (0, answer.bytes, answer.state));
     (0, out)
@@ -171,6 +172,7 @@ fn writer_refuses_in_order() {
     let many = vec![255; 4 * 4097];
     assert_eq!(written(EMPTY, 0, 0, &many).0, 15);
     assert_eq!(written(EMPTY, 5, 0, &many).0, 15);
+    assert_eq!(written(EMPTY, 1 << 16 | 1, 0, &plain_table()).0, 15);
     assert_eq!(written(READY, 1, 0, &many).0, 16);
     assert_eq!(written(EMPTY, 1, 0, &[1, 2, 3]).0, 1);
     for kind in 2..5 {
@@ -182,14 +184,33 @@ fn writer_refuses_in_order() {
         assert_eq!(written(READY, kind, 9, &[0, 16]).0, 4);
     }
     let mut out = [7; 13];
-    let mut refused = |table: &[u8], kind, content: &[u8]| {
+    let plain = Table::parse(&plain_table()).unwrap();
+    let mut refused = |table: Result<&Table, u32>, kind, content: &[u8]| {
         let answer = write_record(READY, table, kind, 9, content, &mut out);
         assert_eq!(out, [7; 13]);
         answer.number
     };
-    assert_eq!(refused(&[], 2, &many), 1);
-    assert_eq!(refused(&plain_table(), 2, &[0, 0]), 5, "14 bytes");
-    assert_eq!(refused(&plain_table(), 2, &[0, 16]), 4);
-    assert_eq!(refused(&[], 3, &[0; 4]), 5, "the table is not looked at");
-    assert_eq!(refused(&[], 4, &[0; 24]), 5);
+    assert_eq!(refused(Err(1), 2, &many), 1);
+    assert_eq!(refused(Ok(&plain), 2, &[0, 0]), 5, "14 bytes");
+    assert_eq!(refused(Ok(&plain), 2, &[0, 16]), 4);
+    assert_eq!(refused(Err(1), 3, &[0; 4]), 5, "the table is not looked at");
+    assert_eq!(refused(Err(1), 4, &[0; 24]), 5);
+}
+
+#[test]
+fn states() {
+    let after = |state, kind, row| written(state, kind, row, &[]).0;
+    let state = |has_table, least_row| State { has_table, least_row };
+    assert_eq!(after(state(1, 65535), 3, 65535), 0);
+    for least in [65536, 65537, 1 << 31] {
+        assert_eq!(after(state(1, least), 3, 65535), 16, "no row may follow");
+        assert_eq!(after(state(1, least), 4, 0), 0);
+    }
+    // Any number but 0 says that there is a table, and stays.
+    assert_eq!(after(state(2, 0), 3, 0), 0);
+    let codec = Codec::open(&plain_table()).unwrap();
+    let answer = judge_record(state(2, 7), Ok(&codec), &rows(3, 9, 0, &[]));
+    assert_eq!(answer.state, state(2, 10));
+    let answer = judge_record(state(0, 7), Err(1), &record(1, &plain_table()));
+    assert_eq!(answer.state, state(1, 7));
 }

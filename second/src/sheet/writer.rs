@@ -1,6 +1,6 @@
 //! Writing one record.
 
-use super::{State, KIND_LINE, KIND_PACKED, KIND_PLAIN, KIND_TABLE};
+use super::{State, KIND_BYTES, KIND_LINE, KIND_PACKED, KIND_PLAIN, KIND_TABLE};
 use crate::adaptive::write_signed;
 use crate::refusal::{DONE, KIND, PIXEL, PLACE, ROOM, TOO_MANY};
 use crate::row::{pack_under, room_under, MAX_PIXELS, PIXEL_SPOT};
@@ -16,47 +16,49 @@ pub struct WriteAnswer {
 }
 
 /// Writes a record of this kind. The content is a table's bytes, pixels of 2
-/// bytes, or numbers of 4 bytes; `table` is the sheet's table, looked at for
-/// kind 2 only; `row` for kinds 2 and 3 only.
+/// bytes, or numbers of 4 bytes; `table` is the sheet's table or that table's
+/// refusal, looked at for kind 2 only; `row` for kinds 2 and 3 only.
 pub fn write_record(
     state: State,
-    table: &[u8],
-    kind: u16,
+    table: Result<&Table, u32>,
+    kind: u32,
     row: u16,
     content: &[u8],
     out: &mut [u8],
 ) -> WriteAnswer {
-    let written = body_of(state, table, kind, row, content).and_then(|body| {
-        let length = (2 + body.len()) as u32;
+    let written = body_of(state, table, kind, row, content).and_then(|(kind, body)| {
+        let length = (KIND_BYTES + body.len()) as u32;
         let record = [&length.to_le_bytes()[..], &kind.to_le_bytes(), &body].concat();
         out.get_mut(..record.len()).ok_or(ROOM)?.copy_from_slice(&record);
-        Ok(record.len())
+        Ok((record.len(), state.after(kind, row)))
     });
     match written {
-        Ok(bytes) => WriteAnswer { number: DONE, bytes, state: state.after(kind, row) },
+        Ok((bytes, state)) => WriteAnswer { number: DONE, bytes, state },
         Err(number) => WriteAnswer { number, bytes: 0, state },
     }
 }
 
+/// The kind, known to be one, and the record's body.
 fn body_of(
     state: State,
-    table: &[u8],
-    kind: u16,
+    table: Result<&Table, u32>,
+    kind: u32,
     row: u16,
     content: &[u8],
-) -> Result<Vec<u8>, u32> {
-    if !(KIND_TABLE..=KIND_LINE).contains(&kind) {
-        return Err(KIND);
-    }
+) -> Result<(u16, Vec<u8>), u32> {
+    let known = |kind: &u16| (KIND_TABLE..=KIND_LINE).contains(kind);
+    // Never cut down to 16 bits, where it might become a known one.
+    let kind = u16::try_from(kind).ok().filter(known).ok_or(KIND)?;
     if !state.allows(kind, row) {
         return Err(PLACE);
     }
-    match kind {
+    let body = match kind {
         KIND_TABLE => Table::parse(content).map(|_| content.to_vec()),
-        KIND_PACKED => packed_body(&Table::parse(table)?, row, content),
+        KIND_PACKED => packed_body(table?, row, content),
         KIND_PLAIN => plain_body(row, content),
         _ => line_body(content),
-    }
+    };
+    body.map(|body| (kind, body))
 }
 
 fn row_fields(row: u16, pixels: usize) -> Vec<u8> {

@@ -1,7 +1,6 @@
 //! Compares the proved library's packing, unpacking and room question with
 //! the second program's, over random rows and runs of words.
 
-mod lent;
 mod packing;
 mod room;
 mod tally;

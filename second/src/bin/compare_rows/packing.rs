@@ -1,11 +1,11 @@
 //! Packing one row, and unpacking what was packed.
 
-use crate::lent::Lent;
 use crate::tally::Tally;
 use crate::trial::Trial;
 use second::ffi;
 use second::generate::rows::{pixel_bytes, row, row_length, spoil};
 use second::generate::runs::{plain_run, run_words};
+use second::memory::Lent;
 use second::random::Random;
 use second::refusal::DONE;
 use second::row::{pack_under, MAX_PIXELS};

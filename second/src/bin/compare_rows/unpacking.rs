@@ -1,12 +1,12 @@
 //! Unpacking sound and damaged runs of words.
 
-use crate::lent::Lent;
 use crate::tally::Tally;
 use crate::trial::Trial;
 use second::ffi;
 use second::generate::rows::{pixel_bytes, row, row_length};
 use second::generate::runs::{flip, random_words, run, run_words, set_unused};
 use second::generate::runs::{Expected, Fault};
+use second::memory::Lent;
 use second::random::Random;
 use second::reader::unpack_measured;
 use second::refusal::{DONE, ROOM, TOO_MANY, UNUSED_BIT, WORDS_END};

@@ -1,0 +1,115 @@
+//! The structs that the calls for C answer with, field for field.
+
+use crate::sheet::{State, KIND_LINE, KIND_PACKED, KIND_PLAIN};
+
+/// A call's answer; the count is 0 beside a refusal.
+#[repr(C)]
+#[derive(Clone, Copy, PartialEq, Eq, Debug, Default)]
+pub struct Answer {
+    pub number: u32,
+    pub count: u32,
+}
+
+impl Answer {
+    pub fn pair(self) -> (u32, u32) {
+        (self.number, self.count)
+    }
+}
+
+/// A signed adaptive number and the bytes that it was read from.
+#[repr(C)]
+#[derive(Clone, Copy, PartialEq, Eq, Debug, Default)]
+pub struct Signed {
+    pub number: u32,
+    pub value: i32,
+    pub used: u32,
+}
+
+/// An unsigned one.
+#[repr(C)]
+#[derive(Clone, Copy, PartialEq, Eq, Debug, Default)]
+pub struct Unsigned {
+    pub number: u32,
+    pub value: u32,
+    pub used: u32,
+}
+
+/// A record that was judged or read. Refused: all 0 but the number, and the
+/// state as given.
+#[repr(C)]
+#[derive(Clone, Copy, PartialEq, Eq, Debug, Default)]
+pub struct Record {
+    pub number: u32,
+    pub kind: u32,
+    pub row: u32,
+    /// Pixels of a row, numbers of a line, words of a table.
+    pub count: u32,
+    /// Bits and words of a packed row.
+    pub bits: u32,
+    pub words: u32,
+    /// Bytes of the whole record, its length field included.
+    pub length: u32,
+    pub state: State,
+}
+
+impl Record {
+    /// The bytes of the content that reading the record gives.
+    pub fn content_bytes(&self) -> usize {
+        let kind = self.kind as u16;
+        match kind {
+            KIND_PACKED | KIND_PLAIN => 2 * self.count as usize,
+            KIND_LINE => 4 * self.count as usize,
+            _ => 0,
+        }
+    }
+}
+
+/// A record that was written: its bytes, and the state after it.
+#[repr(C)]
+#[derive(Clone, Copy, PartialEq, Eq, Debug, Default)]
+pub struct Written {
+    pub number: u32,
+    pub count: u32,
+    pub state: State,
+}
+
+#[cfg(test)]
+mod tests {
+    use super::*;
+    use std::mem::{offset_of, size_of};
+
+    #[test]
+    fn fields_stand_where_c_has_them() {
+        assert_eq!([size_of::<Answer>(), offset_of!(Answer, count)], [8, 4]);
+        let signed = [offset_of!(Signed, value), offset_of!(Signed, used), size_of::<Signed>()];
+        assert_eq!(signed, [4, 8, 12]);
+        let unsigned =
+            [offset_of!(Unsigned, value), offset_of!(Unsigned, used), size_of::<Unsigned>()];
+        assert_eq!(unsigned, [4, 8, 12]);
+        assert_eq!([offset_of!(State, least_row), size_of::<State>()], [4, 8]);
+        let written = [offset_of!(Written, count), offset_of!(Written, state)];
+        assert_eq!((written, size_of::<Written>()), ([4, 8], 16));
+    }
+
+    #[test]
+    fn record_fields_in_order() {
+        let places = [
+            offset_of!(Record, number),
+            offset_of!(Record, kind),
+            offset_of!(Record, row),
+            offset_of!(Record, count),
+            offset_of!(Record, bits),
+            offset_of!(Record, words),
+            offset_of!(Record, length),
+            offset_of!(Record, state),
+        ];
+        assert_eq!(places, [0, 4, 8, 12, 16, 20, 24, 28]);
+        assert_eq!(size_of::<Record>(), 36);
+    }
+
+    #[test]
+    fn bytes_of_contents() {
+        let bytes = |kind| Record { kind, count: 7, ..Record::default() }.content_bytes();
+        assert_eq!([0, 1, 2, 3, 4].map(bytes), [0, 0, 14, 14, 28]);
+    }
+}

@@ -1,0 +1,65 @@
+//! Each call of the library, made on both sides, compared and counted.
+
+mod numbers;
+mod records;
+mod rows;
+
+use std::fmt::Debug;
+
+pub use numbers::{read_signed, read_unsigned, write_signed, write_unsigned};
+pub use records::{Place, Writing};
+pub use rows::{check, pack, plain_table, room, unpack};
+
+use crate::agreement::Call;
+use crate::answers::{Answer, Record, Signed, Unsigned, Written};
+use crate::memory::Lent;
+use crate::tally::Tally;
+
+/// What a comparison gives, or the report of a difference.
+pub type Outcome<T> = Result<T, String>;
+
+/// An answer with its number.
+trait Numbered: PartialEq + Debug + Copy {
+    fn number(self) -> u32;
+}
+
+impl Numbered for (u32, u32) {
+    fn number(self) -> u32 {
+        self.0
+    }
+}
+
+macro_rules! numbered {
+    ($($answer:ty),*) => {
+        $(impl Numbered for $answer {
+            fn number(self) -> u32 {
+                self.number
+            }
+        })*
+    };
+}
+
+numbered!(Answer, Signed, Unsigned, Record, Written);
+
+/// Compares a call and counts its number.
+fn counted<T: Numbered>(
+    tally: &mut Tally,
+    call: &Call,
+    proved: impl FnOnce(&mut [u8]) -> T,
+    second: impl FnOnce(&mut [u8]) -> T,
+    written: impl FnOnce(T) -> usize,
+) -> Outcome<(T, Lent)> {
+    let (answer, lent) = call.compare(proved, second, written)?;
+    tally.add(call.name, answer.number());
+    Ok((answer, lent))
+}
+
+/// The same for a call that is lent no memory.
+fn counted_answer<T: Numbered>(
+    tally: &mut Tally,
+    call: &Call,
+    proved: impl FnOnce() -> T,
+    second: impl FnOnce() -> T,
+) -> Outcome<T> {
+    counted(tally, call, |_| proved(), |_| second(), |_| 0).map(|(answer, _)| answer)
+}

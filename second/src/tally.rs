@@ -1,0 +1,87 @@
+//! How often each call of the library gave each number.
+
+use crate::refusal::PLACE;
+
+const NUMBERS: usize = PLACE as usize + 1;
+
+/// The calls, and for each the numbers that it can give.
+const CALLS: [(&str, &[usize]); 12] = [
+    ("check", &[0, 1, 2, 3]),
+    ("plain_table", &[0, 5]),
+    ("pack", &[0, 1, 2, 3, 4, 5, 11]),
+    ("unpack", &[0, 1, 2, 3, 5, 6, 7, 8, 9, 10, 11]),
+    ("room", &[0, 1, 2, 3, 11]),
+    ("read_signed", &[0, 12, 13]),
+    ("read_unsigned", &[0, 12, 13]),
+    ("write_signed", &[0, 5]),
+    ("write_unsigned", &[0, 5]),
+    ("judge_record", &[0, 1, 2, 3, 4, 6, 7, 8, 9, 10, 11, 12, 13, 14, 15, 16]),
+    ("read_record", &[0, 1, 2, 3, 4, 5, 6, 7, 8, 9, 10, 11, 12, 13, 14, 15, 16]),
+    ("write_record", &[0, 1, 2, 3, 4, 5, 11, 15, 16]),
+];
+
+#[derive(Default)]
+pub struct Tally {
+    counts: [[u64; NUMBERS]; CALLS.len()],
+}
+
+impl Tally {
+    /// Counts a call. Its number must be one that it can give.
+    pub fn add(&mut self, call: &str, number: u32) {
+        let index = CALLS.iter().position(|(name, _)| *name == call);
+        let index = index.unwrap_or_else(|| panic!("{call} is in the list"));
+        assert!(CALLS[index].1.contains(&(number as usize)), "{call} gave {number}");
+        self.counts[index][number as usize] += 1;
+    }
+
+    pub fn calls(&self) -> u64 {
+        self.counts.iter().flatten().sum()
+    }
+
+    /// Whether some call with this name has been counted.
+    fn is_used(&self, call: usize) -> bool {
+        self.counts[call].iter().any(|&count| count > 0)
+    }
+
+    /// A line for each call that was made.
+    pub fn text(&self) -> String {
+        let line = |call: usize| {
+            let given = CALLS[call].1.iter().map(|&n| format!(" {n}: {}", self.counts[call][n]));
+            let total: u64 = self.counts[call].iter().sum();
+            format!("{:<14} {total:>9} calls;{}\n", CALLS[call].0, given.collect::<String>())
+        };
+        (0..CALLS.len()).filter(|&call| self.is_used(call)).map(line).collect()
+    }
+
+    /// The numbers never reached, of the calls that were made.
+    pub fn missed(&self) -> Vec<String> {
+        let of_call = |call: usize| {
+            let never = move |&&n: &&usize| self.counts[call][n] == 0;
+            CALLS[call].1.iter().filter(never).map(move |n| format!("{} {n}", CALLS[call].0))
+        };
+        (0..CALLS.len()).filter(|&call| self.is_used(call)).flat_map(of_call).collect()
+    }
+}
+
+#[cfg(test)]
+mod tests {
+    use super::*;
+
+    #[test]
+    fn counts_and_misses() {
+        let mut tally = Tally::default();
+        assert!(tally.missed().is_empty() && tally.text().is_empty());
+        tally.add("read_signed", 12);
+        tally.add("read_signed", 12);
+        tally.add("write_signed", 0);
+        assert_eq!(tally.calls(), 3);
+        assert_eq!(tally.missed(), ["read_signed 0", "read_signed 13", "write_signed 5"]);
+        assert!(tally.text().contains("2 calls; 0: 0 12: 2 13: 0\n"));
+    }
+
+    #[test]
+    #[should_panic(expected = "judge_record gave 5")]
+    fn impossible_numbers_are_not_counted() {
+        Tally::default().add("judge_record", 5);
+    }
+}

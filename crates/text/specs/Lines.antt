@@ -1,7 +1,7 @@
 -- The lines of the sheet lister, as document 01 has them, each with its newline. Definitions only. Assumes nothing.
 use Prim.Native.Nat.{ℕ}
 use mathlib.Core.List.{List, _++_}
-use Rattle.text.specs.Text.{ascii, field}
+use Rattle.text.specs.Text.{ascii, field, fields}
 pub mod Cases
 
 abbrev pub newline : List ℕ
@@ -9,15 +9,15 @@ newline = ascii "\n"
 
 -- `table 1 low 3837 size 512 worst 14`
 unfoldable pub tableLine : ℕ → ℕ → ℕ → ℕ → List ℕ
-tableLine id low size worst = field (ascii "table ") id ++ field (ascii " low ") low ++ field (ascii " size ") size ++ field (ascii " worst ") worst ++ newline
+tableLine id low size worst = fields (ascii "table ") id (ascii " low ") low ++ fields (ascii " size ") size (ascii " worst ") worst ++ newline
 
 -- `row 0 pixels 2 bits 13 words 1`: a row of kind 2
 unfoldable pub packedLine : ℕ → ℕ → ℕ → ℕ → List ℕ
-packedLine row pixels bits words = field (ascii "row ") row ++ field (ascii " pixels ") pixels ++ field (ascii " bits ") bits ++ field (ascii " words ") words ++ newline
+packedLine row pixels bits words = fields (ascii "row ") row (ascii " pixels ") pixels ++ fields (ascii " bits ") bits (ascii " words ") words ++ newline
 
 -- `row R pixels P plain`: a row of kind 3
 unfoldable pub plainLine : ℕ → ℕ → List ℕ
-plainLine row pixels = field (ascii "row ") row ++ field (ascii " pixels ") pixels ++ ascii " plain\n"
+plainLine row pixels = fields (ascii "row ") row (ascii " pixels ") pixels ++ ascii " plain\n"
 
 -- `line numbers C`: a contour line
 unfoldable pub contourLine : ℕ → List ℕ
@@ -29,7 +29,7 @@ doneLine rows = field (ascii "done rows ") rows ++ newline
 
 -- `refused N at record K`
 unfoldable pub refusedAtLine : ℕ → ℕ → List ℕ
-refusedAtLine number index = field (ascii "refused ") number ++ field (ascii " at record ") index ++ newline
+refusedAtLine number index = fields (ascii "refused ") number (ascii " at record ") index ++ newline
 
 -- `refused N`, which the table lister prints
 unfoldable pub refusedLine : ℕ → List ℕ

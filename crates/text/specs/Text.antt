@@ -35,3 +35,7 @@ integer (negsuc n) = ascii "-" ++ decimal (suc n)
 -- some words and a number
 abbrev pub field : List ℕ → ℕ → List ℕ
 field words n = words ++ decimal n
+
+-- and once more
+abbrev pub fields : List ℕ → ℕ → List ℕ → ℕ → List ℕ
+fields words n more k = field words n ++ field more k

@@ -1,5 +1,6 @@
 // The lines of the listers, each at most 128 bytes long.
 use crate::number::put_field;
+use crate::number::put_fields;
 use crate::put::put_bytes;
 ghost use Prim.Native.Nat.{_+_, _≤_};
 ghost use lib.ListN.{length};
@@ -12,10 +13,8 @@ pub fn put_table_line(out: &mut [u8], at: usize, id: u32, low: u32, size: u32, w
     ensures put { λ r. ⌜ Put (now (out .entry)) at (tableLine id low size worst) r (now (out .exit)) ⌝ }
     ensures most { λ r. ⌜ r ≤ at + 128 ⌝ }
 {
-    let after_id = put_field(out, at, b"table ", id as u64);
-    let after_low = put_field(out, after_id, b" low ", low as u64);
-    let after_size = put_field(out, after_low, b" size ", size as u64);
-    let after_worst = put_field(out, after_size, b" worst ", worst as u64);
+    let after_low = put_fields(out, at, b"table ", id as u64, b" low ", low as u64);
+    let after_worst = put_fields(out, after_low, b" size ", size as u64, b" worst ", worst as u64);
     put_bytes(out, after_worst, b"\n")
 }
 
@@ -32,10 +31,8 @@ pub fn put_packed_line(
     ensures put { λ r. ⌜ Put (now (out .entry)) at (packedLine row pixels bits words) r (now (out .exit)) ⌝ }
     ensures most { λ r. ⌜ r ≤ at + 128 ⌝ }
 {
-    let after_row = put_field(out, at, b"row ", row as u64);
-    let after_pixels = put_field(out, after_row, b" pixels ", pixels as u64);
-    let after_bits = put_field(out, after_pixels, b" bits ", bits as u64);
-    let after_words = put_field(out, after_bits, b" words ", words as u64);
+    let after_pixels = put_fields(out, at, b"row ", row as u64, b" pixels ", pixels as u64);
+    let after_words = put_fields(out, after_pixels, b" bits ", bits as u64, b" words ", words as u64);
     put_bytes(out, after_words, b"\n")
 }
 
@@ -45,8 +42,7 @@ pub fn put_plain_line(out: &mut [u8], at: usize, row: u32, pixels: u32) -> usize
     ensures put { λ r. ⌜ Put (now (out .entry)) at (plainLine row pixels) r (now (out .exit)) ⌝ }
     ensures most { λ r. ⌜ r ≤ at + 128 ⌝ }
 {
-    let after_row = put_field(out, at, b"row ", row as u64);
-    let after_pixels = put_field(out, after_row, b" pixels ", pixels as u64);
+    let after_pixels = put_fields(out, at, b"row ", row as u64, b" pixels ", pixels as u64);
     put_bytes(out, after_pixels, b" plain\n")
 }
 
@@ -76,8 +72,7 @@ pub fn put_refused_at_line(out: &mut [u8], at: usize, number: u32, index: u64) -
     ensures put { λ r. ⌜ Put (now (out .entry)) at (refusedAtLine number index) r (now (out .exit)) ⌝ }
     ensures most { λ r. ⌜ r ≤ at + 128 ⌝ }
 {
-    let after_number = put_field(out, at, b"refused ", number as u64);
-    let after_index = put_field(out, after_number, b" at record ", index);
+    let after_index = put_fields(out, at, b"refused ", number as u64, b" at record ", index);
     put_bytes(out, after_index, b"\n")
 }
 

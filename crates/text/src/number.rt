@@ -4,7 +4,7 @@ ghost use mathlib.Core.Path.{_≡_};
 ghost use Prim.Native.Nat.{_+_, _≤_};
 ghost use lib.ListN.{length};
 ghost use lib.IntN.{natAbs};
-ghost use Rattle.text.specs.Text.{decimal, integer, field};
+ghost use Rattle.text.specs.Text.{decimal, integer, field, fields};
 ghost use Rattle.text.specs.Put.{Put};
 
 // The digits before the last one, then the last.
@@ -55,4 +55,14 @@ pub fn put_field(out: &mut [u8], at: usize, words: &[u8], n: u64) -> usize
 {
     let next = put_bytes(out, at, words);
     put_decimal(out, next, n)
+}
+
+// The same, and once more.
+pub fn put_fields(out: &mut [u8], at: usize, words: &[u8], n: u64, more: &[u8], k: u64) -> usize
+    requires { ⌜ at + length (now words) + length (now more) + 40 ≤ length (now out) ⌝ }
+    ensures put { λ r. ⌜ Put (now (out .entry)) at (fields (now (words .entry)) n (now (more .entry)) k) r (now (out .exit)) ⌝ }
+    ensures most { λ r. ⌜ r ≤ at + length (now (words .entry)) + length (now (more .entry)) + 40 ⌝ }
+{
+    let next = put_field(out, at, words, n);
+    put_field(out, next, more, k)
 }

@@ -7,46 +7,34 @@ use Rattle.text.specs.Put.Laws.{put-put}
 use borrow.Author.Needs.{needs}
 use Rattle.text.proofs.line.put_refused_at_line.Statement.{statement}
 use Rattle.text.proofs.line.put_refused_at_line.Tie as tie
-
-slice-aggregate-put-field : tie.Need-slice-aggregate-put-field
-slice-aggregate-put-field c = search needs
-
-put-field-requires : tie.Need-put-field-requires
-put-field-requires c κs = search needs
-
-slice-aggregate-put-field-2 : tie.Need-slice-aggregate-put-field-2
-slice-aggregate-put-field-2 c = search needs
-
-put-field-requires-2 : tie.Need-put-field-requires-2
-put-field-requires-2 c κs = search needs
-
+slice-aggregate-put-fields : tie.Need-slice-aggregate-put-fields
+slice-aggregate-put-fields c = search needs
+slice-aggregate-put-fields-2 : tie.Need-slice-aggregate-put-fields-2
+slice-aggregate-put-fields-2 c = search needs
+put-fields-requires : tie.Need-put-fields-requires
+put-fields-requires c κs = search needs
 slice-aggregate-put-bytes : tie.Need-slice-aggregate-put-bytes
 slice-aggregate-put-bytes c = search needs
-
 put-bytes-requires : tie.Need-put-bytes-requires
 put-bytes-requires c κs = search needs
-
 same-length : tie.Need-same-length
 same-length c = search needs
-
 returns : tie.Need-returns
 unfolding refusedAtLine
 returns c =
     let at-end = c .before .before in
     let at-index = at-end .before .before .before .before .before in
-    let at-number = at-index .before .before .before .before .before in
-    let start = at-number .before .before .before .before in
+    let start = at-index .before .before .before .before .before in
     let room : start .args .at ≤ length (start .args .out .now) = omega arith in
-    (put-put room (put-put room (at-number .put-field .ensures .0) (at-index .put-field2 .ensures .0)) (at-end .put-bytes .ensures), search needs)
+    (put-put room (at-index .put-fields .ensures .0) (at-end .put-bytes .ensures), search needs)
 
 pub put-refused-at-line-spec : {M : Type 1} → statement M
 put-refused-at-line-spec =
     tie.close
     (tie.spec
-    slice-aggregate-put-field
-    put-field-requires
-    slice-aggregate-put-field-2
-    put-field-requires-2
+    slice-aggregate-put-fields
+    slice-aggregate-put-fields-2
+    put-fields-requires
     slice-aggregate-put-bytes
     put-bytes-requires
     same-length

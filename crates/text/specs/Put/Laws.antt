@@ -39,6 +39,10 @@ put-put {m} {m′} {m″} {at} {r} {r′} {b} {c} h p q =
 pub put-more : {m m′ : List ℕ} {at r : ℕ} {b : List ℕ} (x : ℕ) → r < length m → length m′ ≡ length m → Put m at b r m′ → Put m at (b ++ (x ∷ [])) (r + 1) (set m′ r x)
 put-more {m} {m′} {at} {r} {b} x h e p = put-put (omega (arith, p .next)) p (put-one m′ r x (omega arith))
 
+-- what is put at the front stands there
+pub put-front : {m m′ : List ℕ} {r : ℕ} {b : List ℕ} → Put m 0 b r m′ → take r m′ ≡ b
+put-front {m} {m′} {r} {b} p = rw (p .next, p .memory) (take-overwritten m 0 b (omega arith))
+
 -- ---- a run put element by element
 pub putting-none : (m : List ℕ) (at : ℕ) (b : List ℕ) → Putting m at b 0 m
 putting-none m at b = record { within = omega arith; size = refl; put = rw (add-zero at) (put-none m at) }

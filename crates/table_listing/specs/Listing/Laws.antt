@@ -1,0 +1,2 @@
+-- The laws of listings. Assumes nothing.
+use Prim.Native.Nat.{ℕ}

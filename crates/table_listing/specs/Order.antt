@@ -1,12 +1,13 @@
 -- Tree order: "prints its strings in tree order, the 0-branch before the 1-branch, never deeper than 27". Strings are named
 -- by their places, and s gives the string at a place. Definitions only; their laws are in Order/. Assumes nothing.
 use Prim.Native.Nat.{ℕ, zero, suc, _+_}
-use mathlib.Core.Bool.{cond}
+use mathlib.Core.Bool.{Bool, true, false, cond}
 use mathlib.Core.List.{List, [], _∷_, _++_}
 use lib.ListN.{length, getD}
-use lib.Dec.{leb, eqb}
+use lib.Dec.{leb, ltb, eqb}
 pub mod Laws
 pub mod Once
+pub mod Sorted
 
 -- where a string goes at a node of the tree that is d bits deep: 0 it ends there, 1 into the 0-branch, 2 into the 1-branch
 unfoldable pub way : ℕ → List ℕ → ℕ
@@ -31,3 +32,9 @@ places (suc n) = places n ++ (n ∷ [])
 unfoldable pub occurs : ℕ → List ℕ → ℕ
 occurs x [] = 0
 occurs x (y ∷ ys) = cond (eqb x y) 1 0 + occurs x ys
+
+-- a string stands before another in the tree: where they first differ it has the 0. One that begins another stands first
+unfoldable pub before : List ℕ → List ℕ → Bool
+before [] b = true
+before (x ∷ a) [] = false
+before (x ∷ a) (y ∷ b) = let q : Bool = before a b in cond (eqb x y) q (ltb x y)

@@ -39,7 +39,7 @@ module _ (s : ℕ → List ℕ) (d k : ℕ) where
   picked-other p ps e = rw (ne-eqb (way d (s p)) k e)
 
   -- the two cases
-  by-way : {A : Type 0} (p : ℕ) → (way d (s p) ≡ k → A) → ((way d (s p) ≡ k → ⊥) → A) → A
+  pub by-way : {A : Type 0} (p : ℕ) → (way d (s p) ≡ k → A) → ((way d (s p) ≡ k → ⊥) → A) → A
   by-way p same other = by-test (eqb (way d (s p)) k) (λ e. same (eqb-true (way d (s p)) k e)) (λ e. other (eqb-false (way d (s p)) k e))
 
   pub picked-append : (ps qs : List ℕ) → picked s d k (ps ++ qs) ≡ picked s d k ps ++ picked s d k qs

@@ -4,3 +4,5 @@ pub mod Strings
 pub mod Line
 pub mod Listing
 pub mod Fill
+pub mod Theorems
+pub mod Cases

@@ -1,5 +1,5 @@
 -- The listing of a table: its strings in tree order, a line each, or the one line `refused N`. Definitions only; their laws
--- are in Listing/Laws.antt. Assumes nothing.
+-- are in Listing/. Assumes nothing.
 use Prim.Native.Nat.{ℕ, zero, suc, _-_}
 use mathlib.Core.Bool.{cond}
 use mathlib.Core.List.{List, [], _∷_, _++_, map}
@@ -13,6 +13,8 @@ use Rattle.table_listing.specs.Order.{order, places}
 use Rattle.table_listing.specs.Line.{line}
 use Rattle.table_listing.specs.declared.Listed.{Listed}
 pub mod Laws
+pub mod Blocks
+pub mod Long
 
 -- the places of a table's strings in tree order, "never deeper than 27"
 abbrev pub treeOrder : List ℕ → List ℕ

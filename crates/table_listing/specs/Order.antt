@@ -21,7 +21,9 @@ picked s d k (p ∷ ps) = let q : List ℕ = picked s d k ps in cond (eqb (way d
 -- the places below such a node, in tree order; the tree goes `left` bits deeper
 unfoldable pub order : (ℕ → List ℕ) → ℕ → ℕ → List ℕ → List ℕ
 order s zero d ps = ps
-order s (suc left) d ps = picked s d 0 ps ++ order s left (suc d) (picked s d 1 ps) ++ order s left (suc d) (picked s d 2 ps)
+order s (suc left) d [] = []
+order s (suc left) d (p ∷ ps) =
+    picked s d 0 (p ∷ ps) ++ order s left (suc d) (picked s d 1 (p ∷ ps)) ++ order s left (suc d) (picked s d 2 (p ∷ ps))
 
 -- the first n places, one after the other
 unfoldable pub places : ℕ → List ℕ

@@ -4,10 +4,14 @@ use native.Mathlib.Nat.{le-of-suc-le-suc, not-suc-le-zero}
 use native.Mathlib.Omega.{arith}
 use mathlib.Core.Path.{_≡_, refl, sym, ap, _∙_}
 use mathlib.Core.List.{List, [], _∷_, _++_, map}
+use lib.Dec.{ltb}
+use lib.IntN.{natAbs}
 use lib.ListN.{length, getD, length-map, length-append}
 use Rattle.text.specs.Put.{Put}
 use Rattle.text.specs.Put.Laws.{put-put}
 use Rattle.text.specs.Text.{ascii, digit, integer}
+use Rattle.text.specs.Text.Signed.{length-integer}
+use Rattle.row_format.specs.Lists.Laws.{by-test}
 use Rattle.row_format.specs.Table.{codeword, codewordAt, signed, entryDifference}
 use Rattle.row_format.specs.Table.Laws.{length-codeword}
 use Rattle.prefix_free.specs.Branch.Laws.{getD-codeword}
@@ -59,3 +63,24 @@ put-parts t p w h e named spaced bits ended = put-put h (put-put h (put-put h na
 pub line-some : (t : List ℕ) (p : ℕ) → 1 ≤ length (line t p)
 unfolding line
 line-some t p = rw (length-append (name t p ++ ascii " " ++ map digit (codewordAt t p)) (ascii "\n")) (omega arith)
+
+-- ---- a line is short
+natAbs-signed : (k : ℕ) → k ≤ 8186 → natAbs (signed k) < 10 ^ 4
+natAbs-signed k h = by-test (ltb k 4093) (λ e. rw e (omega arith)) (λ e. rw e (omega arith))
+
+name-most : (t : List ℕ) (p : ℕ) → ((i : ℕ) → p ≡ 3 + i → entryDifference t i ≤ 8186) → length (name t p) ≤ 9
+unfolding name
+name-most t zero small = omega arith
+name-most t (suc zero) small = omega arith
+name-most t (suc (suc zero)) small = omega arith
+name-most t (suc (suc (suc i))) small = omega (arith, length-integer 3 (signed (entryDifference t i)) (natAbs-signed (entryDifference t i) (small i (omega arith))))
+
+pub line-most : (t : List ℕ) (p : ℕ) → ((i : ℕ) → p ≡ 3 + i → entryDifference t i ≤ 8186) → length (line t p) ≤ 128
+unfolding line codewordAt
+line-most t p small =
+    let w = getD t (3 + p) 0 in
+    let parts : length (name t p ++ ascii " " ++ map digit (codeword w) ++ ascii "\n") ≡ length (name t p) + 1 + length (map digit (codeword w)) + 1 =
+        length-append (name t p ++ ascii " " ++ map digit (codeword w)) (ascii "\n")
+        ∙ ap (_+ 1) (length-append (name t p ++ ascii " ") (map digit (codeword w))
+        ∙ ap (_+ length (map digit (codeword w))) (length-append (name t p) (ascii " "))) in
+    omega (arith, name-most t p small, length-bits w)

@@ -64,6 +64,18 @@ module _ (s : ℕ → List ℕ) (d k : ℕ) where
       (λ e. rw (picked-some p ps e) (below-cons (below-head h) (picked-below n ps (below-tail h))))
       (λ e. rw (picked-other p ps e) (picked-below n ps (below-tail h)))
 
+-- ---- tree order
+order-none : (s : ℕ → List ℕ) (left d : ℕ) → order s left d [] ≡ []
+unfolding order
+order-none s zero d = refl
+order-none s (suc left) d = refl
+
+pub order-suc : (s : ℕ → List ℕ) (left d : ℕ) (ps : List ℕ)
+    → order s (suc left) d ps ≡ picked s d 0 ps ++ order s left (suc d) (picked s d 1 ps) ++ order s left (suc d) (picked s d 2 ps)
+unfolding order picked
+order-suc s left d [] = rw (order-none s left (suc d))
+order-suc s left d (p ∷ ps) = refl
+
 -- ---- of strings of bits each place goes one of the three ways
 module _ (s : ℕ → List ℕ) (bits : (p : ℕ) → Below 2 (s p)) where
   by-three : {A : Type 0} (d p : ℕ) → (way d (s p) ≡ 0 → A) → (way d (s p) ≡ 1 → A) → (way d (s p) ≡ 2 → A) → A
@@ -97,33 +109,28 @@ module _ (s : ℕ → List ℕ) (bits : (p : ℕ) → Below 2 (s p)) where
 
   -- tree order leaves no place out and adds none
   pub order-perm : (left d : ℕ) (ps : List ℕ) → List·Permᴰ (order s left d ps) ps
-  unfolding order
-  order-perm zero d ps = Permᴰ·refl ps
+  order-perm zero d ps = unfold order in Permᴰ·refl ps
   order-perm (suc left) d ps =
-      List·Permᴰ·trans
+      rw (order-suc s left d ps)
+      (List·Permᴰ·trans
       (List·Permᴰ·trans
       (Permᴰ·append-right (order s left (suc d) (picked s d 2 ps)) (Permᴰ·append-left (picked s d 0 ps) (order-perm left (suc d) (picked s d 1 ps))))
       (Permᴰ·append-left (picked s d 0 ps ++ picked s d 1 ps) (order-perm left (suc d) (picked s d 2 ps))))
-      (parted-perm d ps)
+      (parted-perm d ps))
 
   -- no place, or one alone, is in order
-  order-none : (left d : ℕ) → order s left d [] ≡ []
-  unfolding order picked
-  order-none zero d = refl
-  order-none (suc left) d = rw (order-none left (suc d))
-
   order-one : (left d p : ℕ) → order s left d (p ∷ []) ≡ p ∷ []
-  unfolding order
-  order-one zero d p = refl
+  order-one zero d p = unfold order in refl
   order-one (suc left) d p =
       let nil : (k : ℕ) → picked s d k [] ≡ [] = λ k. unfold picked in refl in
-      by-three d p
-      (λ e. rw (picked-some s d 0 p [] e, picked-other s d 1 p [] (λ q. omega arith), picked-other s d 2 p [] (λ q. omega arith), nil 0, nil 1, nil 2, order-none left (suc d)))
-      (λ e. rw (picked-some s d 1 p [] e, picked-other s d 0 p [] (λ q. omega arith), picked-other s d 2 p [] (λ q. omega arith), nil 0, nil 1, nil 2, order-none left (suc d), order-one left (suc d) p))
-      (λ e. rw (picked-some s d 2 p [] e, picked-other s d 0 p [] (λ q. omega arith), picked-other s d 1 p [] (λ q. omega arith), nil 0, nil 1, nil 2, order-none left (suc d), order-one left (suc d) p))
+      order-suc s left d (p ∷ [])
+      ∙ by-three d p
+      (λ e. rw (picked-some s d 0 p [] e, picked-other s d 1 p [] (λ q. omega arith), picked-other s d 2 p [] (λ q. omega arith), nil 0, nil 1, nil 2, order-none s left (suc d)))
+      (λ e. rw (picked-some s d 1 p [] e, picked-other s d 0 p [] (λ q. omega arith), picked-other s d 2 p [] (λ q. omega arith), nil 0, nil 1, nil 2, order-none s left (suc d), order-one left (suc d) p))
+      (λ e. rw (picked-some s d 2 p [] e, picked-other s d 0 p [] (λ q. omega arith), picked-other s d 1 p [] (λ q. omega arith), nil 0, nil 1, nil 2, order-none s left (suc d), order-one left (suc d) p))
 
   pub order-few : (left d : ℕ) (ps : List ℕ) → length ps < 2 → order s left d ps ≡ ps
-  order-few left d [] h = order-none left d
+  order-few left d [] h = order-none s left d
   order-few left d (p ∷ []) h = order-one left d p
   order-few left d (p ∷ q ∷ ps) h = absurd (omega arith)
 
@@ -139,9 +146,8 @@ pub order-step : (s : ℕ → List ℕ) (left : ℕ) (ps : List ℕ) → 1 ≤ l
     ≡ picked s (27 - left) 0 ps
     ++ order s (left - 1) (27 - (left - 1)) (picked s (27 - left) 1 ps)
     ++ order s (left - 1) (27 - (left - 1)) (picked s (27 - left) 2 ps)
-unfolding order
 order-step s zero ps least most = absurd (omega arith)
 order-step s (suc left) ps least most =
     let one : suc left - 1 ≡ left = omega arith in
     let deeper : 27 - left ≡ suc (27 - suc left) = omega arith in
-    rw (one, deeper)
+    rw (one, deeper) (order-suc s left (27 - suc left) ps)

@@ -12,7 +12,7 @@ use borrow.Author.Tests.{leb-true, leb-false, eq-eqb}
 use Rattle.bitstream.specs.Bits.Laws.{Below}
 use Rattle.row_format.specs.Lists.Laws.{by-test}
 use Rattle.table_listing.specs.Order.{way, picked, order, before}
-use Rattle.table_listing.specs.Order.Laws.{way-ended, way-on, by-way, picked-some, picked-other, order-perm}
+use Rattle.table_listing.specs.Order.Laws.{way-ended, way-on, by-way, picked-some, picked-other, order-suc, order-perm}
 
 -- ---- what holds of each element, and of each pair
 data All (P : ℕ → Type 0) : List ℕ → Type 0 where
@@ -151,15 +151,15 @@ module _ (s : ℕ → List ℕ) (bits : (p : ℕ) → Below 2 (s p)) where
 
   -- the tree is deep enough for each string
   sorted : (left d : ℕ) (ps : List ℕ) → All (λ p. length (s p) ≤ d + left) ps → Sorted (Before d) (order s left d ps)
-  unfolding order
-  sorted zero d ps short = sorted-all (λ p q e. ended-before d p q e) (all-map (λ p h. drop-of-length-le (s p) {i = d} (omega arith)) short)
+  sorted zero d ps short = unfold order in sorted-all (λ p q e. ended-before d p q e) (all-map (λ p h. drop-of-length-le (s p) {i = d} (omega arith)) short)
   sorted (suc left) d ps short =
       let deeper : All (λ p. length (s p) ≤ suc d + left) ps = all-map (λ p h. omega arith) short in
-      step-sorted d ps (order s left (suc d) (picked s d 1 ps)) (order s left (suc d) (picked s d 2 ps))
+      rw (order-suc s left d ps)
+      (step-sorted d ps (order s left (suc d) (picked s d 1 ps)) (order s left (suc d) (picked s d 2 ps))
       (order-perm s bits left (suc d) (picked s d 1 ps))
       (order-perm s bits left (suc d) (picked s d 2 ps))
       (sorted left (suc d) (picked s d 1 ps) (picked-all d 1 deeper))
-      (sorted left (suc d) (picked s d 2 ps) (picked-all d 2 deeper))
+      (sorted left (suc d) (picked s d 2 ps) (picked-all d 2 deeper)))
 
   pub order-before : (left : ℕ) (ps : List ℕ) → ((j : ℕ) → j < length ps → length (s (getD ps j 0)) ≤ left) → (i j : ℕ) → i < j → j < length (order s left 0 ps)
       → before (s (getD (order s left 0 ps) i 0)) (s (getD (order s left 0 ps) j 0)) ≡ true

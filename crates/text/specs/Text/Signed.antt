@@ -15,6 +15,7 @@ use borrow.Author.Tests.{le-ltb, ltb-true}
 use Rattle.text.specs.Put.{Put}
 use Rattle.text.specs.Put.Laws.{put-one, put-put}
 use Rattle.text.specs.Text.{decimal, integer}
+use Rattle.text.specs.Text.Laws.{length-decimal}
 
 -- ---- the text
 negative-text : {m m′ : List ℕ} {at r : ℕ} (z : ℤ) → ltZ z (pos 0) ≡ true → at < length m
@@ -27,6 +28,12 @@ positive-text : {m m′ : List ℕ} {at r : ℕ} (z : ℤ) → ltZ z (pos 0) ≡
 unfolding integer
 positive-text (pos n) e p = p
 positive-text (negsuc n) e p = absurd (let q : _≡_ {A = ℕ} 0 1 = cc in omega arith)
+
+-- one byte more than its digits at most
+pub length-integer : (k : ℕ) (z : ℤ) → natAbs z < 10 ^ suc k → length (integer z) ≤ suc (suc k)
+unfolding integer
+length-integer k (pos n) h = omega (arith, length-decimal k n h)
+length-integer k (negsuc n) h = omega (arith, length-decimal k (suc n) h)
 
 -- ---- the opposite of a negative number, less one
 record Opposite (z : ℤ) : Type 0 where

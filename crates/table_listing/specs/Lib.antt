@@ -1,0 +1,8 @@
+pub mod Order
+pub mod Pick
+pub mod Strings
+pub mod Line
+pub mod Listing
+pub mod Fill
+pub mod Theorems
+pub mod Cases

@@ -1,0 +1,98 @@
+-- The blocks of a listing make it up, and with room for 128 bytes each has a line. Assumes nothing.
+use Prim.Native.Nat.{ℕ, zero, suc, _+_, _-_, _/_, _%_, _≤_, _<_}
+use native.Mathlib.Nat.{zero-add}
+use native.Mathlib.Omega.{arith}
+use mathlib.Core.Path.{_≡_, refl, sym, ap, _∙_}
+use mathlib.Core.Bool.{Bool, true, false, cond}
+use mathlib.Core.List.{List, [], _∷_, _++_, append-assoc, map}
+use lib.ListN.{length, take, drop, getD, length-append, length-drop, length-map, take-append-drop, List·getD-eq-default}
+use lib.Seq.{drop-drop, getD-drop}
+use lib.Dec.{leb, ltb, eqb}
+use borrow.Author.Tests.{le-leb, ltb-true, ltb-false}
+use Rattle.bitstream.specs.Bits.{wordsOf}
+use Rattle.bitstream.specs.Memory.{overwritten}
+use Rattle.bitstream.specs.Memory.Laws.{take-overwritten}
+use Rattle.row_format.specs.Lists.Laws.{by-test}
+use Rattle.row_format.specs.Table.{tableSize, lowLimit, entryDifference, wrongSize, wrongCodeword, clash, codewords, verdict, tableNumber}
+use Rattle.code_table.specs.Check.Laws.{whole-table-words}
+use Rattle.text.specs.Text.{ascii, field, decimal}
+use Rattle.text.specs.Text.Laws.{length-decimal}
+use Rattle.text.specs.Lines.{newline, refusedLine}
+use Rattle.table_listing.specs.Line.{line}
+use Rattle.table_listing.specs.Line.Laws.{getD-map, line-most}
+use Rattle.table_listing.specs.Listing.{treeOrder, linesFor, lines, joined, fitting, blockOf, block}
+use Rattle.table_listing.specs.Listing.Laws.{accepted-whole, treeOrder-below, lines-accepted}
+
+-- ---- one block after the other
+joined-append : (ks ls : List (List ℕ)) → joined (ks ++ ls) ≡ joined ks ++ joined ls
+unfolding joined
+joined-append [] ls = refl
+joined-append (k ∷ ks) ls = rw (joined-append ks ls) (sym (append-assoc k (joined ks) (joined ls)))
+
+-- what a call leaves at the front of the memory, and the listing from its line on
+pub block-text : (b : List ℕ) (first : ℕ) (m : List ℕ) →
+    let r = block b first m in take (r .answer .bytes) (r .memory) ≡ joined (take (r .answer .lines) (drop first (lines b)))
+block-text b first m =
+    let text = joined (take (fitting (length m) (drop first (lines b))) (drop first (lines b))) in
+    ap (λ (n : ℕ). take n (overwritten m 0 text)) (sym (zero-add (length text))) ∙ take-overwritten m 0 text (omega arith)
+
+pub block-then : (b : List ℕ) (first n : ℕ) → joined (drop first (lines b)) ≡ joined (take n (drop first (lines b))) ++ joined (drop (first + n) (lines b))
+block-then b first n =
+    sym (ap joined (take-append-drop n (drop first (lines b))))
+    ∙ joined-append (take n (drop first (lines b))) (drop n (drop first (lines b)))
+    ∙ ap (λ (ls : List (List ℕ)). joined (take n (drop first (lines b))) ++ joined ls) (drop-drop n first (lines b))
+
+-- ---- no line has more than 128 bytes
+tableNumber-most : (b : List ℕ) → tableNumber b ≤ 3
+unfolding tableNumber verdict
+tableNumber-most b =
+    by-test (eqb (length b % 4) 0)
+    (λ e. rw e (by-test (wrongSize (wordsOf b))
+    (λ f. rw f (omega arith))
+    (λ f. rw f (by-test (wrongCodeword (wordsOf b))
+    (λ g. rw g (omega arith))
+    (λ g. rw g (by-test (clash (codewords (wordsOf b))) (λ h. rw h (omega arith)) (λ h. rw h (omega arith))))))))
+    (λ e. rw e (omega arith))
+
+refusedLine-most : (e : ℕ) → e ≤ 3 → length (refusedLine e) ≤ 128
+unfolding refusedLine
+refusedLine-most e h =
+    rw (length-append (field (ascii "refused ") e) newline, length-append (ascii "refused ") (decimal e)) (omega (arith, length-decimal 0 e (omega arith)))
+
+strings-most : (b : List ℕ) → tableNumber b ≡ 0 → (k : ℕ) → length (getD (map (line (wordsOf b)) (treeOrder (wordsOf b))) k []) ≤ 128
+strings-most b ok k =
+    let t = wordsOf b in
+    let ps = treeOrder t in
+    by-test (ltb k (length ps))
+    (λ e. rw (getD-map (line t) ps k 0 [] (ltb-true k (length ps) e))
+    (line-most t (getD ps k 0) (λ i is. omega (arith, treeOrder-below b ok .below k, whole-table-words b (accepted-whole b ok)))))
+    (λ e.
+    let past : length (map (line t) ps) ≤ k = omega (arith, ltb-false k (length ps) e, length-map ps (line t)) in
+    rw (List·getD-eq-default (map (line t) ps) [] past) (omega arith))
+
+refusal-most : (e : ℕ) (t : List ℕ) → suc e ≤ 3 → (k : ℕ) → length (getD (linesFor (suc e) t) k []) ≤ 128
+unfolding linesFor
+refusal-most e t h zero = refusedLine-most (suc e) h
+refusal-most e t h (suc k) = omega arith
+
+pub lines-most : (b : List ℕ) (k : ℕ) → length (getD (lines b) k []) ≤ 128
+lines-most b k = go (tableNumber b) refl
+  where
+    go : (e : ℕ) → tableNumber b ≡ e → length (getD (lines b) k []) ≤ 128
+    go zero is = rw (lines-accepted b is) (strings-most b is k)
+    go (suc e) is =
+        let most : suc e ≤ 3 = omega (arith, tableNumber-most b) in
+        let these : lines b ≡ linesFor (suc e) (wordsOf b) = unfold lines in rw is in
+        rw these (refusal-most e (wordsOf b) most k)
+
+-- ---- so that a block with that room has a line as long as there is one
+fitting-some : (room : ℕ) (ls : List (List ℕ)) → 1 ≤ length ls → length (getD ls 0 []) ≤ room → 1 ≤ fitting room ls
+unfolding fitting
+fitting-some room [] h g = absurd (omega arith)
+fitting-some room (l ∷ ls) h g = rw (le-leb (length l) room g) (omega arith)
+
+pub block-some : (b : List ℕ) (first : ℕ) (m : List ℕ) → 128 ≤ length m → first < length (lines b) → 1 ≤ block b first m .answer .lines
+block-some b first m room h =
+    let there : first + 0 ≡ first = omega arith in
+    let short : length (getD (drop first (lines b)) 0 []) ≤ 128 = rw (getD-drop first (lines b) 0 [], there) (lines-most b first) in
+    fitting-some (length m) (drop first (lines b)) (omega (arith, length-drop first (lines b))) (omega arith)

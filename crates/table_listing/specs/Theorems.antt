@@ -1,0 +1,64 @@
+-- What the listing of an accepted table is, and how its blocks make it up. Each is a citation. Assumes nothing.
+use Prim.Native.Nat.{ℕ, _+_, _-_, _≤_, _<_}
+use native.Mathlib.Omega.{arith}
+use mathlib.Core.Path.{_≡_, ap, _∙_}
+use mathlib.Core.Bool.{true}
+use mathlib.Core.List.{List, _++_, List·Permᴰ}
+use lib.ListN.{length, take, drop, getD}
+use Rattle.bitstream.specs.Bits.{wordsOf}
+use Rattle.row_format.specs.Table.{codewordAt, tableSize, tableNumber}
+use Rattle.row_format.specs.Table.Laws.{accepted, codewordAt-most, tableNumber-verdict}
+use Rattle.code_table.specs.Check.Laws.{length-words}
+use Rattle.table_listing.specs.Order.{order, places, occurs, before}
+use Rattle.table_listing.specs.Order.Laws.{order-perm}
+use Rattle.table_listing.specs.Order.Once.{length-order, order-once, getD-places, length-places}
+use Rattle.table_listing.specs.Order.Sorted.{order-before}
+use Rattle.table_listing.specs.Strings.{codewordAt-bits}
+use Rattle.table_listing.specs.Listing.{treeOrder, lines, joined, listing, block}
+use Rattle.table_listing.specs.Listing.Laws.{strings-count}
+use Rattle.table_listing.specs.Listing.Blocks
+use Rattle.table_listing.specs.Listing.Long.{lines-cut}
+
+-- ---- the strings of a table, by their places
+-- for any table, accepted or not, each place is listed and none twice
+pub permutation : (t : List ℕ) → List·Permᴰ (treeOrder t) (places (length t - 3))
+permutation t = order-perm (codewordAt t) (codewordAt-bits t) 27 0 (places (length t - 3))
+
+module _ (b : List ℕ) (ok : tableNumber b ≡ 0) where
+  words-count : length (wordsOf b) - 3 ≡ 3 + tableSize (wordsOf b)
+  words-count = omega (arith, length-words b, strings-count b ok)
+
+  pub as-many : length (treeOrder (wordsOf b)) ≡ 3 + tableSize (wordsOf b)
+  as-many = length-order (codewordAt (wordsOf b)) (codewordAt-bits (wordsOf b)) 27 (length (wordsOf b) - 3) ∙ words-count
+
+  pub each-once : (p : ℕ) → p < 3 + tableSize (wordsOf b) → occurs p (treeOrder (wordsOf b)) ≡ 1
+  each-once p h = order-once (codewordAt (wordsOf b)) (codewordAt-bits (wordsOf b)) 27 (length (wordsOf b) - 3) p (omega (arith, words-count))
+
+  -- "the 0-branch before the 1-branch", and 27 bits are deep enough
+  pub in-tree-order : (i j : ℕ) → i < j → j < 3 + tableSize (wordsOf b)
+      → before (codewordAt (wordsOf b) (getD (treeOrder (wordsOf b)) i 0)) (codewordAt (wordsOf b) (getD (treeOrder (wordsOf b)) j 0)) ≡ true
+  in-tree-order i j below h =
+      let t = wordsOf b in
+      let n = length t - 3 in
+      order-before (codewordAt t) (codewordAt-bits t) 27 (places n)
+      (λ k g.
+      let inside : k < n = omega (arith, length-places n) in
+      rw (getD-places n k inside) (codewordAt-most t (accepted t (tableNumber-verdict b ok)) k (omega (arith, words-count))))
+      i j below (omega (arith, as-many))
+
+-- ---- the blocks of a listing
+-- a block is some lines; the listing from its first line on is these and then the listing from the next line on
+pub block-text : (b : List ℕ) (first : ℕ) (m : List ℕ) →
+    let r = block b first m in take (r .answer .bytes) (r .memory) ≡ joined (take (r .answer .lines) (drop first (lines b)))
+block-text = Blocks.block-text
+
+pub block-then : (b : List ℕ) (first n : ℕ) → joined (drop first (lines b)) ≡ joined (take n (drop first (lines b))) ++ joined (drop (first + n) (lines b))
+block-then = Blocks.block-then
+
+-- with room for 128 bytes no lines means that the listing has ended
+pub block-some : (b : List ℕ) (first : ℕ) (m : List ℕ) → 128 ≤ length m → first < length (lines b) → 1 ≤ block b first m .answer .lines
+block-some = Blocks.block-some
+
+-- whoever reads a table need not keep more than 32776 bytes of it
+pub listing-cut : (b : List ℕ) → listing (take 32776 b) ≡ listing b
+listing-cut b = ap joined (lines-cut b)

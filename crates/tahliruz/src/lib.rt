@@ -1,11 +1,17 @@
 // The calls that C links: each passes its arguments on to the proved call of the same name. include/tahliruz.h declares them.
+pub mod item;
+
 use adaptive::SignedRead;
 use adaptive::UnsignedRead;
 use answer::Answer;
+use item::ItemAnswer;
+use item::ReaderPlace;
 ghost use mathlib.Core.Path.{_≡_};
 ghost use Rattle.answer.specs.Outcome.{outcome};
 ghost use Rattle.row_format.specs.Calls.{checked, packed, unpacked, room};
 ghost use Rattle.code_table.specs.Plain.{plainLent};
+ghost use Rattle.row_reader.specs.Step.{startPlace, itemRead};
+ghost use Rattle.tahliruz.specs.Items.{placeOf, flatPlace, itemAnswer};
 ghost use Rattle.adaptive.specs.Calls.{signedRead, unsignedRead, signedWritten, unsignedWritten};
 
 #[no_mangle]
@@ -41,6 +47,38 @@ pub extern "C" fn tahliruz_room(table: &[u8], n: u64) -> Answer
     ensures { λ r. ⌜ r ≡ room (now (table .entry)) n ⌝ }
 {
     row_packer::room::room(table, n)
+}
+
+#[no_mangle]
+pub extern "C" fn tahliruz_open(table: &[u8]) -> ReaderPlace
+    ensures { λ r. ⌜ r ≡ flatPlace (startPlace (now (table .entry))) ⌝ }
+{
+    item::flat_place(row_reader::step::start(table))
+}
+
+#[no_mangle]
+pub extern "C" fn tahliruz_next(table: &[u8], words: &[u8], place: ReaderPlace) -> ItemAnswer
+    ensures { λ r. ⌜ r ≡ itemAnswer place (itemRead (now (table .entry)) (now (words .entry)) (placeOf place)) ⌝ }
+{
+    let read = row_reader::step::item_at(table, words, item::place_of(place));
+    let number = read.number;
+    if number != 0 {
+        return ItemAnswer {
+            number,
+            kind: 0,
+            step: 0,
+            pixel: 0,
+            place,
+        };
+    }
+    let given = read.item;
+    ItemAnswer {
+        number: 0,
+        kind: item::kind_of(given),
+        step: item::step_of(given),
+        pixel: read.pixel,
+        place: item::flat_place(read.place),
+    }
 }
 
 #[no_mangle]

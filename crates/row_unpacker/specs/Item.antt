@@ -1,7 +1,7 @@
 -- One item read at a place of a row's words. Assumes nothing.
 use Prim.Native.Nat.{ℕ, _+_}
 use mathlib.Core.Path.{_≡_}
-use mathlib.Core.Bool.{true, false, cond}
+use mathlib.Core.Bool.{cond}
 use mathlib.Core.List.{List}
 use lib.ListN.{drop}
 use Rattle.bitstream.specs.Bits.{wordsOf, stream}

@@ -5,12 +5,12 @@
 //             shortest longer codeword that has these bits; or 0
 // from 4096   slots, by a hash of its bits: the last word of a longer codeword, or 0
 // from 8192   nexts, by that word: the word before it in the same slot, or 0
-use code_table::header::word_at;
 use crate::search::Hit;
 use crate::search::begins_rest;
 use crate::search::search;
 use crate::view::View;
 use crate::view::low_bits;
+use code_table::header::word_at;
 ghost use mathlib.Core.Path.{_≡_};
 ghost use Prim.Native.Nat.{_<_};
 ghost use Rattle.bitstream.specs.Bits.{wordsOf};

@@ -1,7 +1,4 @@
 // One item at a place of a row's words. Document 01: "a read item comes with the place after it".
-use code_table::entry::signed_of;
-use code_table::header::low_limit;
-use code_table::header::word_at;
 use crate::hints::Hints;
 use crate::hints::hinted_search;
 use crate::search::Hit;
@@ -9,6 +6,9 @@ use crate::search::cut_short;
 use crate::search::search;
 use crate::view::View;
 use crate::view::look_ahead;
+use code_table::entry::signed_of;
+use code_table::header::low_limit;
+use code_table::header::word_at;
 use row_item::Item;
 use row_item::Progress;
 ghost use mathlib.Core.Path.{_≡_};
@@ -23,15 +23,8 @@ ghost use Rattle.row_unpacker.specs.Item.{stateOf, itemAt, foundAt, entr
 
 // The item, its pixel and the bit place after it; or the number of the refusal and the place of the faulty item.
 pub enum Read {
-    Got {
-        item: Item,
-        pixel: u32,
-        next: usize,
-    },
-    Refused {
-        number: u32,
-        place: usize,
-    },
+    Got { item: Item, pixel: u32, next: usize },
+    Refused { number: u32, place: usize },
 }
 
 // The item at bit place `at`, where a row has come to p: for every table's bytes, accepted or not, and every words.

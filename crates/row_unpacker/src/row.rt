@@ -1,9 +1,9 @@
 // The items of a row, one after the other, and their pixels.
-use bitstream::number::put_u16;
 use crate::hints::Hints;
 use crate::hints::fill;
 use crate::item::Read;
 use crate::item::hinted_item;
+use bitstream::number::put_u16;
 use row_item::after;
 use row_item::start;
 ghost use mathlib.Core.Path.{_≡_};
@@ -18,10 +18,7 @@ ghost use Rattle.row_unpacker.specs.Row.{reached, RowIs};
 // The bits used; or the number of the refusal and the place of the faulty item.
 pub enum RowRead {
     Done(usize),
-    Refused {
-        number: u32,
-        place: usize,
-    },
+    Refused { number: u32, place: usize },
 }
 
 // Reads n pixels under an accepted table to the front of `row`, two bytes each.

@@ -1,7 +1,7 @@
 // The codeword that begins the rest of a stream, in table order.
-use code_table::header::word_at;
 use crate::view::View;
 use crate::view::low_bits;
+use code_table::header::word_at;
 ghost use Prim.Native.Nat.{_<_};
 ghost use Rattle.bitstream.specs.Bits.{begins, wordsOf};
 ghost use Rattle.row_unpacker.specs.Search.{Finds, CutShort, begun, Tested};

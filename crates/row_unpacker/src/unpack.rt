@@ -1,10 +1,10 @@
 // Unpacking of one row: the whole call.
-use answer::Answer;
-use code_table::check::check;
 use crate::row::RowRead;
 use crate::row::read_row;
 use crate::view::look_ahead;
 use crate::view::low_bits;
+use answer::Answer;
+use code_table::check::check;
 ghost use mathlib.Core.Path.{_≡_};
 ghost use mathlib.Core.List.{_++_};
 ghost use Prim.Native.Nat.{_*_, _≤_};
@@ -32,7 +32,10 @@ pub fn unpack(table: &[u8], words: &[u8], n: u64, pixels: &mut [u8]) -> Answer
         };
     }
     if ((pixels.len() / 2) as u64) < n {
-        return Answer { number: 5, count: 0 };
+        return Answer {
+            number: 5,
+            count: 0,
+        };
     }
     unpack_row(table, words, n as usize, pixels)
 }

@@ -15,7 +15,7 @@ use Rattle.bitstream.specs.Bits.{numOf, wordsOf, stream}
 use Rattle.row_format.specs.Table.{lowLimit, codewords, codewordAt, signed}
 use Rattle.row_format.specs.Table.Laws.{length-codewordAt, length-codewords}
 use Rattle.row_format.specs.Row.{State, previous}
-use Rattle.row_format.specs.Reading.{Match, none, found, find, unmatched, rawHeight, matched, taken, readItem}
+use Rattle.row_format.specs.Reading.{Match, none, found, find, unmatched, rawHeight, matched, readItem}
 use Rattle.row_format.specs.Theorems.Search.{Found, find-found}
 use Rattle.code_table.specs.Check.Laws.{length-words}
 use Rattle.code_table.specs.Entry.Laws.{signed-fits}
@@ -44,19 +44,25 @@ module _ (l : List ℕ) (at n : ℕ) (v : View) (seen : Seen (drop (at + n) l) v
 
   pub height-short : v .left < 12 → HeightAt (drop at l) at n (Refused 6 at)
   unfolding rawHeight
-  height-short h = record { is = λ s.
-    rw (lt-ltb (length (drop at l)) (n + 12) (omega (arith, after-codeword .left, length-drop n (drop at l)))) }
+  height-short h = record {
+    is = λ s.
+        rw (lt-ltb (length (drop at l)) (n + 12) (omega (arith, after-codeword .left, length-drop n (drop at l))));
+  }
 
   pub height-got : 12 ≤ v .left → v .window % 4096 < 4094 → HeightAt (drop at l) at n (Got (Escape (v .window % 4096)) (v .window % 4096) (at + n + 12))
   unfolding rawHeight
-  height-got h small = record { is = λ s.
-    let next : at + (n + 12) ≡ at + n + 12 = omega arith in
-    rw (le-ltb (length (drop at l)) (n + 12) (enough h), height-is, lt-ltb (v .window % 4096) 4094 small, next) }
+  height-got h small = record {
+    is = λ s.
+        let next : at + (n + 12) ≡ at + n + 12 = omega arith in
+        rw (le-ltb (length (drop at l)) (n + 12) (enough h), height-is, lt-ltb (v .window % 4096) 4094 small, next);
+  }
 
   pub height-bad : 12 ≤ v .left → 4094 ≤ v .window % 4096 → HeightAt (drop at l) at n (Refused 9 at)
   unfolding rawHeight
-  height-bad h large = record { is = λ s.
-    rw (le-ltb (length (drop at l)) (n + 12) (enough h), height-is, le-ltb (v .window % 4096) 4094 large) }
+  height-bad h large = record {
+    is = λ s.
+        rw (le-ltb (length (drop at l)) (n + 12) (enough h), height-is, le-ltb (v .window % 4096) 4094 large);
+  }
 
 -- ---- an entry's difference
 module _ (t : List ℕ) (s : State) (at i n low prev : ℕ) (low-is : low ≡ lowLimit t) (prev-is : prev ≡ previous s) where

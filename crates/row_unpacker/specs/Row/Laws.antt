@@ -1,16 +1,16 @@
 -- The laws of a row read item by item. Assumes nothing.
-use Prim.Native.Nat.{ℕ, zero, suc, _+_, _-_, _*_, _%_, _≤_, _<_}
-use native.Mathlib.Nat.{zero-add, add-zero, add-assoc, suc-add, mul-suc, sub-zero, sub-self}
+use Prim.Native.Nat.{ℕ, zero, suc, _+_, _-_, _*_, _≤_, _<_}
+use native.Mathlib.Nat.{zero-add, add-zero, add-assoc, suc-add, mul-suc, sub-zero}
 use native.Mathlib.Omega.{arith}
-use mathlib.Core.Path.{_≡_, refl, sym, ap, _∙_, subst, subst⁻¹}
+use mathlib.Core.Path.{_≡_, refl, sym, ap, _∙_, subst⁻¹}
 use mathlib.Core.List.{List, [], _∷_, _++_, append-assoc, append-nil}
-use lib.ListN.{length, take, drop, length-append, length-drop}
+use lib.ListN.{length, take, drop, length-drop}
 use lib.Seq.{take-append-le, drop-append-le, drop-drop}
-use Rattle.bitstream.specs.Bits.{digits, flat, numOf, cut, bytesOf}
+use Rattle.bitstream.specs.Bits.{digits, flat, cut, bytesOf}
 use Rattle.bitstream.specs.Bits.Laws.{length-cut, length-digits}
 use Rattle.bitstream.specs.Memory.{overwritten}
 use Rattle.bitstream.specs.Memory.Laws.{take-overwritten, length-overwritten}
-use Rattle.row_format.specs.Table.{codewords, codewordAt, escapeLength, longest, maxItemBits}
+use Rattle.row_format.specs.Table.{codewords, longest, maxItemBits}
 use Rattle.row_format.specs.Table.Laws.{getD-codewords, length-codewordAt, longest-most}
 use Rattle.row_format.specs.Row.{State, fresh, past, pixelOf, after, pixelsOf}
 use Rattle.row_format.specs.Row as row

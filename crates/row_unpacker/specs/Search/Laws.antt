@@ -1,7 +1,7 @@
 -- The laws of the search for a codeword. Assumes nothing.
 use Prim.Native.Nat.{ℕ, zero, suc, _+_, _-_, _/_, _%_, _^_, _≤_, _<_}
 use native.Mathlib.Omega.{arith}
-use mathlib.Core.Path.{_≡_, refl, sym, ap, _∙_, subst}
+use mathlib.Core.Path.{_≡_, refl, sym, ap, _∙_}
 use mathlib.Core.Bool.{Bool, true, false}
 use mathlib.Core.List.{List, [], _∷_, _++_}
 use lib.ListN.{length, take, drop, getD, take-append-drop}
@@ -38,8 +38,11 @@ module _ (a r : List ℕ) (bits-a : Below 2 a) (bits-r : Below 2 r) (within : le
   pub begins-eqb : eqb (numOf (take (length a) r)) (numOf a) ≡ begins a r
   begins-eqb = by-test (begins a r)
       (λ e. rw (e, eq-eqb (numOf (take (length a) r)) (numOf a) (ap numOf (taken e))))
-      (λ e. rw (e, ne-eqb (numOf (take (length a) r)) (numOf a) (λ q.
-      true-false (given (numOf-inj (take (length a) r) a (below-take (length a) r bits-r) bits-a (lib.Seq.length-take-le (length a) r within) q)) e)))
+      (λ e. rw (
+        e,
+        ne-eqb (numOf (take (length a) r)) (numOf a) (λ q.
+            true-false (given (numOf-inj (take (length a) r) a (below-take (length a) r bits-r) bits-a (lib.Seq.length-take-le (length a) r within) q)) e),
+      ))
 
 -- ---- the codeword of a word
 below-codeword : (w : ℕ) → Below 2 (codeword w)
@@ -65,23 +68,27 @@ module _ (w : ℕ) (v : View) where
   begun-short h = record { is = λ r seen. sym (begins-short (codeword w) r (omega (arith, seen .left, length-codeword w))) }
 
   pub begun-low : (x y : ℕ) → w % 32 ≤ v .left → x ≡ v .window % 2 ^ (w % 32) → y ≡ w / 32 % 2 ^ (w % 32) → Tested begun w v (eqb x y)
-  begun-low x y h ex ey = record { is = λ r seen.
-    let front : x ≡ numOf (take (length (codeword w)) r) =
-    ex ∙ low-window r v seen (w % 32) (omega arith) ∙ ap (λ (k : ℕ). numOf (take k r)) (sym (length-codeword w)) in
-    rw (front, ey ∙ sym (numOf-codeword w))
-    (begins-eqb (codeword w) r (below-codeword w) (seen .bits) (omega (arith, seen .left, length-codeword w))) }
+  begun-low x y h ex ey = record {
+    is = λ r seen.
+        let front : x ≡ numOf (take (length (codeword w)) r) =
+        ex ∙ low-window r v seen (w % 32) (omega arith) ∙ ap (λ (k : ℕ). numOf (take k r)) (sym (length-codeword w)) in
+        rw (front, ey ∙ sym (numOf-codeword w))
+        (begins-eqb (codeword w) r (below-codeword w) (seen .bits) (omega (arith, seen .left, length-codeword w)));
+  }
 
   -- ---- whether the rest is a beginning of it
   pub begins-long : w % 32 < v .left → Tested begins w v false
   begins-long h = record { is = λ r seen. sym (begins-short r (codeword w) (omega (arith, seen .left, length-codeword w))) }
 
   pub begins-low : (x : ℕ) → v .left < 32 → v .left ≤ w % 32 → x ≡ w / 32 % 2 ^ (v .left) → Tested begins w v (eqb x (v .window))
-  begins-low x short h ex = record { is = λ r seen.
-    let size : v .left ≡ length r = omega (arith, seen .left) in
-    let front : x ≡ numOf (take (length r) (codeword w)) = ex ∙ sym (numOf-take-codeword w (v .left) h) ∙ ap (λ (k : ℕ). numOf (take k (codeword w))) size in
-    let whole : v .window ≡ numOf r = seen .window ∙ ap numOf (take-all 32 r (omega arith)) in
-    rw (front, whole)
-    (begins-eqb r (codeword w) (seen .bits) (below-codeword w) (omega (arith, length-codeword w))) }
+  begins-low x short h ex = record {
+    is = λ r seen.
+        let size : v .left ≡ length r = omega (arith, seen .left) in
+        let front : x ≡ numOf (take (length r) (codeword w)) = ex ∙ sym (numOf-take-codeword w (v .left) h) ∙ ap (λ (k : ℕ). numOf (take k (codeword w))) size in
+        let whole : v .window ≡ numOf r = seen .window ∙ ap numOf (take-all 32 r (omega arith)) in
+        rw (front, whole)
+        (begins-eqb r (codeword w) (seen .bits) (below-codeword w) (omega (arith, length-codeword w)));
+  }
 
 -- ---- one turn of a search
 module _ (f : List ℕ → List ℕ → Bool) (t : List ℕ) (v : View) where
@@ -128,17 +135,21 @@ module _ (t : List ℕ) (v : View) where
 
   module _ (i w : ℕ) (h : i < length t) (is : w ≡ getD t i 0) where
     pub finds-here : Passed begun t v i → {b : Bool} → Tested begun w v b → b ≡ true → Finds t v (At (i - 3))
-    finds-here p b yes′ = record { is = λ r seen.
-      let least : 3 ≤ i = p .least in
-      sym (ap hit (find-first (codewords t) r (i - 3)
-      (λ j b. rw (getD-codewords t j) (p .none r seen j (omega arith)))
-      (omega (arith, length-codewords t))
-      (rw (place i least, ← is) (sym (b .is r seen) ∙ yes′)))) }
+    finds-here p b yes′ = record {
+      is = λ r seen.
+          let least : 3 ≤ i = p .least in
+          sym (ap hit (find-first (codewords t) r (i - 3)
+          (λ j b. rw (getD-codewords t j) (p .none r seen j (omega arith)))
+          (omega (arith, length-codewords t))
+          (rw (place i least, ← is) (sym (b .is r seen) ∙ yes′))));
+    }
 
     pub short-here : Passed begins t v i → {b : Bool} → Tested begins w v b → b ≡ true → CutShort t v true
-    short-here p b yes′ = record { is = λ r seen.
-      let least : 3 ≤ i = p .least in
-      sym (any-true-at (begins r) (codewords t) (i - 3) (omega (arith, length-codewords t)) (rw (place i least, ← is) (sym (b .is r seen) ∙ yes′))) }
+    short-here p b yes′ = record {
+      is = λ r seen.
+          let least : 3 ≤ i = p .least in
+          sym (any-true-at (begins r) (codewords t) (i - 3) (omega (arith, length-codewords t)) (rw (place i least, ← is) (sym (b .is r seen) ∙ yes′)));
+    }
 
   pub finds-nowhere : (i : ℕ) → Passed begun t v i → length t ≤ i → Finds t v Nowhere
   finds-nowhere i p h = record { is = λ r seen. sym (ap hit (find-none (codewords t) r (all-passed begun t v i p h r seen))) }
@@ -148,18 +159,22 @@ module _ (t : List ℕ) (v : View) where
 
   -- a rest of 32 bits is longer than every codeword
   pub short-long : 31 < v .left → CutShort t v false
-  short-long h = record { is = λ r seen. sym (any-false (begins r) (codewords t) []
-    (λ j b. rw (getD-codewords t j) (begins-short r (codewordAt t j) (omega (arith, seen .left, length-codewordAt t j))))) }
+  short-long h = record {
+    is = λ r seen. sym (any-false (begins r) (codewords t) []
+        (λ j b. rw (getD-codewords t j) (begins-short r (codewordAt t j) (omega (arith, seen .left, length-codewordAt t j)))));
+  }
 
 -- ---- under an accepted table the codeword that begins the rest is the only one, however it was come by
 pub finds-only : (tb : List ℕ) (v : View) → tableNumber tb ≡ 0 → (i w : ℕ) → 3 ≤ i → i < length tb / 4 → w ≡ getD (wordsOf tb) i 0
     → {b : Bool} → Tested begun w v b → b ≡ true → Finds (wordsOf tb) v (At (i - 3))
-finds-only tb v ok i w least h is b yes′ = record { is = λ r seen.
-  let t = wordsOf tb in
-  let a = accepted t (tableNumber-verdict tb ok) in
-  let begins-it : begins (codewordAt t (i - 3)) r ≡ true =
-  ap (λ (s : List ℕ). begins s r) (sym (getD-codewords t (i - 3)) ∙ place t v i least ∙ ap codeword (sym is)) ∙ sym (b .is r seen) ∙ yes′ in
-  sym (ap hit (find-only t a (i - 3) r (omega (arith, a .words, length-words tb)) begins-it)) }
+finds-only tb v ok i w least h is b yes′ = record {
+  is = λ r seen.
+      let t = wordsOf tb in
+      let a = accepted t (tableNumber-verdict tb ok) in
+      let begins-it : begins (codewordAt t (i - 3)) r ≡ true =
+      ap (λ (s : List ℕ). begins s r) (sym (getD-codewords t (i - 3)) ∙ place t v i least ∙ ap codeword (sym is)) ∙ sym (b .is r seen) ∙ yes′ in
+      sym (ap hit (find-only t a (i - 3) r (omega (arith, a .words, length-words tb)) begins-it));
+}
 
 -- "A table is 6 + tableSize words", of at most 8187 entries
 pub words-most : (tb : List ℕ) → tableNumber tb ≡ 0 → length tb / 4 ≤ 8193

@@ -3,15 +3,15 @@ use Prim.Native.Nat.{ℕ, zero, suc, _+_, _-_, _*_, _/_, _%_, _^_, _≤_, _<_}
 use native.Mathlib.Nat.{mul-le-mul-left}
 use native.Mathlib.Numerals.{add-one}
 use native.Mathlib.Omega.{arith}
-use mathlib.Core.Path.{_≡_, refl, sym, ap, _∙_, subst}
+use mathlib.Core.Path.{_≡_, refl, sym, ap, _∙_}
 use mathlib.Core.Bool.{true, false, not}
 use mathlib.Core.List.{List, [], _∷_, _++_}
 use lib.ListN.{length, take, drop, getD, set, length-set}
 use lib.Seq.{take-suc, drop-cons, set-at, append-snoc, length-take-le}
 use lib.Dec.{eqb}
-use borrow.Author.Tests.{eq-eqb, ne-eqb, lt-ltb, le-ltb}
+use borrow.Author.Tests.{ne-eqb, lt-ltb, le-ltb}
 use Rattle.answer.specs.declared.Answer.{Answer}
-use Rattle.answer.specs.Outcome.{Outcome, answerOf, outcome, refused, wrote, _orElse_, unless, countUnless}
+use Rattle.answer.specs.Outcome.{Outcome, answerOf, outcome, refused, _orElse_, unless, countUnless}
 use Rattle.bitstream.specs.Bits.{numOf, flat, bytesOf, wordsOf, stream, wordsFor}
 use Rattle.bitstream.specs.Bits.Laws.{Below, below-head, below-tail, below-take, length-cut}
 use Rattle.row_format.specs.Lists.{any}
@@ -19,7 +19,7 @@ use Rattle.row_format.specs.Table.{tableNumber, maxItemBits}
 use Rattle.row_format.specs.Row.{fresh, pixelsOf}
 use Rattle.row_format.specs.Reading.{Run, done, stop, readItems, stray}
 use Rattle.row_format.specs.Calls.{checked, afterRun, usedByRun, unpackNumber, unpacked}
-use Rattle.row_format.specs.Calls.Laws.{Unpackable, unpackNumber-unpackable}
+use Rattle.row_format.specs.Calls.Laws.{unpackNumber-unpackable}
 use Rattle.row_format.specs.Theorems.Bounds.{readItems-uses}
 use Rattle.row_unpacker.specs.View.{Seen}
 use Rattle.row_unpacker.specs.View.Laws.{low-window}

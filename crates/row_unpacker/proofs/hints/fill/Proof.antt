@@ -1,16 +1,11 @@
-use native.Mathlib.Omega.{arith}
-use Rattle.row_unpacker.specs.Search.Laws.{words-most}
-use lib.ListN.{length}
+-- `hints::fill` is safe, and nothing more is claimed. The invariant says nothing; the measure is the words that are left. Assumes nothing.
 use Prim.Native.Nat.{_-_, _/_}
+use native.Mathlib.Omega.{arith}
+use lib.ListN.{length}
 use borrow.Author.Needs.{needs}
-use Prim.Native.Nat.{_-_}
+use Rattle.row_unpacker.specs.Search.Laws.{words-most}
 use Rattle.row_unpacker.proofs.hints.fill.Statement.{statement}
 use Rattle.row_unpacker.proofs.hints.fill.Tie as tie
-use Rattle.row_unpacker.proofs.hints.fill.Reads as reads
-use Rattle.row_unpacker.proofs.hints.fill.Lts as lts
-use Rattle.code_table.proofs.header.word_at.Reads as word-at-reads
-use Rattle.row_unpacker.proofs.hints.link.Reads as link-reads
-use Rattle.row_unpacker.proofs.hints.spread.Reads as spread-reads
 
 abbrev Inv-loop : tie.InvT-loop
 Inv-loop table hints₀ words i₀ hints i = Unit {0}
@@ -18,55 +13,48 @@ Inv-loop table hints₀ words i₀ hints i = Unit {0}
 abbrev μ-loop : tie.MeasureT-loop
 μ-loop table hints₀ words i₀ hints i = length table / 4 - i
 
--- src/hints.rt:100:5
 loop-holds : tie.Need-loop-holds Inv-loop μ-loop
 loop-holds c = search needs
 
--- src/hints.rt:101:13
 word-at-requires : tie.Need-word-at-requires Inv-loop μ-loop
 word-at-requires c κs = search needs
 
--- src/hints.rt:105:45
 cast-spread : tie.Need-cast-spread Inv-loop μ-loop
-cast-spread c = record { fits = omega (arith, words-most (c .before .before .before .before .before .before .args .table .now) (c .before .before .before .before .before .before .pre)) }
+cast-spread c =
+    let start = c .before .before .before .before .before .before in
+    record { fits = omega (arith, words-most (start .args .table .now) (start .pre)) }
 
--- src/hints.rt:105:13
 spread-requires : tie.Need-spread-requires Inv-loop μ-loop
 spread-requires c κs = search needs
 
--- src/hints.rt:106:13
 add-i : tie.Need-add-i Inv-loop μ-loop
 add-i c = search needs
 
--- src/hints.rt:100:5
 loop-less : tie.Need-loop-less Inv-loop μ-loop
 loop-less c = search needs
 
--- src/hints.rt:100:5
 loop-again : tie.Need-loop-again Inv-loop μ-loop
 loop-again c = search needs
 
--- src/hints.rt:108:36
 cast-link : tie.Need-cast-link Inv-loop μ-loop
-cast-link c = record { fits = omega (arith, words-most (c .before .before .before .before .before .before .args .table .now) (c .before .before .before .before .before .before .pre)) }
+cast-link c =
+    let start = c .before .before .before .before .before .before in
+    record { fits = omega (arith, words-most (start .args .table .now) (start .pre)) }
 
--- src/hints.rt:108:13
 link-requires : tie.Need-link-requires Inv-loop μ-loop
-link-requires c κs = (search needs, omega (arith, words-most (c .before .before .before .before .before .before .args .table .now) (c .before .before .before .before .before .before .pre)))
+link-requires c κs =
+    let start = c .before .before .before .before .before .before in
+    (search needs, omega (arith, words-most (start .args .table .now) (start .pre)))
 
--- src/hints.rt:109:13
 add-i-2 : tie.Need-add-i-2 Inv-loop μ-loop
 add-i-2 c = search needs
 
--- src/hints.rt:100:5
 loop-less-2 : tie.Need-loop-less-2 Inv-loop μ-loop
 loop-less-2 c = search needs
 
--- src/hints.rt:100:5
 loop-again-2 : tie.Need-loop-again-2 Inv-loop μ-loop
 loop-again-2 c = search needs
 
--- src/hints.rt:95:1
 returns : tie.Need-returns Inv-loop μ-loop
 returns c = search needs
 

@@ -8,20 +8,23 @@ use mathlib.Core.List.{List, [], _∷_, _++_, append-assoc, map}
 use lib.ListN.{length, take, drop, getD, length-append, length-drop, length-map, take-append-drop, List·getD-eq-default}
 use lib.Seq.{drop-drop, getD-drop}
 use lib.Dec.{leb, ltb, eqb}
-use borrow.Author.Tests.{le-leb, ltb-true, ltb-false}
+use borrow.Author.Tests.{le-leb, leb-true, ltb-true, ltb-false}
 use Rattle.bitstream.specs.Bits.{wordsOf}
 use Rattle.bitstream.specs.Memory.{overwritten}
 use Rattle.bitstream.specs.Memory.Laws.{take-overwritten}
 use Rattle.row_format.specs.Lists.Laws.{by-test}
-use Rattle.row_format.specs.Table.{tableSize, lowLimit, entryDifference, wrongSize, wrongCodeword, clash, codewords, verdict, tableNumber}
-use Rattle.code_table.specs.Check.Laws.{whole-table-words}
+use Rattle.row_format.specs.Table.{codewordAt, tableSize, lowLimit, entryDifference, wrongSize, wrongCodeword, clash, codewords, verdict, tableNumber}
+use Rattle.code_table.specs.Check.Laws.{length-words, whole-table-words}
 use Rattle.text.specs.Text.{ascii, field, decimal}
 use Rattle.text.specs.Text.Laws.{length-decimal}
 use Rattle.text.specs.Lines.{newline, refusedLine}
+use Rattle.table_listing.specs.Order.Once.{length-order}
+use Rattle.table_listing.specs.Strings.{codewordAt-bits}
 use Rattle.table_listing.specs.Line.{line}
 use Rattle.table_listing.specs.Line.Laws.{getD-map, line-most}
-use Rattle.table_listing.specs.Listing.{treeOrder, linesFor, lines, joined, fitting, blockOf, block}
-use Rattle.table_listing.specs.Listing.Laws.{accepted-whole, treeOrder-below, lines-accepted}
+use Rattle.table_listing.specs.declared.Listed.{Listed}
+use Rattle.table_listing.specs.Listing.{treeOrder, linesFor, lines, joined, fitting, Block, block, left}
+use Rattle.table_listing.specs.Listing.Laws.{strings-count, accepted-whole, treeOrder-below, lines-accepted}
 
 -- ---- one block after the other
 joined-append : (ks ls : List (List ℕ)) → joined (ks ++ ls) ≡ joined ks ++ joined ls
@@ -96,3 +99,46 @@ block-some b first m room h =
     let there : first + 0 ≡ first = omega arith in
     let short : length (getD (drop first (lines b)) 0 []) ≤ 128 = rw (getD-drop first (lines b) 0 [], there) (lines-most b first) in
     fitting-some (length m) (drop first (lines b)) (omega (arith, length-drop first (lines b))) (omega arith)
+
+-- ---- a block stays within the listing and the room
+fitting-within : (room : ℕ) (ls : List (List ℕ)) → fitting room ls ≤ length ls
+unfolding fitting
+fitting-within room [] = omega arith
+fitting-within room (l ∷ ls) =
+    by-test (leb (length l) room)
+    (λ e. rw e (omega (arith, fitting-within (room - length l) ls)))
+    (λ e. rw e (omega arith))
+
+fitting-room : (room : ℕ) (ls : List (List ℕ)) → length (joined (take (fitting room ls) ls)) ≤ room
+unfolding fitting joined
+fitting-room room [] = omega arith
+fitting-room room (l ∷ ls) =
+    by-test (leb (length l) room)
+    (λ e.
+    let rest = fitting-room (room - length l) ls in
+    rw (e, length-append l (joined (take (fitting (room - length l) ls) ls))) (omega (arith, leb-true (length l) room e)))
+    (λ e. rw e (omega arith))
+
+pub lines-few : (b : List ℕ) → length (lines b) ≤ 8190
+lines-few b = go (tableNumber b) refl
+  where
+    go : (e : ℕ) → tableNumber b ≡ e → length (lines b) ≤ 8190
+    go zero is =
+        let t = wordsOf b in
+        rw (lines-accepted b is, length-map (treeOrder t) (line t), length-order (codewordAt t) (codewordAt-bits t) 27 (length t - 3))
+        (omega (arith, length-words b, strings-count b is, whole-table-words b (accepted-whole b is)))
+    go (suc e) is =
+        let these : lines b ≡ refusedLine (suc e) ∷ [] = unfold lines linesFor in rw is in
+        rw these (omega arith)
+
+-- what a call answers
+module _ (b : List ℕ) (first : ℕ) (m : List ℕ) {m′ : List ℕ} {r : Listed} (e : left r m′ ≡ block b first m) where
+  pub answer-lines : first ≤ length (lines b) → first + r .lines ≤ length (lines b)
+  answer-lines h =
+      let lines-is : r .lines ≡ fitting (length m) (drop first (lines b)) = ap (λ (k : Block). k .answer .lines) e in
+      omega (arith, fitting-within (length m) (drop first (lines b)), length-drop first (lines b))
+
+  pub answer-bytes : r .bytes ≤ length m
+  answer-bytes =
+      let bytes-is : r .bytes ≡ length (joined (take (fitting (length m) (drop first (lines b))) (drop first (lines b)))) = ap (λ (k : Block). k .answer .bytes) e in
+      omega (arith, fitting-room (length m) (drop first (lines b)))

@@ -2,7 +2,7 @@
 -- table's bytes, a row's pixels as 2 bytes each, or a line's numbers as 4 bytes each; row is a row's number, at most 65535,
 -- and tb the bytes of the sheet's table.
 -- Definitions only. Assumes nothing.
-use Prim.Native.Nat.{ℕ, zero, suc, _+_, _*_, _/_}
+use Prim.Native.Nat.{ℕ, zero, suc, _+_, _*_}
 use mathlib.Core.List.{List, [], _++_, map}
 use lib.ListN.{length, take, drop}
 use lib.Dec.{ltb}

@@ -1,5 +1,5 @@
 -- The laws of a line's numbers: as 4 bytes each and as adaptive numbers they come back. Assumes nothing.
-use Prim.Native.Nat.{ℕ, zero, suc, _+_, _-_, _*_, _/_, _%_, _^_, _≤_, _<_}
+use Prim.Native.Nat.{ℕ, zero, suc, _-_, _*_, _/_, _≤_, _<_}
 use native.Mathlib.Omega.{arith}
 use native.Mathlib.Nat.{mul-suc}
 use native.Mathlib.Decide.{decLt}
@@ -7,13 +7,13 @@ use mathlib.Core.Path.{_≡_, refl, sym, ap, ap₂, _∙_}
 use mathlib.Core.Logic.{by-cases}
 use mathlib.Core.Bool.{true}
 use mathlib.Core.List.{List, [], _∷_, _++_, append-assoc, map}
-use lib.ListN.{length, take, drop, length-append, length-drop, length-map}
+use lib.ListN.{length, take, drop, length-append, length-drop}
 use lib.Seq.{drop-append-seam, length-take-le}
 use lib.IntN.{ℤ, pos, negsuc}
 use lib.Signed.{mag}
 use borrow.Author.Tests.{lt-ltb, le-ltb, le-leb}
-use Rattle.bitstream.specs.Bits.{flat, cut, bitsOf, bytesOf, wordsOf}
-use Rattle.bitstream.specs.Bits.Laws.{Below, below-head, below-tail, below-take, below-flat, below-cut, length-flat, length-cut, flat-take, flat-cut}
+use Rattle.bitstream.specs.Bits.{flat, bitsOf, bytesOf, wordsOf}
+use Rattle.bitstream.specs.Bits.Laws.{Below, below-head, below-tail, below-take, below-flat, length-flat, length-cut, flat-take, flat-cut}
 use Rattle.row_format.specs.BitLaws.{pad-within, cut-flat-all}
 use Rattle.adaptive.specs.Number.{Reading, accepted, rejected, signed, readAs, shortest}
 use Rattle.adaptive.specs.Number.Lawful.{signed-lawful, signed-range}

@@ -1,0 +1,61 @@
+use borrow.Author.Needs.{needs}
+use Rattle.sheet_reader.proofs.line.numbers_number.Statement.{statement}
+use Rattle.sheet_reader.proofs.line.numbers_number.Tie as tie
+use Rattle.sheet_reader.proofs.line.numbers_number.Reads as reads
+use Rattle.sheet_reader.proofs.line.numbers_number.Lts as lts
+use Rattle.sheet_reader.proofs.numbers.judge_numbers.Reads as judge-numbers-reads
+
+-- src/line.rt:43:9
+returns : tie.Need-returns
+returns c = ?
+
+-- src/line.rt:45:16
+sub-line : tie.Need-sub-line
+sub-line c = search needs
+
+-- src/line.rt:45:16
+part-line-start : tie.Need-part-line-start
+part-line-start c = search needs
+
+-- src/line.rt:45:16
+part-line-end : tie.Need-part-line-end
+part-line-end c = search needs
+
+-- src/line.rt:46:9
+judge-numbers-requires : tie.Need-judge-numbers-requires
+judge-numbers-requires c κs = search needs
+
+-- src/line.rt:49:9
+returns-2 : tie.Need-returns-2
+returns-2 c = ?
+
+-- src/line.rt:52:9
+returns-3 : tie.Need-returns-3
+returns-3 c = ?
+
+-- src/line.rt:54:15
+mul-if4 : tie.Need-mul-if4
+mul-if4 c = search needs
+
+-- src/line.rt:55:9
+returns-4 : tie.Need-returns-4
+returns-4 c = ?
+
+-- src/line.rt:37:1
+returns-5 : tie.Need-returns-5
+returns-5 c = ?
+
+pub numbers-number-spec : {M : Type 1} → statement M
+numbers-number-spec =
+    tie.close
+    (tie.spec
+    returns
+    sub-line
+    part-line-start
+    part-line-end
+    judge-numbers-requires
+    returns-2
+    returns-3
+    mul-if4
+    returns-4
+    returns-5)

@@ -1,0 +1,78 @@
+use Rattle.sheet_reader.proofs.numbers.judge_numbers.Statement.{statement}
+use Rattle.sheet_reader.proofs.numbers.judge_numbers.Tie as tie
+use Rattle.sheet_reader.proofs.numbers.judge_numbers.Reads as reads
+use Rattle.sheet_reader.proofs.numbers.judge_numbers.Lts as lts
+use Rattle.adaptive.proofs.read_signed.Reads as read-signed-reads
+
+abbrev Inv-loop : tie.InvT-loop
+Inv-loop line count at₀ i₀ at i = ?
+
+abbrev μ-loop : tie.MeasureT-loop
+μ-loop line count at₀ i₀ at i = ?
+
+-- src/numbers.rt:26:5
+loop-holds : tie.Need-loop-holds Inv-loop μ-loop
+loop-holds c = ?
+
+-- src/numbers.rt:27:20
+sub-part : tie.Need-sub-part Inv-loop μ-loop
+sub-part c = ?
+
+-- src/numbers.rt:27:20
+part-part-start : tie.Need-part-part-start Inv-loop μ-loop
+part-part-start c = ?
+
+-- src/numbers.rt:27:20
+part-part-end : tie.Need-part-part-end Inv-loop μ-loop
+part-part-end c = ?
+
+-- src/numbers.rt:28:13
+read-signed-requires : tie.Need-read-signed-requires Inv-loop μ-loop
+read-signed-requires c κs = ?
+
+-- src/numbers.rt:31:13
+returns : tie.Need-returns Inv-loop μ-loop
+returns c = ?
+
+-- src/numbers.rt:33:15
+cast-at : tie.Need-cast-at Inv-loop μ-loop
+cast-at c = ?
+
+-- src/numbers.rt:33:9
+add-at : tie.Need-add-at Inv-loop μ-loop
+add-at c = ?
+
+-- src/numbers.rt:34:9
+add-i : tie.Need-add-i Inv-loop μ-loop
+add-i c = ?
+
+-- src/numbers.rt:26:5
+loop-less : tie.Need-loop-less Inv-loop μ-loop
+loop-less c = ?
+
+-- src/numbers.rt:26:5
+loop-again : tie.Need-loop-again Inv-loop μ-loop
+loop-again c = ?
+
+-- src/numbers.rt:20:1
+returns-2 : tie.Need-returns-2 Inv-loop μ-loop
+returns-2 c = ?
+
+pub judge-numbers-spec : {M : Type 1} → statement M
+judge-numbers-spec =
+    tie.close
+    (tie.spec
+    Inv-loop
+    μ-loop
+    loop-holds
+    sub-part
+    part-part-start
+    part-part-end
+    read-signed-requires
+    returns
+    cast-at
+    add-at
+    add-i
+    loop-less
+    loop-again
+    returns-2)

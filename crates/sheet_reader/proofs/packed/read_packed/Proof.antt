@@ -1,0 +1,101 @@
+use borrow.Author.Needs.{needs}
+use Rattle.sheet_reader.proofs.packed.read_packed.Statement.{statement}
+use Rattle.sheet_reader.proofs.packed.read_packed.Tie as tie
+use Rattle.sheet_reader.proofs.packed.read_packed.Reads as reads
+use Rattle.sheet_reader.proofs.packed.read_packed.Lts as lts
+use Rattle.sheet_reader.proofs.answers.held.Reads as held-reads
+use Rattle.sheet_reader.proofs.answers.refused.Reads as refused-reads
+use Rattle.sheet_reader.proofs.keep.keep.Reads as keep-reads
+use Rattle.sheet_reader.proofs.packed.unpack_row.Reads as unpack-row-reads
+use Rattle.sheet_reader.proofs.row.after_row.Reads as after-row-reads
+use Rattle.sheet_reader.proofs.row.row_fields.Reads as row-fields-reads
+
+-- src/packed.rt:27:9
+refused-requires : tie.Need-refused-requires
+refused-requires c κs = search needs
+
+-- src/packed.rt:27:9
+returns : tie.Need-returns
+returns c = ?
+
+-- src/packed.rt:29:9
+row-fields-requires : tie.Need-row-fields-requires
+row-fields-requires c κs = search needs
+
+-- src/packed.rt:32:9
+refused-requires-2 : tie.Need-refused-requires-2
+refused-requires-2 c κs = search needs
+
+-- src/packed.rt:32:9
+returns-2 : tie.Need-returns-2
+returns-2 c = ?
+
+-- src/packed.rt:37:57
+slice-aggregate-unpack-row : tie.Need-slice-aggregate-unpack-row
+slice-aggregate-unpack-row c = search needs
+
+-- src/packed.rt:37:9
+unpack-row-requires : tie.Need-unpack-row-requires
+unpack-row-requires c κs = ?
+
+-- src/packed.rt:40:9
+refused-requires-3 : tie.Need-refused-requires-3
+refused-requires-3 c κs = search needs
+
+-- src/packed.rt:40:9
+returns-3 : tie.Need-returns-3
+returns-3 c = ?
+
+-- src/packed.rt:42:10
+slice-aggregate-keep : tie.Need-slice-aggregate-keep
+slice-aggregate-keep c = search needs
+
+-- src/packed.rt:42:23
+cast-keep : tie.Need-cast-keep
+cast-keep c = search needs
+
+-- src/packed.rt:42:19
+mul-keep : tie.Need-mul-keep
+mul-keep c = search needs
+
+-- src/packed.rt:42:5
+keep-requires : tie.Need-keep-requires
+keep-requires c κs = ?
+
+-- src/packed.rt:43:48
+after-row-requires : tie.Need-after-row-requires
+after-row-requires c κs = ?
+
+-- src/packed.rt:43:5
+held-requires : tie.Need-held-requires
+held-requires c κs = search needs
+
+-- src/packed.rt:23:1
+same-length : tie.Need-same-length
+same-length c = search needs
+
+-- src/packed.rt:23:1
+returns-4 : tie.Need-returns-4
+returns-4 c = ?
+
+pub read-packed-spec : {M : Type 1} → statement M
+read-packed-spec =
+    tie.close
+    (tie.spec
+    refused-requires
+    returns
+    row-fields-requires
+    refused-requires-2
+    returns-2
+    slice-aggregate-unpack-row
+    unpack-row-requires
+    refused-requires-3
+    returns-3
+    slice-aggregate-keep
+    cast-keep
+    mul-keep
+    keep-requires
+    after-row-requires
+    held-requires
+    same-length
+    returns-4)

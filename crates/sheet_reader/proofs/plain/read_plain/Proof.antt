@@ -1,0 +1,96 @@
+use borrow.Author.Needs.{needs}
+use Rattle.sheet_reader.proofs.plain.read_plain.Statement.{statement}
+use Rattle.sheet_reader.proofs.plain.read_plain.Tie as tie
+use Rattle.sheet_reader.proofs.plain.read_plain.Reads as reads
+use Rattle.sheet_reader.proofs.plain.read_plain.Lts as lts
+use Rattle.sheet_reader.proofs.answers.held.Reads as held-reads
+use Rattle.sheet_reader.proofs.answers.refused.Reads as refused-reads
+use Rattle.sheet_reader.proofs.keep.keep.Reads as keep-reads
+use Rattle.sheet_reader.proofs.plain.pixels_number.Reads as pixels-number-reads
+use Rattle.sheet_reader.proofs.row.after_row.Reads as after-row-reads
+use Rattle.sheet_reader.proofs.row.row_fields.Reads as row-fields-reads
+
+-- src/plain.rt:24:9
+row-fields-requires : tie.Need-row-fields-requires
+row-fields-requires c κs = search needs
+
+-- src/plain.rt:27:9
+refused-requires : tie.Need-refused-requires
+refused-requires c κs = search needs
+
+-- src/plain.rt:27:9
+returns : tie.Need-returns
+returns c = ?
+
+-- src/plain.rt:31:9
+pixels-number-requires : tie.Need-pixels-number-requires
+pixels-number-requires c κs = ?
+
+-- src/plain.rt:33:9
+refused-requires-2 : tie.Need-refused-requires-2
+refused-requires-2 c κs = search needs
+
+-- src/plain.rt:33:9
+returns-2 : tie.Need-returns-2
+returns-2 c = ?
+
+-- src/plain.rt:35:18
+sub-pixels : tie.Need-sub-pixels
+sub-pixels c = ?
+
+-- src/plain.rt:35:18
+part-pixels-start : tie.Need-part-pixels-start
+part-pixels-start c = ?
+
+-- src/plain.rt:35:18
+part-pixels-end : tie.Need-part-pixels-end
+part-pixels-end c = search needs
+
+-- src/plain.rt:36:22
+cast-keep : tie.Need-cast-keep
+cast-keep c = search needs
+
+-- src/plain.rt:36:18
+mul-keep : tie.Need-mul-keep
+mul-keep c = search needs
+
+-- src/plain.rt:36:5
+keep-requires : tie.Need-keep-requires
+keep-requires c κs = ?
+
+-- src/plain.rt:37:35
+after-row-requires : tie.Need-after-row-requires
+after-row-requires c κs = ?
+
+-- src/plain.rt:37:5
+held-requires : tie.Need-held-requires
+held-requires c κs = search needs
+
+-- src/plain.rt:21:1
+same-length : tie.Need-same-length
+same-length c = search needs
+
+-- src/plain.rt:21:1
+returns-3 : tie.Need-returns-3
+returns-3 c = ?
+
+pub read-plain-spec : {M : Type 1} → statement M
+read-plain-spec =
+    tie.close
+    (tie.spec
+    row-fields-requires
+    refused-requires
+    returns
+    pixels-number-requires
+    refused-requires-2
+    returns-2
+    sub-pixels
+    part-pixels-start
+    part-pixels-end
+    cast-keep
+    mul-keep
+    keep-requires
+    after-row-requires
+    held-requires
+    same-length
+    returns-3)

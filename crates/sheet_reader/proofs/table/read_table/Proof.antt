@@ -1,0 +1,63 @@
+use borrow.Author.Needs.{needs}
+use Rattle.sheet_reader.proofs.table.read_table.Statement.{statement}
+use Rattle.sheet_reader.proofs.table.read_table.Tie as tie
+use Rattle.sheet_reader.proofs.table.read_table.Reads as reads
+use Rattle.sheet_reader.proofs.table.read_table.Lts as lts
+use Rattle.code_table.proofs.check.check.Reads as check-reads
+use Rattle.sheet_reader.proofs.answers.held.Reads as held-reads
+use Rattle.sheet_reader.proofs.answers.refused.Reads as refused-reads
+
+-- src/table.rt:17:9
+refused-requires : tie.Need-refused-requires
+refused-requires c κs = search needs
+
+-- src/table.rt:17:9
+returns : tie.Need-returns
+returns c = ?
+
+-- src/table.rt:20:9
+refused-requires-2 : tie.Need-refused-requires-2
+refused-requires-2 c κs = search needs
+
+-- src/table.rt:20:9
+returns-2 : tie.Need-returns-2
+returns-2 c = ?
+
+-- src/table.rt:22:9
+check-requires : tie.Need-check-requires
+check-requires c κs = search needs
+
+-- src/table.rt:25:9
+refused-requires-3 : tie.Need-refused-requires-3
+refused-requires-3 c κs = search needs
+
+-- src/table.rt:25:9
+returns-3 : tie.Need-returns-3
+returns-3 c = ?
+
+-- src/table.rt:31:16
+cast-held : tie.Need-cast-held
+cast-held c = search needs
+
+-- src/table.rt:31:5
+held-requires : tie.Need-held-requires
+held-requires c κs = search needs
+
+-- src/table.rt:12:1
+returns-4 : tie.Need-returns-4
+returns-4 c = ?
+
+pub read-table-spec : {M : Type 1} → statement M
+read-table-spec =
+    tie.close
+    (tie.spec
+    refused-requires
+    returns
+    refused-requires-2
+    returns-2
+    check-requires
+    refused-requires-3
+    returns-3
+    cast-held
+    held-requires
+    returns-4)

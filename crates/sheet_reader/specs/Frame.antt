@@ -3,7 +3,7 @@ use Prim.Native.Nat.{ℕ, zero, suc, _+_, _-_, _*_, _≤_, _<_}
 use native.Mathlib.Omega.{arith}
 use mathlib.Core.Path.{_≡_, refl, sym, ap, _∙_}
 use mathlib.Core.List.{List, [], _++_}
-use lib.ListN.{length, take, drop}
+use lib.ListN.{length, take, drop, length-take}
 use borrow.Author.Tests.{lt-ltb, le-ltb}
 use Rattle.answer.specs.Outcome.{_orElse_}
 use Rattle.row_format.specs.Calls.{tooMany}
@@ -40,6 +40,9 @@ module _ (r : List ℕ) (four : 4 ≤ length r) (n : ℕ) (is : n ≡ lengthFiel
 
 pub number-right : (r : List ℕ) {n : ℕ} → n ≡ lengthNumber r → n ≡ 0 → RightLength r
 number-right r is none = right-length r (sym is ∙ none)
+
+pub body-short : (r : List ℕ) (size : ℕ) → size ≤ 32774 → length (take (4 + size - 6) (drop 6 r)) ≤ 32772
+body-short r size h = omega (arith, length-take (4 + size - 6) (drop 6 r))
 
 -- ---- a record, by its length, and by its body
 module _ {room : ℕ} {tb r : List ℕ} {st : SheetState} {m : List ℕ} {x : RecordRead} {n : ℕ} (is : n ≡ lengthNumber r) where

@@ -56,13 +56,9 @@ pub fn keep_numbers(line: &[u8], count: usize, room: usize, content: &mut [u8])
     }
 }
 
-// Two's complement in 32 bits.
+// Two's complement in 32 bits: the remainder by 2 to the power 32, which is added first so that nothing is negative.
 fn word_of(v: i32) -> u32
     ensures { λ r. ⌜ r ≡ wordOf v ⌝ }
 {
-    if v < 0 {
-        4294967295 - ((-1 - v) as u32)
-    } else {
-        v as u32
-    }
+    ((v as i64 + 4294967296) as u64 % 4294967296) as u32
 }

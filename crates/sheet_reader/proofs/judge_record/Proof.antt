@@ -1,3 +1,4 @@
+use Rattle.sheet_reader.specs.Frame.{judged-leaves}
 use borrow.Author.Needs.{needs}
 use Rattle.sheet_reader.proofs.judge_record.Statement.{statement}
 use Rattle.sheet_reader.proofs.judge_record.Tie as tie
@@ -15,7 +16,7 @@ read-requires c κs = search needs
 
 -- src/lib.rt:22:1
 returns : tie.Need-returns
-returns c = ?
+returns c = judged-leaves (c .before .read .ensures)
 
 pub judge-record-spec : {M : Type 1} → statement M
 judge-record-spec = tie.close (tie.spec slice-aggregate-read read-requires returns)

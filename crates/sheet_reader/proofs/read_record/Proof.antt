@@ -1,3 +1,7 @@
+use lib.ListN.{length}
+use Rattle.sheet_format.specs.Record.{lent, recordNumber}
+use Rattle.sheet_format.specs.Reading.{recordRead}
+use Rattle.sheet_reader.specs.Leaves.Laws.{read-leaves}
 use borrow.Author.Needs.{needs}
 use Rattle.sheet_reader.proofs.read_record.Statement.{statement}
 use Rattle.sheet_reader.proofs.read_record.Tie as tie
@@ -15,7 +19,8 @@ same-length c = search needs
 
 -- src/lib.rt:30:1
 returns : tie.Need-returns
-returns c = ?
+unfolding recordRead
+returns c = read-leaves (recordNumber (lent (length (c .before .before .before .before .before .before .before .args .content .now))) (c .before .before .before .before .before .before .before .args .table .now) (c .before .before .before .before .before .before .before .args .sheet .now) (c .before .before .before .before .before .before .before .args .state)) (c .before .before .read .ensures .leaves)
 
 pub read-record-spec : {M : Type 1} → statement M
 read-record-spec = tie.close (tie.spec read-requires same-length returns)

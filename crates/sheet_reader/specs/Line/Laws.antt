@@ -1,5 +1,5 @@
 -- The ways out of reading a line. Assumes nothing.
-use Prim.Native.Nat.{ℕ, zero, suc, _+_, _-_, _*_, _≤_, _<_}
+use Prim.Native.Nat.{ℕ, zero, suc, _+_, _-_, _*_, _%_, _≤_, _<_}
 use native.Mathlib.Nat.{sub-zero}
 use native.Mathlib.Decide.{decLt}
 use native.Mathlib.Omega.{arith}
@@ -8,7 +8,8 @@ use mathlib.Core.Logic.{by-cases}
 use mathlib.Core.List.{List, [], _∷_, _++_, map, append-assoc}
 use lib.ListN.{length, take, drop, length-append, length-drop, length-map}
 use lib.Seq.{take-at, drop-append-add, drop-drop}
-use lib.IntN.{ℤ}
+use lib.IntN.{ℤ, pos, negsuc, _+ℤ_}
+use lib.Signed.{mag}
 use borrow.Author.Tests.{lt-ltb, le-ltb, eq-eqb, ne-eqb}
 use borrow.Rule.Slice.PartAt.{part-to-end}
 use Rattle.bitstream.specs.Bits.{digits, cut, bytesOf}
@@ -33,6 +34,23 @@ use Rattle.sheet_reader.specs.declared.numbers.LineJudged.{LineJudged}
 use Rattle.sheet_reader.specs.Leaves.{ContentLeaves}
 use Rattle.sheet_reader.specs.Leaves.Laws.{given-first, given-next, refuses, holds}
 use Rattle.sheet_reader.specs.Line.{lineJudged, Walked, Kept}
+
+-- ---- two's complement as a remainder: v and 2 to the power 32 is the number raised v
+abbrev pub raised : ℤ → ℕ
+raised (pos m) = m + 4294967296
+raised (negsuc m) = 4294967295 - m
+
+pub raised-is : (v : ℤ) → mag v < 2147483648 → v +ℤ pos 4294967296 ≡ pos (raised v)
+raised-is (pos m) h = refl
+raised-is (negsuc m) h = rw (le-ltb 4294967296 (suc m) (omega arith)) (ap pos (omega arith))
+
+pub raised-small : (v : ℤ) → mag v < 2147483648 → raised v < 9223372036854775808
+raised-small (pos m) h = omega arith
+raised-small (negsuc m) h = omega arith
+
+pub raised-word : (v : ℤ) → mag v < 2147483648 → raised v % 4294967296 ≡ wordOf v
+raised-word (pos m) h = omega arith
+raised-word (negsuc m) h = omega arith
 
 -- ---- a pass over the numbers
 module _ (n : ℕ) (s : List ℕ) where

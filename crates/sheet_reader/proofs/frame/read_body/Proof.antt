@@ -1,3 +1,4 @@
+use Rattle.sheet_reader.specs.Frame.{table-leaves, packed-leaves, plain-leaves, line-leaves, unknown-leaves}
 use borrow.Author.Needs.{needs}
 use Rattle.sheet_reader.proofs.frame.read_body.Statement.{statement}
 use Rattle.sheet_reader.proofs.frame.read_body.Tie as tie
@@ -31,7 +32,7 @@ refused-requires c κs = search needs
 
 -- src/frame.rt:54:1
 returns : tie.Need-returns
-returns c = ?
+returns c = table-leaves (c .before .match .keys1) (c .read-table .ensures)
 
 -- src/frame.rt:54:1
 same-length : tie.Need-same-length
@@ -39,7 +40,7 @@ same-length c = search needs
 
 -- src/frame.rt:54:1
 returns-2 : tie.Need-returns-2
-returns-2 c = ?
+returns-2 c = packed-leaves (c .before .before .before .before .match .keys2) (c .before .before .read-packed .ensures)
 
 -- src/frame.rt:54:1
 same-length-2 : tie.Need-same-length-2
@@ -47,7 +48,7 @@ same-length-2 c = search needs
 
 -- src/frame.rt:54:1
 returns-3 : tie.Need-returns-3
-returns-3 c = ?
+returns-3 c = plain-leaves (c .before .before .before .before .match .keys3) (c .before .before .read-plain .ensures)
 
 -- src/frame.rt:54:1
 same-length-3 : tie.Need-same-length-3
@@ -55,11 +56,11 @@ same-length-3 c = search needs
 
 -- src/frame.rt:54:1
 returns-4 : tie.Need-returns-4
-returns-4 c = ?
+returns-4 c = line-leaves (c .before .before .before .before .match .keys4) (c .before .before .read-line .ensures)
 
 -- src/frame.rt:54:1
 returns-5 : tie.Need-returns-5
-returns-5 c = ?
+returns-5 c = unknown-leaves (c .before .match .rest .0 .0 .0 .1) (c .before .match .rest .0 .0 .1) (c .before .match .rest .0 .1) (c .before .match .rest .1) (c .refused .ensures)
 
 pub read-body-spec : {M : Type 1} → statement M
 read-body-spec =

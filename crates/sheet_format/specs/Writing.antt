@@ -18,6 +18,7 @@ use Rattle.sheet_format.specs.declared.RecordWritten.{RecordWritten}
 use Rattle.sheet_format.specs.Line.{signedOf, lineBytes}
 use Rattle.sheet_format.specs.Record.{Kind, tableRecord, packedRecord, plainRecord, lineRecord, unknown, kindOf, kindNumber, placeNumber}
 use Rattle.sheet_format.specs.Reading.{stateAfter}
+pub mod Laws
 
 -- ---- the content given; an incomplete pixel or number at the end counts for nothing
 abbrev pub givenPixels : List ℕ → List ℕ

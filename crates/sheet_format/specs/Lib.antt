@@ -3,3 +3,4 @@ pub mod Record
 pub mod Reading
 pub mod Writing
 pub mod Sheet
+pub mod Theorems

@@ -14,6 +14,7 @@ use Rattle.row_format.specs.Reading.{Run, done, stop, readItems, stray}
 use Rattle.row_format.specs.Calls.{tooMany}
 use Rattle.sheet_format.specs.declared.SheetState.{SheetState}
 use Rattle.sheet_format.specs.Line.{Line, numbers, faulty, readLine}
+pub mod Laws
 
 -- ---- the parts of a record: "a 4-byte little-endian length that counts what follows it, a two-byte little-endian kind, a
 -- body"

@@ -6,12 +6,18 @@ use mathlib.Core.Path.{_≡_, refl, sym, ap, _∙_}
 use mathlib.Core.List.{List, [], _∷_, _++_, append-assoc}
 use lib.ListN.{length, take, drop, length-append}
 use lib.Seq.{take-at, drop-at, take-all, drop-drop}
+use lib.Dec.{ltb}
 use borrow.Author.Tests.{le-ltb}
 use Rattle.bitstream.specs.Bits.{digits, numOf, flat, cut, numberOf, bytesOf}
 use Rattle.bitstream.specs.Bits.Laws.{length-digits, below-digits, flat-cut, numOf-digits, length-cut}
 use Rattle.row_format.specs.BitLaws.{pad-within}
-use Rattle.sheet_format.specs.Record.{lengthField, kindField, bodyOf, lengthNumber}
-use Rattle.sheet_format.specs.Writing.{twoBytes, fourBytes, recordBytes}
+use Rattle.answer.specs.Outcome.{refuseIf}
+use Rattle.row_format.specs.Calls.Laws.{orElse-zero-left, orElse-zero-right}
+use Rattle.sheet_format.specs.declared.SheetState.{SheetState}
+use Rattle.sheet_format.specs.Record.{lengthField, kindField, bodyOf, kindOf, lengthNumber, kindNumber, placeNumber}
+use Rattle.sheet_format.specs.Record.Laws.{lessNumber-zero}
+use Rattle.sheet_format.specs.Reading.{stateAfter}
+use Rattle.sheet_format.specs.Writing.{twoBytes, fourBytes, bodyFor, recordBytes, givenNumber, writeNumber, WriteOutcome, writtenUnless, recordWritten}
 
 -- a number in n bytes is read back from them
 pub numberOf-bytesOf : (n v : ℕ) → v < 2 ^ (8 * n) → numberOf (bytesOf n (digits (8 * n) v)) ≡ v
@@ -99,3 +105,63 @@ module _ (code : ℕ) (b rest : List ℕ) (small : code < 65536) (short : length
     body = bodyOf-recordBytes;
     right = lengthNumber-recordBytes;
   }
+
+pub writtenUnless-number : (e : ℕ) (st : SheetState) (m : List ℕ) (st′ : SheetState) (b : List ℕ) → writtenUnless e st m st′ b .answer .number ≡ e
+writtenUnless-number zero st m st′ b = refl
+writtenUnless-number (suc e) st m st′ b = refl
+
+-- ---- what a done write passed
+pub record Writable (code row : ℕ) (tb c : List ℕ) (st : SheetState) : Type 0 where
+  pub known : kindNumber (kindOf code) ≡ 0
+  pub place : placeNumber (kindOf code) row st ≡ 0
+  pub given : givenNumber (kindOf code) tb c ≡ 0
+
+module _ (code row : ℕ) (tb c : List ℕ) (st : SheetState) where
+  pub writable : (room : ℕ) → writeNumber code row tb c st room ≡ 0 → Writable code row tb c st
+  unfolding writeNumber
+  writable room e =
+      let k = kindOf code in
+      let e1 = orElse-zero-right (kindNumber k) _ e in
+      let e2 = orElse-zero-right (placeNumber k row st) _ e1 in
+      record {
+        known = orElse-zero-left (kindNumber k) _ e;
+        place = orElse-zero-left (placeNumber k row st) _ e1;
+        given = orElse-zero-left (givenNumber k tb c) _ e2;
+      }
+
+  -- then only room is left to ask for
+  pub writeNumber-writable : (room : ℕ) → Writable code row tb c st
+      → writeNumber code row tb c st room ≡ refuseIf (ltb room (length (recordBytes code (bodyFor (kindOf code) row tb c)))) 5
+  unfolding writeNumber
+  writeNumber-writable room w = rw (w .known, w .place, w .given)
+
+  pub writeNumber-room : (room : ℕ) → writeNumber code row tb c st room ≡ 0
+      → length (recordBytes code (bodyFor (kindOf code) row tb c)) ≤ room
+  writeNumber-room room e =
+      lessNumber-zero room (length (recordBytes code (bodyFor (kindOf code) row tb c))) 4 (sym (writeNumber-writable room (writable room e)) ∙ e)
+
+  -- ---- the call
+  module _ (m : List ℕ) where
+    pub recordWritten-number : recordWritten code row tb c st m .answer .number ≡ writeNumber code row tb c st (length m)
+    unfolding recordWritten
+    recordWritten-number =
+        writtenUnless-number (writeNumber code row tb c st (length m)) st m (stateAfter (kindOf code) row st)
+        (recordBytes code (bodyFor (kindOf code) row tb c))
+
+    pub recordWritten-done : writeNumber code row tb c st (length m) ≡ 0
+        → recordWritten code row tb c st m ≡ writtenUnless 0 st m (stateAfter (kindOf code) row st) (recordBytes code (bodyFor (kindOf code) row tb c))
+    unfolding recordWritten
+    recordWritten-done e = rw e
+
+    pub recordWritten-refused : (e : ℕ) → writeNumber code row tb c st (length m) ≡ suc e
+        → recordWritten code row tb c st m ≡ writtenUnless (suc e) st m (stateAfter (kindOf code) row st) (recordBytes code (bodyFor (kindOf code) row tb c))
+    unfolding recordWritten
+    recordWritten-refused e h = rw h
+
+    -- the bytes that a done write counts are the record's
+    pub recordWritten-front : writeNumber code row tb c st (length m) ≡ 0
+        → take (recordWritten code row tb c st m .answer .count) (recordWritten code row tb c st m .memory)
+        ≡ recordBytes code (bodyFor (kindOf code) row tb c)
+    recordWritten-front e =
+        let b = recordBytes code (bodyFor (kindOf code) row tb c) in
+        rw (recordWritten-done e) (take-at b (drop (length b) m) (length b) refl)

@@ -17,3 +17,4 @@ pub record Putting (vs : List ℤ) (m o : List ℕ) (at i : ℕ) : Type 0 where
   pub reached : Reached vs at i
   pub memory : o ≡ lineBytes (take i vs) ++ drop at m
   pub size : length o ≡ length m
+  pub inside : at ≤ length o

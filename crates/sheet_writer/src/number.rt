@@ -24,7 +24,7 @@ fn signed_of(word: u32) -> i32
     if word < 2147483648 {
         word as i32
     } else {
-        -1 - (4294967295 - word) as i32
+        (word as i64 - 4294967296) as i32
     }
 }
 

@@ -1,5 +1,5 @@
 -- The turns of the passes over a line's numbers, and the ways out of writing a line. Assumes nothing.
-use Prim.Native.Nat.{ℕ, _+_, _-_, _*_, _/_, _≤_, _<_}
+use Prim.Native.Nat.{ℕ, suc, _+_, _-_, _*_, _/_, _≤_, _<_}
 use native.Mathlib.Numerals.{add-one}
 use native.Mathlib.Omega.{arith}
 use mathlib.Core.Path.{_≡_, refl, sym, ap, _∙_}
@@ -7,7 +7,11 @@ use mathlib.Core.List.{List, [], _∷_, _++_, append-assoc, append-nil, map}
 use lib.ListN.{length, take, drop, getD, length-append, length-drop, take-append-drop, length-map, List·getD-map}
 use lib.Seq.{take-suc, take-all, length-take-le, take-at, drop-drop, drop-at}
 use lib.Dec.{ltb}
-use lib.IntN.{ℤ, pos}
+use lib.IntN.{ℤ, pos, negsuc, _-ℤ_}
+use mir.Syntax.{w32, w64}
+use lib.Signed.{mag}
+use mir.Val.{SFits, toZ, ofZ}
+use mir.Facts.{toZ-pos, toZ-ofZ}
 use borrow.Author.Tests.{lt-ltb, le-ltb, eq-eqb, ne-eqb}
 use Rattle.bitstream.specs.Bits.{numberOf, wordsOf}
 use Rattle.answer.specs.declared.Answer.{Answer}
@@ -16,7 +20,7 @@ use Rattle.code_table.specs.Words.{getD-words}
 use Rattle.code_table.specs.Check.Laws.{length-words}
 use Rattle.adaptive.specs.Number.{signed, shortest}
 use Rattle.adaptive.specs.Number.Read.{shortest-count}
-use Rattle.adaptive.specs.Calls.{signedWritten}
+use Rattle.adaptive.specs.Calls.{written, signedWritten}
 use Rattle.adaptive.specs.Calls.Laws.{written-done}
 use Rattle.sheet_format.specs.declared.SheetState.{SheetState}
 use Rattle.sheet_format.specs.Line.{signedOf, lineBytes}
@@ -31,6 +35,30 @@ use Rattle.sheet_writer.specs.Fields.Laws.{length-lineFields, line-field
 use Rattle.sheet_writer.specs.Frame.{Frame, partFrom, withPart}
 use Rattle.sheet_writer.specs.Frame.Laws.{part-is, part-back}
 use Rattle.sheet_writer.specs.Line.{Reached, Putting}
+
+-- ---- an i32 is held as its bits
+pub held : (v : ℤ) → mag v < 2147483648 → toZ w32 (ofZ w32 v) ≡ v
+held v small = toZ-ofZ (record { sfits = small })
+
+-- ---- two's complement: a word above the middle stands for what it is less 2 ^ 32
+pub low-signed : (w : ℕ) → w < 2147483648 → toZ w32 w ≡ signedOf w
+low-signed w low = toZ-pos w32 low ∙ rw (lt-ltb w 2147483648 low)
+
+module _ (w : ℕ) (high : 2147483648 ≤ w) (fits : w < 4294967296) where
+  high-negative : signedOf w ≡ negsuc (4294967295 - w)
+  high-negative = rw (le-ltb w 2147483648 high)
+
+  pub high-signed : toZ w64 w -ℤ pos 4294967296 ≡ signedOf w
+  high-signed =
+      let wide : w < 9223372036854775808 = omega arith in
+      let same : 4294967296 - suc w ≡ 4294967295 - w = omega arith in
+      rw (toZ-pos w64 wide, lt-ltb w 4294967296 fits, high-negative) (ap negsuc same)
+
+  pub high-narrow : SFits w32 (signedOf w)
+  high-narrow = rw high-negative (record { sfits = omega arith })
+
+  pub high-wide : SFits w64 (signedOf w)
+  high-wide = rw high-negative (record { sfits = omega arith })
 
 -- ---- the numbers given
 pub length-given : (c : List ℕ) → length (givenNumbers c) ≡ length c / 4
@@ -47,10 +75,11 @@ pub record Wrote (v : ℤ) (m : List ℕ) (r : Answer) (y : List ℕ) : Type 0 w
   pub count : r .count ≡ length (shortest signed v)
   pub memory : y ≡ shortest signed v ++ drop (length (shortest signed v)) m
 
-pub wrote-number : (v : ℤ) (m y : List ℕ) (r : Answer) → outcome r y ≡ signedWritten v m → length (shortest signed v) ≤ length m → Wrote v m r y
+pub wrote-number : (v : ℤ) (m y : List ℕ) (r : Answer) → mag v < 2147483648 → outcome r y ≡ signedWritten (toZ w32 (ofZ w32 v)) m
+    → length (shortest signed v) ≤ length m → Wrote v m r y
 unfolding signedWritten
-wrote-number v m y r e fits =
-    let done = e ∙ written-done (shortest signed v) m fits in
+wrote-number v m y r small e fits =
+    let done = e ∙ ap (λ z. written (shortest signed z) m) (held v small) ∙ written-done (shortest signed v) m fits in
     record { count = ap (λ x. x .answer .count) done; memory = ap (λ x. x .memory) done }
 
 -- ---- the bytes of the first numbers
@@ -102,7 +131,7 @@ module _ (vs : List ℤ) where
 module _ (vs : List ℤ) (m : List ℕ) where
   pub putting-none : Putting vs m m 0 0
   unfolding lineBytes
-  putting-none = record { reached = reached-none vs; memory = refl; size = refl }
+  putting-none = record { reached = reached-none vs; memory = refl; size = refl; inside = omega arith }
 
   module _ (o : List ℕ) (at i : ℕ) (p : Putting vs m o at i) where
     module _ (room : length (lineBytes vs) ≤ length m) (h : i < length vs) where
@@ -127,6 +156,7 @@ module _ (vs : List ℤ) (m : List ℕ) where
                 part-back at o y
                 ∙ rw (before, w .memory, rest) (rw (lineBytes-next vs i h) (sym (append-assoc front b (drop (at + r .count) m))));
             size = same ∙ p .size;
+            inside = omega (arith, same, p .size, w .count, reached-room vs i h at (p .reached));
           }
 
     pub putting-all : length vs ≤ i → o ≡ lineBytes vs ++ drop (length (lineBytes vs)) m

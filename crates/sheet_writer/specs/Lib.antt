@@ -6,3 +6,4 @@ pub mod Row
 pub mod Packed
 pub mod Plain
 pub mod Line
+pub mod Record

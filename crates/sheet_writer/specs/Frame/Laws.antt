@@ -4,7 +4,7 @@ use native.Mathlib.Omega.{arith}
 use mathlib.Core.Path.{_≡_, refl, sym, ap, _∙_}
 use mathlib.Core.List.{List, [], _++_, append-assoc, append-nil}
 use lib.ListN.{length, take, drop, length-append, length-drop, drop-of-length-le}
-use lib.Seq.{take-all, drop-at, drop-drop, length-take-le}
+use lib.Seq.{take-all, take-length, drop-at, drop-drop, length-take-le}
 use lib.Dec.{ltb}
 use Rattle.answer.specs.Outcome.{_orElse_, refuseIf}
 use Rattle.sheet_format.specs.declared.SheetState.{SheetState}
@@ -27,6 +27,10 @@ part-back a m y =
     let short : length (drop a m) ≤ length m - a = omega (arith, length-drop a m) in
     let none : drop (length m - a) (drop a m) ≡ [] = drop-of-length-le (drop a m) short in
     rw (none, append-nil y)
+
+-- what copying all of b leaves
+pub copied : (b m y : List ℕ) → y ≡ take (length b) b ++ drop (length b) m → y ≡ b ++ drop (length b) m
+copied b m y e = rw (take-length b) at e
 
 -- ---- any record
 module _ (code row : ℕ) (tb c : List ℕ) (st : SheetState) (m : List ℕ) where

@@ -193,3 +193,6 @@ module _ (c : List ℕ) (st : SheetState) where
   unfolding judged givenNumber
   line-few e =
       omega (arith, length-given c, lessNumber-zero 4096 (length (givenNumbers c)) 10 (orElse-zero-right (placeNumber lineRecord 0 st) _ e))
+
+pub line-most : (c : List ℕ) → length c / 4 ≤ 4096 → length (lineBytes (givenNumbers c)) ≤ 20480
+line-most c few = omega (arith, length-given c, length-lineBytes (givenNumbers c))

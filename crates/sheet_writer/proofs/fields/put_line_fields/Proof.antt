@@ -1,3 +1,4 @@
+use Rattle.sheet_writer.specs.Fields.Laws.{put-line-done}
 use borrow.Author.Needs.{needs}
 use Rattle.sheet_writer.proofs.fields.put_line_fields.Statement.{statement}
 use Rattle.sheet_writer.proofs.fields.put_line_fields.Tie as tie
@@ -20,7 +21,7 @@ same-length c = search needs
 
 -- src/fields.rt:33:1
 returns : tie.Need-returns
-returns c = ?
+returns c = put-line-done (c .before .before .before .before .before .before .before .before .before .args .out .now) (c .before .before .before .before .before .before .put-record-fields .last .1 .1 .0) (c .before .before .put-u16 .last .0) (c .before .before .before .before .before .before .before .before .before .args .kind) (c .before .before .before .before .before .before .before .before .before .args .numbers) (c .before .before .before .before .before .before .before .before .before .args .bytes) (c .before .before .before .before .before .before .put-record-fields .ensures) (c .before .before .put-u16 .ensures)
 
 pub put-line-fields-spec : {M : Type 1} → statement M
 put-line-fields-spec =

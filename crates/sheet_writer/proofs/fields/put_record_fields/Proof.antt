@@ -1,3 +1,4 @@
+use Rattle.sheet_writer.specs.Fields.Laws.{put-record-done}
 use borrow.Author.Needs.{needs}
 use Rattle.sheet_writer.proofs.fields.put_record_fields.Statement.{statement}
 use Rattle.sheet_writer.proofs.fields.put_record_fields.Tie as tie
@@ -24,7 +25,7 @@ same-length c = search needs
 
 -- src/fields.rt:12:1
 returns : tie.Need-returns
-returns c = ?
+returns c = put-record-done (c .before .before .before .before .before .before .before .before .before .args .out .now) (c .before .before .before .before .before .before .put-u32 .last .0) (c .before .before .put-u16 .last .0) (c .before .before .before .before .before .before .before .before .before .args .kind) (c .before .before .before .before .before .before .before .before .before .args .bytes) (c .before .before .before .before .before .before .put-u32 .ensures) (c .before .before .put-u16 .ensures)
 
 pub put-record-fields-spec : {M : Type 1} → statement M
 put-record-fields-spec =

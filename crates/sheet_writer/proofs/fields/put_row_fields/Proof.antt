@@ -1,3 +1,4 @@
+use Rattle.sheet_writer.specs.Fields.Laws.{put-row-done}
 use borrow.Author.Needs.{needs}
 use Rattle.sheet_writer.proofs.fields.put_row_fields.Statement.{statement}
 use Rattle.sheet_writer.proofs.fields.put_row_fields.Tie as tie
@@ -24,7 +25,7 @@ same-length c = search needs
 
 -- src/fields.rt:22:1
 returns : tie.Need-returns
-returns c = ?
+returns c = put-row-done (c .before .before .before .before .before .before .before .before .before .before .before .before .before .args .out .now) (c .before .before .before .before .before .before .before .before .before .before .put-record-fields .last .1 .1 .0) (c .before .before .before .before .before .before .put-u16 .last .0) (c .before .before .put-u162 .last .0) (c .before .before .before .before .before .before .before .before .before .before .before .before .before .args .kind) (c .before .before .before .before .before .before .before .before .before .before .before .before .before .args .row) (c .before .before .before .before .before .before .before .before .before .before .before .before .before .args .pixels) (c .before .before .before .before .before .before .before .before .before .before .before .before .before .args .bytes) (c .before .before .before .before .before .before .before .before .before .before .put-record-fields .ensures) (c .before .before .before .before .before .before .put-u16 .ensures) (c .before .before .put-u162 .ensures)
 
 pub put-row-fields-spec : {M : Type 1} → statement M
 put-row-fields-spec =

@@ -1,3 +1,9 @@
+use native.Mathlib.Omega.{arith}
+use mathlib.Core.Path.{_∙_, sym}
+use Rattle.sheet_format.specs.Record.{packedRecord}
+use Rattle.sheet_writer.specs.Outcome.Laws.{judged-placed}
+use Rattle.sheet_writer.specs.Frame.Laws.{frame-refused}
+use Rattle.sheet_writer.specs.Packed.{packed-frame, pack-refused, pack-short, pack-few, pack-most, pack-done}
 use borrow.Author.Needs.{needs}
 use Rattle.sheet_writer.proofs.packed.write_packed.Statement.{statement}
 use Rattle.sheet_writer.proofs.packed.write_packed.Tie as tie
@@ -21,7 +27,7 @@ refused-requires c κs = search needs
 
 -- src/packed.rt:22:9
 returns : tie.Need-returns
-returns c = ?
+returns c = let a = c .before .before .before .before .before .before .args in frame-refused (packed-frame (a .row) (a .table .now) (a .content .now)) (a .state) (a .out .now) (c .refused .result) (c .before .before .row-place .result) (judged-placed packedRecord (a .row) (a .table .now) (a .content .now) (a .state) (c .before .before .row-place .result) (c .before .before .row-place .ensures) (c .before .if1 .taken)) (c .before .if1 .taken) (c .refused .ensures)
 
 -- src/packed.rt:26:9
 lesser-requires : tie.Need-lesser-requires
@@ -53,7 +59,7 @@ same-length c = search needs
 
 -- src/packed.rt:29:9
 returns-2 : tie.Need-returns-2
-returns-2 c = ?
+returns-2 c = pack-refused (c .before .before .before .before .before .before .before .before .before .before .before .before .before .args .row) (c .before .before .before .before .before .before .before .before .before .before .before .before .before .args .table .now) (c .before .before .before .before .before .before .before .before .before .before .before .before .before .args .content .now) (c .before .before .before .before .before .before .before .before .before .before .before .before .before .args .state) (c .before .before .before .before .before .before .before .before .before .before .before .before .before .args .out .now) (sym (c .before .before .before .before .before .before .before .before .before .row-place .ensures) ∙ c .before .before .before .before .before .before .before .before .if1 .left) (c .before .before .before .before .before .before .before .lesser .result) (c .before .before .before .before .before .before .before .lesser .ensures) (c .before .before .before .before .before .pack .result) (c .before .before .before .before .before .pack .last .1 .1 .0) (c .before .before .before .before .before .pack .ensures) (c .before .if2 .taken) (c .refused2 .result) (c .refused2 .ensures)
 
 -- src/packed.rt:32:9
 refused-requires-3 : tie.Need-refused-requires-3
@@ -65,11 +71,11 @@ same-length-2 c = search needs
 
 -- src/packed.rt:32:9
 returns-3 : tie.Need-returns-3
-returns-3 c = ?
+returns-3 c = pack-short (c .before .before .before .before .before .before .before .before .before .before .before .before .before .before .args .row) (c .before .before .before .before .before .before .before .before .before .before .before .before .before .before .args .table .now) (c .before .before .before .before .before .before .before .before .before .before .before .before .before .before .args .content .now) (c .before .before .before .before .before .before .before .before .before .before .before .before .before .before .args .state) (c .before .before .before .before .before .before .before .before .before .before .before .before .before .before .args .out .now) (sym (c .before .before .before .before .before .before .before .before .before .before .row-place .ensures) ∙ c .before .before .before .before .before .before .before .before .before .if1 .left) (c .before .before .before .before .before .before .before .before .lesser .result) (c .before .before .before .before .before .before .before .before .lesser .ensures) (c .before .before .before .before .before .before .pack .result) (c .before .before .before .before .before .before .pack .last .1 .1 .0) (c .before .before .before .before .before .before .pack .ensures) (c .before .before .if2 .left) (c .before .if3 .taken) (c .refused3 .result) (c .refused3 .ensures)
 
 -- src/packed.rt:34:28
 add-bytes : tie.Need-add-bytes
-add-bytes c = ?
+add-bytes c = omega (arith, pack-most (c .before .before .before .before .before .before .before .before .before .before .before .before .before .before .args .row) (c .before .before .before .before .before .before .before .before .before .before .before .before .before .before .args .table .now) (c .before .before .before .before .before .before .before .before .before .before .before .before .before .before .args .content .now) (c .before .before .before .before .before .before .before .before .before .before .before .before .before .before .args .state) (c .before .before .before .before .before .before .before .before .before .before .before .before .before .before .args .out .now) (sym (c .before .before .before .before .before .before .before .before .before .before .row-place .ensures) ∙ c .before .before .before .before .before .before .before .before .before .if1 .left) (c .before .before .before .before .before .before .before .before .lesser .result) (c .before .before .before .before .before .before .before .before .lesser .ensures) (c .before .before .before .before .before .before .pack .result) (c .before .before .before .before .before .before .pack .last .1 .1 .0) (c .before .before .before .before .before .before .pack .ensures) (c .before .before .if2 .left))
 
 -- src/packed.rt:34:22
 mul-bytes : tie.Need-mul-bytes
@@ -81,7 +87,7 @@ add-bytes-2 c = search needs
 
 -- src/packed.rt:35:28
 cast-put-row-fields : tie.Need-cast-put-row-fields
-cast-put-row-fields c = ?
+cast-put-row-fields c = omega (arith, pack-few (c .before .before .before .before .before .before .before .before .before .before .before .before .before .before .args .row) (c .before .before .before .before .before .before .before .before .before .before .before .before .before .before .args .table .now) (c .before .before .before .before .before .before .before .before .before .before .before .before .before .before .args .content .now) (c .before .before .before .before .before .before .before .before .before .before .before .before .before .before .args .state) (c .before .before .before .before .before .before .before .before .before .before .before .before .before .before .args .out .now) (sym (c .before .before .before .before .before .before .before .before .before .before .row-place .ensures) ∙ c .before .before .before .before .before .before .before .before .before .if1 .left) (c .before .before .before .before .before .before .before .before .lesser .result) (c .before .before .before .before .before .before .before .before .lesser .ensures) (c .before .before .before .before .before .before .pack .result) (c .before .before .before .before .before .before .pack .last .1 .1 .0) (c .before .before .before .before .before .before .pack .ensures) (c .before .before .if2 .left))
 
 -- src/packed.rt:35:5
 put-row-fields-requires : tie.Need-put-row-fields-requires
@@ -101,7 +107,7 @@ same-length-3 c = search needs
 
 -- src/packed.rt:17:1
 returns-4 : tie.Need-returns-4
-returns-4 c = ?
+returns-4 c = pack-done (c .before .before .before .before .before .before .before .before .before .before .before .before .before .before .before .before .before .before .before .before .args .row) (c .before .before .before .before .before .before .before .before .before .before .before .before .before .before .before .before .before .before .before .before .args .table .now) (c .before .before .before .before .before .before .before .before .before .before .before .before .before .before .before .before .before .before .before .before .args .content .now) (c .before .before .before .before .before .before .before .before .before .before .before .before .before .before .before .before .before .before .before .before .args .state) (c .before .before .before .before .before .before .before .before .before .before .before .before .before .before .before .before .before .before .before .before .args .out .now) (sym (c .before .before .before .before .before .before .before .before .before .before .before .before .before .before .before .before .row-place .ensures) ∙ c .before .before .before .before .before .before .before .before .before .before .before .before .before .before .before .if1 .left) (c .before .before .before .before .before .before .before .before .before .before .before .before .before .before .lesser .result) (c .before .before .before .before .before .before .before .before .before .before .before .before .before .before .lesser .ensures) (c .before .before .before .before .before .before .before .before .before .before .before .before .pack .result) (c .before .before .before .before .before .before .before .before .before .before .before .before .pack .last .1 .1 .0) (c .before .before .before .before .before .before .before .before .before .before .before .before .pack .ensures) (c .before .before .before .before .before .before .before .before .if2 .left) (c .before .before .before .before .before .before .before .if3 .left) (c .written .result) (rw (← c .before .after-row .ensures) (c .written .ensures)) (c .before .before .before .before .put-row-fields .last .1 .1 .1 .1 .0) (c .before .before .before .before .put-row-fields .ensures)
 
 pub write-packed-spec : {M : Type 1} → statement M
 write-packed-spec =

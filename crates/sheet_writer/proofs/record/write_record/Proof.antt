@@ -1,3 +1,5 @@
+use mathlib.Core.Path.{_∙_}
+use Rattle.sheet_writer.specs.Record.{table-only, plain-only, line-only, refused-kind}
 use borrow.Author.Needs.{needs}
 use Rattle.sheet_writer.proofs.record.write_record.Statement.{statement}
 use Rattle.sheet_writer.proofs.record.write_record.Tie as tie
@@ -35,7 +37,7 @@ same-length c = search needs
 
 -- src/record.rt:17:1
 returns : tie.Need-returns
-returns c = ?
+returns c = let a = c .before .before .before .before .before .before .before .before .args in rw (c .before .before .before .before .match .keys1) (c .before .before .write-table .ensures ∙ table-only (a .row) (a .table .now) (a .content .now) (a .state) (a .out .now))
 
 -- src/record.rt:17:1
 same-length-2 : tie.Need-same-length-2
@@ -43,7 +45,7 @@ same-length-2 c = search needs
 
 -- src/record.rt:17:1
 returns-2 : tie.Need-returns-2
-returns-2 c = ?
+returns-2 c = rw (c .before .before .before .before .match .keys2) (c .before .before .write-packed .ensures)
 
 -- src/record.rt:17:1
 same-length-3 : tie.Need-same-length-3
@@ -51,7 +53,7 @@ same-length-3 c = search needs
 
 -- src/record.rt:17:1
 returns-3 : tie.Need-returns-3
-returns-3 c = ?
+returns-3 c = let a = c .before .before .before .before .before .before .before .before .args in rw (c .before .before .before .before .match .keys3) (c .before .before .write-plain .ensures ∙ plain-only (a .row) (a .table .now) (a .content .now) (a .state) (a .out .now))
 
 -- src/record.rt:17:1
 same-length-4 : tie.Need-same-length-4
@@ -59,11 +61,11 @@ same-length-4 c = search needs
 
 -- src/record.rt:17:1
 returns-4 : tie.Need-returns-4
-returns-4 c = ?
+returns-4 c = let a = c .before .before .before .before .before .before .before .before .args in rw (c .before .before .before .before .match .keys4) (c .before .before .write-line .ensures ∙ line-only (a .row) (a .table .now) (a .content .now) (a .state) (a .out .now))
 
 -- src/record.rt:17:1
 returns-5 : tie.Need-returns-5
-returns-5 c = ?
+returns-5 c = let a = c .before .before .before .before .before .args in let rest = c .before .match .rest in refused-kind (a .row) (a .table .now) (a .content .now) (a .state) (a .out .now) (a .kind) (rest .0 .0 .0 .1) (rest .0 .0 .1) (rest .0 .1) (rest .1) (c .refused .result) (c .refused .ensures)
 
 pub write-record-spec : {M : Type 1} → statement M
 write-record-spec =

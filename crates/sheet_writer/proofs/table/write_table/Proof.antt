@@ -1,3 +1,12 @@
+use Prim.Native.Nat.{_+_, _≤_}
+use lib.ListN.{length}
+use Rattle.sheet_writer.specs.Frame.Laws.{copied}
+use native.Mathlib.Omega.{arith}
+use mathlib.Core.Path.{_∙_, sym, ap}
+use Rattle.sheet_writer.specs.Table.{table-frame, table-most}
+use Rattle.sheet_writer.specs.Frame.Laws.{frame-refused, frame-full, frame-passed, frame-done}
+use lib.Seq.{take-length}
+use mathlib.Core.List.{_++_}
 use borrow.Author.Needs.{needs}
 use Rattle.sheet_writer.proofs.table.write_table.Statement.{statement}
 use Rattle.sheet_writer.proofs.table.write_table.Tie as tie
@@ -19,7 +28,7 @@ refused-requires c κs = search needs
 
 -- src/table.rt:22:9
 returns : tie.Need-returns
-returns c = ?
+returns c = frame-refused (table-frame (c .before .before .before .before .before .args .content .now)) (c .before .before .before .before .before .args .state) (c .before .before .before .before .before .args .out .now) (c .refused .result) (c .before .before .table-number .result) (c .before .before .table-number .ensures) (c .before .if1 .taken) (c .refused .ensures)
 
 -- src/table.rt:24:17
 add-bytes : tie.Need-add-bytes
@@ -31,7 +40,7 @@ refused-requires-2 c κs = search needs
 
 -- src/table.rt:26:9
 returns-2 : tie.Need-returns-2
-returns-2 c = ?
+returns-2 c = frame-full (table-frame (c .before .before .before .before .before .before .args .content .now)) (c .before .before .before .before .before .before .args .state) (c .before .before .before .before .before .before .args .out .now) (c .refused2 .result) (sym (c .before .before .before .table-number .ensures) ∙ c .before .before .if1 .left) (c .before .if2 .taken) (c .refused2 .ensures)
 
 -- src/table.rt:28:19
 sub-copy : tie.Need-sub-copy
@@ -51,7 +60,7 @@ copy-requires c κs = search needs
 
 -- src/table.rt:29:26
 cast-put-record-fields : tie.Need-cast-put-record-fields
-cast-put-record-fields c = ?
+cast-put-record-fields c = omega (arith, table-most (c .before .before .before .before .before .before .before .before .before .args .content .now) (c .before .before .before .before .before .before .before .before .before .args .state) (sym (c .before .before .before .before .before .before .table-number .ensures) ∙ c .before .before .before .before .before .if1 .left))
 
 -- src/table.rt:29:5
 put-record-fields-requires : tie.Need-put-record-fields-requires
@@ -59,7 +68,7 @@ put-record-fields-requires c κs = search needs
 
 -- src/table.rt:34:13
 cast-written : tie.Need-cast-written
-cast-written c = ?
+cast-written c = omega (arith, table-most (c .before .before .before .before .before .before .before .before .before .before .before .before .before .args .content .now) (c .before .before .before .before .before .before .before .before .before .before .before .before .before .args .state) (sym (c .before .before .before .before .before .before .before .before .before .before .table-number .ensures) ∙ c .before .before .before .before .before .before .before .before .before .if1 .left))
 
 -- src/table.rt:34:5
 written-requires : tie.Need-written-requires
@@ -71,7 +80,7 @@ same-length c = search needs
 
 -- src/table.rt:17:1
 returns-3 : tie.Need-returns-3
-returns-3 c = ?
+returns-3 c = let at-start = c .before .before .before .before .before .before .before .before .before .before .before .before .before .before in let front = table-frame (at-start .args .content .now) in let st = at-start .args .state in let m = at-start .args .out .now in let fits : 6 + length (at-start .args .content .now) ≤ length m = c .before .before .before .before .before .before .before .before .before .if2 .left in frame-done front st m (c .written .result) (frame-passed front st m (c .written .result) (sym (c .before .before .before .before .before .before .before .before .before .before .before .table-number .ensures) ∙ c .before .before .before .before .before .before .before .before .before .before .if1 .left) fits) (omega arith) (c .written .ensures) (c .before .before .before .before .before .before .before .copy .last .1 .0) (c .before .before .before .put-record-fields .last .1 .1 .0) (copied (at-start .args .content .now) _ _ (c .before .before .before .before .before .before .before .copy .ensures .1)) (c .before .before .before .put-record-fields .ensures)
 
 pub write-table-spec : {M : Type 1} → statement M
 write-table-spec =

@@ -1,0 +1,33 @@
+use Rattle.sheet_writer.specs.Fields.Laws.{put-row-done}
+use borrow.Author.Needs.{needs}
+use Rattle.sheet_writer.proofs.fields.put_row_fields.Statement.{statement}
+use Rattle.sheet_writer.proofs.fields.put_row_fields.Tie as tie
+use Rattle.sheet_writer.proofs.fields.put_row_fields.Reads as reads
+use Rattle.sheet_writer.proofs.fields.put_row_fields.Lts as lts
+use Rattle.bitstream.proofs.number.put_u16.Reads as put-u16-reads
+use Rattle.sheet_writer.proofs.fields.put_record_fields.Reads as put-record-fields-reads
+
+-- src/fields.rt:27:5
+put-record-fields-requires : tie.Need-put-record-fields-requires
+put-record-fields-requires c κs = search needs
+
+-- src/fields.rt:28:5
+put-u16-requires : tie.Need-put-u16-requires
+put-u16-requires c κs = search needs
+
+-- src/fields.rt:29:5
+put-u16-requires-2 : tie.Need-put-u16-requires-2
+put-u16-requires-2 c κs = search needs
+
+-- src/fields.rt:22:1
+same-length : tie.Need-same-length
+same-length c = search needs
+
+-- src/fields.rt:22:1
+returns : tie.Need-returns
+returns c = put-row-done (c .before .before .before .before .before .before .before .before .before .before .before .before .before .args .out .now) (c .before .before .before .before .before .before .before .before .before .before .put-record-fields .last .1 .1 .0) (c .before .before .before .before .before .before .put-u16 .last .0) (c .before .before .put-u162 .last .0) (c .before .before .before .before .before .before .before .before .before .before .before .before .before .args .kind) (c .before .before .before .before .before .before .before .before .before .before .before .before .before .args .row) (c .before .before .before .before .before .before .before .before .before .before .before .before .before .args .pixels) (c .before .before .before .before .before .before .before .before .before .before .before .before .before .args .bytes) (c .before .before .before .before .before .before .before .before .before .before .put-record-fields .ensures) (c .before .before .before .before .before .before .put-u16 .ensures) (c .before .before .put-u162 .ensures)
+
+pub put-row-fields-spec : {M : Type 1} → statement M
+put-row-fields-spec =
+    tie.close
+    (tie.spec put-record-fields-requires put-u16-requires put-u16-requires-2 same-length returns)

@@ -1,0 +1,32 @@
+use mathlib.Core.Path.{_∙_, ap}
+use mir.Facts.{toZ-ofZ}
+use Rattle.adaptive.specs.Number.{signed}
+use Rattle.adaptive.specs.Number.Read.{shortest-count}
+use Rattle.adaptive.specs.Calls.{signedWritten}
+use Rattle.sheet_writer.specs.Line.Laws.{wrote-number}
+use borrow.Author.Needs.{needs}
+use Rattle.sheet_writer.proofs.number.number_bytes.Statement.{statement}
+use Rattle.sheet_writer.proofs.number.number_bytes.Tie as tie
+use Rattle.sheet_writer.proofs.number.number_bytes.Reads as reads
+use Rattle.sheet_writer.proofs.number.number_bytes.Lts as lts
+use Rattle.adaptive.proofs.write_signed.Reads as write-signed-reads
+
+-- src/number.rt:37:39
+slice-aggregate-write-signed : tie.Need-slice-aggregate-write-signed
+slice-aggregate-write-signed c = search needs
+
+-- src/number.rt:37:9
+write-signed-requires : tie.Need-write-signed-requires
+write-signed-requires c κs = search needs
+
+-- src/number.rt:38:5
+cast-result : tie.Need-cast-result
+cast-result c = search needs
+
+-- src/number.rt:32:1
+returns : tie.Need-returns
+returns c = let v = c .before .before .before .before .args .value in wrote-number v _ _ (c .before .before .write-signed .result) (c .before .before .before .before .fits .value .sfits) (c .before .before .write-signed .ensures) (shortest-count signed v .1) .count
+
+pub number-bytes-spec : {M : Type 1} → statement M
+number-bytes-spec =
+    tie.close (tie.spec slice-aggregate-write-signed write-signed-requires cast-result returns)

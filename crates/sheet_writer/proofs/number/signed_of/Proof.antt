@@ -1,0 +1,35 @@
+use mir.Facts.{toZ-ofZ}
+use Rattle.sheet_writer.specs.Line.Laws.{low-signed, high-signed, high-wide, high-narrow}
+use borrow.Author.Needs.{needs}
+use Rattle.sheet_writer.proofs.number.signed_of.Statement.{statement}
+use Rattle.sheet_writer.proofs.number.signed_of.Tie as tie
+use Rattle.sheet_writer.proofs.number.signed_of.Reads as reads
+use Rattle.sheet_writer.proofs.number.signed_of.Lts as lts
+
+-- src/number.rt:25:9
+cast-result : tie.Need-cast-result
+cast-result c = search needs
+
+-- src/number.rt:27:10
+cast-result-2 : tie.Need-cast-result-2
+cast-result-2 c = search needs
+
+-- src/number.rt:27:10
+sub-result : tie.Need-sub-result
+sub-result c = rw (high-signed (c .before .args .word) (c .if1 .left) (c .before .fits .word .fits)) (high-wide (c .before .args .word) (c .if1 .left) (c .before .fits .word .fits))
+
+-- src/number.rt:27:9
+cast-result-3 : tie.Need-cast-result-3
+cast-result-3 c = rw (high-signed (c .before .args .word) (c .if1 .left) (c .before .fits .word .fits), toZ-ofZ (high-wide (c .before .args .word) (c .if1 .left) (c .before .fits .word .fits))) (high-narrow (c .before .args .word) (c .if1 .left) (c .before .fits .word .fits))
+
+-- src/number.rt:21:1
+returns : tie.Need-returns
+returns c = low-signed (c .before .args .word) (c .if1 .taken)
+
+-- src/number.rt:21:1
+returns-2 : tie.Need-returns-2
+returns-2 c = rw (high-signed (c .before .args .word) (c .if1 .left) (c .before .fits .word .fits), toZ-ofZ (high-wide (c .before .args .word) (c .if1 .left) (c .before .fits .word .fits)), toZ-ofZ (high-narrow (c .before .args .word) (c .if1 .left) (c .before .fits .word .fits)))
+
+pub signed-of-spec : {M : Type 1} → statement M
+signed-of-spec =
+    tie.close (tie.spec cast-result cast-result-2 sub-result cast-result-3 returns returns-2)

@@ -1,0 +1,66 @@
+use Prim.Native.Nat.{_-_, _/_}
+use native.Mathlib.Omega.{arith}
+use mathlib.Core.Path.{_∙_, sym}
+use lib.ListN.{length}
+use borrow.Author.Needs.{needs}
+use Rattle.bitstream.specs.Bits.{halvesOf}
+use Rattle.row_packer.specs.Pixels.{length-halves, getD-halves}
+use Rattle.sheet_writer.specs.Plain.{Looking, looking-none, looking-more, looked-above, looked-all}
+use Rattle.sheet_writer.proofs.pixels.any_above.Statement.{statement}
+use Rattle.sheet_writer.proofs.pixels.any_above.Tie as tie
+use Rattle.sheet_writer.proofs.pixels.any_above.Reads as reads
+use Rattle.sheet_writer.proofs.pixels.any_above.Lts as lts
+use Rattle.bitstream.proofs.number.read_u16.Reads as read-u16-reads
+
+abbrev Inv-loop : tie.InvT-loop
+Inv-loop pixels n i₀ i = Looking (halvesOf pixels) i
+
+abbrev μ-loop : tie.MeasureT-loop
+μ-loop pixels n i₀ i = length pixels / 2 - i
+
+-- src/pixels.rt:14:5
+loop-holds : tie.Need-loop-holds Inv-loop μ-loop
+loop-holds c = looking-none (halvesOf (c .before .args .pixels .now))
+
+-- src/pixels.rt:15:36
+mul-read-u16 : tie.Need-mul-read-u16 Inv-loop μ-loop
+mul-read-u16 c = search needs
+
+-- src/pixels.rt:15:19
+read-u16-requires : tie.Need-read-u16-requires Inv-loop μ-loop
+read-u16-requires c κs = search needs
+
+-- src/pixels.rt:16:13
+returns : tie.Need-returns Inv-loop μ-loop
+returns c = looked-above (halvesOf (c .before .before .before .before .before .args .pixels .now)) (c .before .before .before .loop .i) (c .before .before .before .loop .inv) (omega (arith, length-halves (c .before .before .before .before .before .args .pixels .now))) (c .before .read-u16 .result) (c .before .read-u16 .ensures ∙ sym (getD-halves (c .before .before .before .before .before .args .pixels .now) (c .before .before .before .loop .i) (c .before .before .loop-test .taken))) (c .if1 .taken)
+
+-- src/pixels.rt:18:9
+add-i : tie.Need-add-i Inv-loop μ-loop
+add-i c = search needs
+
+-- src/pixels.rt:14:5
+loop-less : tie.Need-loop-less Inv-loop μ-loop
+loop-less c = search needs
+
+-- src/pixels.rt:14:5
+loop-again : tie.Need-loop-again Inv-loop μ-loop
+loop-again c = looking-more (halvesOf (c .before .before .before .before .before .args .pixels .now)) (c .before .before .before .loop .i) (c .before .before .before .loop .inv) (omega (arith, length-halves (c .before .before .before .before .before .args .pixels .now))) (c .before .read-u16 .result) (c .before .read-u16 .ensures ∙ sym (getD-halves (c .before .before .before .before .before .args .pixels .now) (c .before .before .before .loop .i) (c .before .before .loop-test .taken))) (c .if1 .left)
+
+-- src/pixels.rt:9:1
+returns-2 : tie.Need-returns-2 Inv-loop μ-loop
+returns-2 c = looked-all (halvesOf (c .before .before .before .args .pixels .now)) (c .before .loop .i) (c .before .loop .inv) (omega (arith, length-halves (c .before .before .before .args .pixels .now)))
+
+pub any-above-spec : {M : Type 1} → statement M
+any-above-spec =
+    tie.close
+    (tie.spec
+    Inv-loop
+    μ-loop
+    loop-holds
+    mul-read-u16
+    read-u16-requires
+    returns
+    add-i
+    loop-less
+    loop-again
+    returns-2)

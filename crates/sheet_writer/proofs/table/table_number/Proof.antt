@@ -1,0 +1,22 @@
+use Rattle.sheet_writer.specs.Table.{table-second, table-checked}
+use borrow.Author.Needs.{needs}
+use Rattle.sheet_writer.proofs.table.table_number.Statement.{statement}
+use Rattle.sheet_writer.proofs.table.table_number.Tie as tie
+use Rattle.sheet_writer.proofs.table.table_number.Reads as reads
+use Rattle.sheet_writer.proofs.table.table_number.Lts as lts
+use Rattle.code_table.proofs.check.check.Reads as check-reads
+
+-- src/table.rt:42:9
+returns : tie.Need-returns
+returns c = table-second (c .before .before .before .args .content .now) (c .before .before .before .args .state) (c .if1 .taken)
+
+-- src/table.rt:44:9
+check-requires : tie.Need-check-requires
+check-requires c κs = search needs
+
+-- src/table.rt:38:1
+returns-2 : tie.Need-returns-2
+returns-2 c = table-checked (c .before .before .before .before .args .content .now) (c .before .before .before .before .args .state) (c .before .if1 .left) (c .check .result) (c .check .ensures)
+
+pub table-number-spec : {M : Type 1} → statement M
+table-number-spec = tie.close (tie.spec returns check-requires returns-2)

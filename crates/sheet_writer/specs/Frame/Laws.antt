@@ -1,0 +1,86 @@
+-- The ways out of a write, for every kind. Assumes nothing.
+use Prim.Native.Nat.{ℕ, zero, suc, _+_, _-_, _≤_, _<_}
+use native.Mathlib.Omega.{arith}
+use mathlib.Core.Path.{_≡_, refl, sym, ap, _∙_}
+use mathlib.Core.List.{List, [], _++_, append-assoc, append-nil}
+use lib.ListN.{length, take, drop, length-append, length-drop, drop-of-length-le}
+use lib.Seq.{take-all, take-length, drop-at, drop-drop, length-take-le}
+use lib.Dec.{ltb}
+use Rattle.answer.specs.Outcome.{_orElse_, refuseIf}
+use Rattle.sheet_format.specs.declared.SheetState.{SheetState}
+use Rattle.sheet_format.specs.declared.RecordWritten.{RecordWritten}
+use Rattle.sheet_format.specs.Record.{kindOf, kindNumber, placeNumber}
+use Rattle.sheet_format.specs.Record.Laws.{lessNumber-none, lessNumber-given}
+use Rattle.sheet_format.specs.Reading.{stateAfter}
+use Rattle.sheet_format.specs.Writing.{bodyFor, recordBytes, givenNumber, writeNumber, recordWritten}
+use Rattle.sheet_format.specs.Writing.Laws.{recordWritten-done, recordWritten-refused}
+use Rattle.sheet_writer.specs.Outcome.{outcome, judged}
+use Rattle.sheet_writer.specs.Outcome.Laws.{orElse-assoc, orElse-given}
+use Rattle.sheet_writer.specs.Frame.{Frame, partFrom, withPart}
+
+-- ---- the memory from a place on, lent and given back
+pub part-is : (a : ℕ) (m : List ℕ) → partFrom a m ≡ drop a m
+part-is a m = take-all (length m - a) (drop a m) (omega (arith, length-drop a m))
+
+pub part-back : (a : ℕ) (m y : List ℕ) → withPart a m y ≡ take a m ++ y
+part-back a m y =
+    let short : length (drop a m) ≤ length m - a = omega (arith, length-drop a m) in
+    let none : drop (length m - a) (drop a m) ≡ [] = drop-of-length-le (drop a m) short in
+    rw (none, append-nil y)
+
+-- what copying all of b leaves
+pub copied : (b m y : List ℕ) → y ≡ take (length b) b ++ drop (length b) m → y ≡ b ++ drop (length b) m
+copied b m y e = rw (take-length b) at e
+
+-- ---- any record
+module _ (code row : ℕ) (tb c : List ℕ) (st : SheetState) (m : List ℕ) where
+  pub refused-number : (a : RecordWritten) (e : ℕ) → e ≡ writeNumber code row tb c st (length m) → (e ≡ 0 → ⊥)
+      → a ≡ record { number = e; count = 0; state = st } → outcome a m ≡ recordWritten code row tb c st m
+  refused-number a zero is given e = absurd (given refl)
+  refused-number a (suc n) is given e =
+      ap (λ (x : RecordWritten). outcome x m) e ∙ sym (recordWritten-refused code row tb c st m n (sym is))
+
+-- ---- a record that stands so
+module _ {code row : ℕ} {tb c h b : List ℕ} {k : ℕ} (f : Frame code row tb c h b k) where
+  size : length (recordBytes code (bodyFor (kindOf code) row tb c)) ≡ k + length b
+  size = ap length (f .bytes) ∙ length-append h b ∙ ap (_+ length b) (f .fields)
+
+  module _ (st : SheetState) where
+    -- first what is judged, then room
+    pub frame-number : (room : ℕ)
+        → writeNumber code row tb c st room ≡ judged (kindOf code) row tb c st orElse refuseIf (ltb room (k + length b)) 5
+    unfolding writeNumber judged
+    frame-number room =
+        rw (f .known, size)
+        (sym (orElse-assoc (placeNumber (kindOf code) row st) (givenNumber (kindOf code) tb c) (refuseIf (ltb room (k + length b)) 5)))
+
+    module _ (m : List ℕ) (a : RecordWritten) where
+      pub frame-refused : (e : ℕ) → e ≡ judged (kindOf code) row tb c st → (e ≡ 0 → ⊥)
+          → a ≡ record { number = e; count = 0; state = st } → outcome a m ≡ recordWritten code row tb c st m
+      frame-refused e is given =
+          refused-number code row tb c st m a e
+          (orElse-given e _ given ∙ ap (_orElse refuseIf (ltb (length m) (k + length b)) 5) is ∙ sym (frame-number (length m))) given
+
+      module _ (passed : judged (kindOf code) row tb c st ≡ 0) where
+        pub frame-full : length m < k + length b → a ≡ record { number = 5; count = 0; state = st }
+            → outcome a m ≡ recordWritten code row tb c st m
+        frame-full less =
+            refused-number code row tb c st m a 5
+            (sym (frame-number (length m) ∙ rw passed (lessNumber-given (length m) (k + length b) 5 less))) (λ e. omega arith)
+
+        pub frame-passed : k + length b ≤ length m → writeNumber code row tb c st (length m) ≡ 0
+        frame-passed fits = frame-number (length m) ∙ rw passed (lessNumber-none (length m) (k + length b) 5 fits)
+
+      -- the content y is put into the memory from k on, then the fields in front
+      pub frame-done : writeNumber code row tb c st (length m) ≡ 0 → k ≤ length m
+          → a ≡ record { number = 0; count = k + length b; state = stateAfter (kindOf code) row st }
+          → (y o : List ℕ) → y ≡ b ++ drop (length b) (partFrom k m) → o ≡ h ++ drop k (withPart k m y)
+          → outcome a o ≡ recordWritten code row tb c st m
+      frame-done done fits is y o content fields =
+          let behind : drop k (withPart k m y) ≡ y =
+          ap (drop k) (part-back k m y) ∙ drop-at (take k m) y k (length-take-le k m fits) in
+          let rest : drop (length b) (partFrom k m) ≡ drop (k + length b) m =
+          ap (drop (length b)) (part-is k m) ∙ drop-drop (length b) k m in
+          let whole : o ≡ h ++ b ++ drop (k + length b) m =
+          fields ∙ rw (behind, content, rest) (sym (append-assoc h b (drop (k + length b) m))) in
+          rw (is, whole) (sym (recordWritten-done code row tb c st m done ∙ rw (size, f .bytes)))

@@ -1,0 +1,9 @@
+pub mod Outcome
+pub mod Fields
+pub mod Frame
+pub mod Table
+pub mod Row
+pub mod Packed
+pub mod Plain
+pub mod Line
+pub mod Record

@@ -1,0 +1,96 @@
+-- Writing a row as it is: its pixels looked through, and its ways out. Assumes nothing.
+use Prim.Native.Nat.{ℕ, _+_, _*_, _/_, _≤_, _<_}
+use native.Mathlib.Omega.{arith}
+use mathlib.Core.Path.{_≡_, refl, sym, ap, _∙_}
+use mathlib.Core.Bool.{true, false}
+use mathlib.Core.List.{List, []}
+use lib.ListN.{length, take, drop, getD}
+use lib.Seq.{length-take-le}
+use lib.Dec.{ltb}
+use borrow.Author.Tests.{lt-ltb, le-ltb}
+use Rattle.bitstream.specs.Bits.{halvesOf}
+use Rattle.answer.specs.Outcome.{_orElse_}
+use Rattle.row_format.specs.Lists.{any}
+use Rattle.row_format.specs.Calls.{tooMany}
+use Rattle.row_format.specs.Calls.Laws.{orElse-zero-left, orElse-zero-right}
+use Rattle.row_packer.specs.Pixels.{length-halves}
+use Rattle.row_packer.specs.Remaining.Laws.{drop-more, drop-end}
+use Rattle.sheet_format.specs.declared.SheetState.{SheetState}
+use Rattle.sheet_format.specs.Record.{packedRecord, plainRecord, kindNumber, placeNumber}
+use Rattle.sheet_format.specs.Record.Laws.{lessNumber-zero}
+use Rattle.sheet_format.specs.Writing.{bodyFor, givenNumber, tooHigh}
+use Rattle.sheet_writer.specs.Outcome.{judged}
+use Rattle.sheet_writer.specs.Outcome.Laws.{judged-placed}
+use Rattle.sheet_writer.specs.Fields.{rowFields}
+use Rattle.sheet_writer.specs.Fields.Laws.{length-rowFields, row-fields}
+use Rattle.sheet_writer.specs.Frame.{Frame}
+
+-- ---- after i pixels, none of them above 4095
+pub record Looking (ps : List ℕ) (i : ℕ) : Type 0 where
+  pub within : i ≤ length ps
+  pub above : any (ltb 4095) ps ≡ any (ltb 4095) (drop i ps)
+
+module _ (ps : List ℕ) where
+  pub looking-none : Looking ps 0
+  looking-none = record { within = omega arith; above = refl }
+
+  module _ (i : ℕ) (l : Looking ps i) where
+    module _ (h : i < length ps) (pixel : ℕ) (e : pixel ≡ getD ps i 0) where
+      pub looking-more : pixel ≤ 4095 → Looking ps (i + 1)
+      unfolding any
+      looking-more low =
+          record { within = omega arith; above = l .above ∙ rw (drop-more ps i pixel h e, le-ltb 4095 pixel low) }
+
+      pub looked-above : 4095 < pixel → true ≡ any (ltb 4095) ps
+      unfolding any
+      looked-above high = rw (l .above, drop-more ps i pixel h e, lt-ltb 4095 pixel high)
+
+    pub looked-all : length ps ≤ i → false ≡ any (ltb 4095) ps
+    unfolding any
+    looked-all g = rw (l .above, drop-end ps i (l .within) g)
+
+-- ---- how the record stands
+abbrev pub wholePixels : List ℕ → List ℕ
+wholePixels c = take (2 * (length c / 2)) c
+
+pub length-wholePixels : (c : List ℕ) → length (wholePixels c) ≡ 2 * (length c / 2)
+length-wholePixels c = length-take-le (2 * (length c / 2)) c (omega arith)
+
+pub plain-frame : (row : ℕ) (c : List ℕ)
+    → Frame 3 row [] c (rowFields 3 row (length c / 2) (10 + 2 * (length c / 2))) (wholePixels c) 10
+unfolding kindNumber bodyFor
+plain-frame row c =
+    record {
+      known = refl;
+      bytes = rw (length-halves c)
+          (row-fields 3 row (length c / 2) (wholePixels c)
+          ∙ rw (length-wholePixels c));
+      fields = length-rowFields 3 row (length c / 2) (10 + 2 * (length c / 2));
+    }
+
+-- ---- its number
+module _ (row : ℕ) (c : List ℕ) (st : SheetState) where
+  pub plain-placed : (e : ℕ) → e ≡ placeNumber packedRecord row st → (e ≡ 0 → ⊥) → e ≡ judged plainRecord row [] c st
+  unfolding placeNumber
+  plain-placed e is given = judged-placed plainRecord row [] c st e is given
+
+  module _ (placed : placeNumber packedRecord row st ≡ 0) where
+    pub plain-many : 4096 < length c / 2 → 11 ≡ judged plainRecord row [] c st
+    unfolding judged placeNumber givenNumber
+    plain-many h = rw (placed, length-halves c, lt-ltb 4096 (length c / 2) h)
+
+    module _ (few : length c / 2 ≤ 4096) where
+      pub plain-high : any (ltb 4095) (halvesOf c) ≡ true → 4 ≡ judged plainRecord row [] c st
+      unfolding judged placeNumber givenNumber
+      plain-high e = rw (placed, length-halves c, le-ltb 4096 (length c / 2) few, e)
+
+      pub plain-right : any (ltb 4095) (halvesOf c) ≡ false → 0 ≡ judged plainRecord row [] c st
+      unfolding judged placeNumber givenNumber
+      plain-right e = rw (placed, length-halves c, le-ltb 4096 (length c / 2) few, e)
+
+  pub plain-few : judged plainRecord row [] c st ≡ 0 → length c / 2 ≤ 4096
+  unfolding judged givenNumber
+  plain-few e =
+      let given = orElse-zero-right (placeNumber plainRecord row st) (tooMany (length (halvesOf c)) orElse tooHigh c) e in
+      let many = orElse-zero-left (tooMany (length (halvesOf c))) (tooHigh c) given in
+      omega (arith, length-halves c, lessNumber-zero 4096 (length (halvesOf c)) 10 many)

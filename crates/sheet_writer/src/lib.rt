@@ -1,0 +1,13 @@
+// Writing the records of a sheet. What the call answers is defined in sheet_format's specs/Writing.antt.
+mod done;
+mod fields;
+mod line;
+mod number;
+mod packed;
+mod pixels;
+mod place;
+mod plain;
+mod record;
+mod table;
+
+pub use record::write_record;

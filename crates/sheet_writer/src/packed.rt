@@ -1,0 +1,43 @@
+// Kind 2: a row, packed under the sheet's table.
+use crate::done::refused;
+use crate::done::written;
+use crate::fields::put_row_fields;
+use crate::place::after_row;
+use crate::place::row_place;
+use row_packer::pack::pack;
+use sheet_format::RecordWritten;
+use sheet_format::SheetState;
+ghost use mathlib.Core.Path.{_≡_};
+ghost use Prim.Native.Nat.{min};
+ghost use Rattle.sheet_format.specs.Writing.{recordWritten};
+ghost use Rattle.sheet_writer.specs.Outcome.{outcome};
+
+const FIELDS: usize = 10;
+
+pub fn write_packed(row: u16, content: &[u8], table: &[u8], state: SheetState, out: &mut [u8]) -> RecordWritten
+    ensures { λ r. ⌜ outcome r (now (out .exit)) ≡ recordWritten 2 row (now (table .entry)) (now (content .entry)) state (now (out .entry)) ⌝ }
+{
+    let place = row_place(row, state);
+    if place != 0 {
+        return refused(place, state);
+    }
+    // The words go straight to their place behind the fields; where not even these have room, to the empty rest of the
+    // memory, so that packing gives the numbers that come before 5 and writes nothing.
+    let start = lesser(FIELDS, out.len());
+    let packed = pack(table, content, &mut out[start..]);
+    if packed.number != 0 {
+        return refused(packed.number, state);
+    }
+    if start < FIELDS {
+        return refused(5, state);
+    }
+    let bytes = 10 + 4 * ((packed.count + 31) / 32);
+    put_row_fields(2, row, (content.len() / 2) as u32, bytes, out);
+    written(bytes, after_row(row, state))
+}
+
+fn lesser(a: usize, b: usize) -> usize
+    ensures { λ r. ⌜ r ≡ min a b ⌝ }
+{
+    if a < b { a } else { b }
+}

@@ -1,0 +1,21 @@
+// The pixels of a row that is written as it is, two little-endian bytes each.
+use bitstream::number::read_u16;
+ghost use mathlib.Core.Path.{_≡_};
+ghost use lib.Dec.{ltb};
+ghost use Rattle.bitstream.specs.Bits.{halvesOf};
+ghost use Rattle.row_format.specs.Lists.{any};
+
+// Whether a pixel is above 4095.
+pub fn any_above(pixels: &[u8]) -> bool
+    ensures { λ r. ⌜ r ≡ any (ltb 4095) (halvesOf (now (pixels .entry))) ⌝ }
+{
+    let n = pixels.len() / 2;
+    let mut i = 0;
+    while i < n {
+        if 4095 < read_u16(pixels, 2 * i) {
+            return true;
+        }
+        i += 1;
+    }
+    false
+}

@@ -1,0 +1,46 @@
+// Kind 1: the sheet's table.
+use bytes::copy;
+use code_table::check::check;
+use crate::done::refused;
+use crate::done::written;
+use crate::fields::put_record_fields;
+use sheet_format::RecordWritten;
+use sheet_format::SheetState;
+ghost use mathlib.Core.Path.{_≡_};
+ghost use mathlib.Core.List.{[]};
+ghost use Rattle.sheet_format.specs.Record.{tableRecord};
+ghost use Rattle.sheet_format.specs.Writing.{recordWritten};
+ghost use Rattle.sheet_writer.specs.Outcome.{outcome, judged};
+
+const FIELDS: usize = 6;
+
+pub fn write_table(content: &[u8], state: SheetState, out: &mut [u8]) -> RecordWritten
+    ensures { λ r. ⌜ outcome r (now (out .exit)) ≡ recordWritten 1 0 [] (now (content .entry)) state (now (out .entry)) ⌝ }
+{
+    let number = table_number(content, state);
+    if number != 0 {
+        return refused(number, state);
+    }
+    let bytes = FIELDS + content.len();
+    if out.len() < bytes {
+        return refused(5, state);
+    }
+    copy(content, &mut out[FIELDS..]);
+    put_record_fields(1, bytes as u32, out);
+    let next = SheetState {
+        tables: 1,
+        least: state.least,
+    };
+    written(bytes as u32, next)
+}
+
+// The refusals before the one for room: 16, and 1 to 3.
+fn table_number(content: &[u8], state: SheetState) -> u32
+    ensures { λ r. ⌜ r ≡ judged tableRecord 0 [] (now (content .entry)) state ⌝ }
+{
+    if state.tables != 0 {
+        return 16;
+    }
+    let checked = check(content);
+    checked.number
+}

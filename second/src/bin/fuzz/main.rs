@@ -4,8 +4,11 @@
 //!
 //! Every input ends where its allocation ends, and so does half of the memory
 //! that is lent, so that valgrind, or an allocator that checks, sees an access
-//! past them; the other half is lent between guards. The same seed makes the
-//! same calls in the same order.
+//! past them; the other half is lent between guards.
+//!
+//! The same seed makes the same calls in the same order. Each scene, a table
+//! and a sheet, has a seed of its own, which is told now and then and in every
+//! report: begun with it, the program comes to the case at once.
 
 mod records;
 mod rows;
@@ -21,16 +24,19 @@ use second::compared::Outcome;
 use second::random::Random;
 use second::tally::Tally;
 
+/// How often the seed is told, for the case that the library ends the program.
+const TELLING: Duration = Duration::from_secs(30);
+
 fn main() -> ExitCode {
     let [seconds, seed] = numbers_given("[seconds] [seed]", 0, [600, 4]);
     println!("fuzz: {seconds} seconds, seed {seed}");
     let start = Instant::now();
     let mut tally = Tally::default();
     let end = start + Duration::from_secs(seconds);
-    let result = fuzz(&mut Random::new(seed), end, &mut tally);
+    let result = fuzz(first_seed(seed), end, &mut tally);
     print!("{}", tally.text());
     if let Err(what) = result {
-        return report("fuzz", &format!("{what}seed {seed}, call {}\n", tally.calls()));
+        return report("fuzz", &what);
     }
     for missed in tally.missed() {
         println!("never reached: {missed}");
@@ -39,16 +45,33 @@ fn main() -> ExitCode {
     ExitCode::SUCCESS
 }
 
-fn fuzz(random: &mut Random, end: Instant, tally: &mut Tally) -> Outcome<()> {
-    loop {
-        let scene = Scene::any(random);
+/// A small seed begins scenes that no other small one comes to; a large one
+/// is a scene's own.
+fn first_seed(seed: u64) -> u64 {
+    if seed >> 32 == 0 {
+        (seed + 1) << 32
+    } else {
+        seed
+    }
+}
+
+fn fuzz(first: u64, end: Instant, tally: &mut Tally) -> Outcome<()> {
+    let mut told = Instant::now();
+    for seed in first.. {
+        let mut random = Random::new(seed);
+        let scene = Scene::any(&mut random);
         for _ in 0..scene.calls {
-            one_call(random, &scene, tally)?;
+            one_call(&mut random, &scene, tally).map_err(|what| format!("{what}seed {seed}\n"))?;
             if Instant::now() >= end {
                 return Ok(());
             }
         }
+        if told.elapsed() > TELLING {
+            println!("at seed {seed}, {} calls", tally.calls());
+            told = Instant::now();
+        }
     }
+    Ok(())
 }
 
 fn one_call(random: &mut Random, scene: &Scene, tally: &mut Tally) -> Outcome<()> {
@@ -62,5 +85,19 @@ fn one_call(random: &mut Random, scene: &Scene, tally: &mut Tally) -> Outcome<()
         8 => values::write(random, tally),
         9..=12 => records::read(random, scene, tally),
         _ => records::write(random, scene, tally),
+    }
+}
+
+#[cfg(test)]
+mod tests {
+    use super::*;
+
+    #[test]
+    fn seeds_of_scenes_are_taken_as_they_are() {
+        assert_ne!(first_seed(0), first_seed(1));
+        for seed in [0, 1, 4] {
+            let scene = first_seed(seed) + 1000;
+            assert_eq!(first_seed(scene), scene);
+        }
     }
 }

@@ -97,3 +97,21 @@ pub fn lent(random: &mut Random, needed: usize) -> Lent {
         false => Lent::new(random, length),
     }
 }
+
+#[cfg(test)]
+mod tests {
+    use super::*;
+    use second::sheet::judge_record;
+
+    /// As they stand, a scene's records are accepted in their states.
+    #[test]
+    fn scenes_are_sound() {
+        for seed in 0..50 {
+            let scene = Scene::any(&mut Random::new(seed));
+            for (record, &state) in scene.records.iter().zip(&scene.states) {
+                let answer = judge_record(state, scene.table.codec(), record);
+                assert_eq!((answer.number, answer.used), (0, record.len()));
+            }
+        }
+    }
+}

@@ -1,0 +1,57 @@
+// The reader: a struct that holds the table, the lent words and its place. Each function over it takes it apart and calls a
+// covered function on the slices and the place.
+use crate::step::ItemRead;
+use crate::step::Place;
+use crate::step::item_at;
+use crate::step::start;
+ghost use mathlib.Core.Path.{_≡_};
+ghost use Rattle.row_reader.specs.Step.{startPlace, itemRead};
+
+pub struct Reader<'a, 'b> {
+    pub table: &'a [u8],
+    pub words: &'b [u8],
+    pub place: Place,
+}
+
+// A reader of these words under this table, at bit 0 of word 0.
+pub fn open<'a, 'b>(table: &'a [u8], words: &'b [u8]) -> Reader<'a, 'b>
+    ensures { λ r. ⌜ r ≡ record { table = table .entry; words = words .entry; place = startPlace (now (table .entry)) } ⌝ }
+{
+    let place = start(table);
+    Reader {
+        table,
+        words,
+        place,
+    }
+}
+
+// The number that opening answered: "Opening it refuses 1, 2, 3".
+pub fn opening<'a, 'b>(r: Reader<'a, 'b>) -> u32
+    ensures { λ n. ⌜ n ≡ r .entry .place .opening ⌝ }
+{
+    r.place.opening
+}
+
+// The next item, with its pixel; the reader stays where it is.
+pub fn item<'a, 'b>(r: Reader<'a, 'b>) -> ItemRead
+    ensures { λ x. ⌜ x ≡ itemRead (now (r .entry .table)) (now (r .entry .words)) (r .entry .place) ⌝ }
+{
+    item_at(r.table, r.words, r.place)
+}
+
+// The next item, with its pixel; the reader moves past it, and where it is refused stays.
+pub fn next<'s, 'a, 'b>(r: &'s mut Reader<'a, 'b>) -> ItemRead
+    ensures given { λ x. ⌜ x ≡ itemRead (now (now (r .entry) .table)) (now (now (r .entry) .words)) (now (r .entry) .place) ⌝ }
+    ensures moved { λ x. ⌜ now (r .exit) ≡ record { table = now (r .entry) .table; words = now (r .entry) .words; place = x .place } ⌝ }
+{
+    let x = item_at(r.table, r.words, r.place);
+    r.place = x.place;
+    x
+}
+
+// The first item of these words under this table. Its parameters are plain, so that its callers need no walk.
+pub fn first<'a, 'b>(table: &'a [u8], words: &'b [u8]) -> ItemRead
+    ensures { λ x. ⌜ x ≡ itemRead (now (table .entry)) (now (words .entry)) (startPlace (now (table .entry))) ⌝ }
+{
+    item(open(table, words))
+}

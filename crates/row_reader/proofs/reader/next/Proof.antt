@@ -42,7 +42,7 @@ use denote.Triple.Entry.{Vals, onEntry}
 use denote.Triple.Spec.{Meets, tripleOf}
 use denote.Triple.Table.{entered, cited}
 use denote.Triple.Walked.{says, Stays, stay-ref, onExit, walkOf, goes-ref, Walks, ends-at, walked, walk-meets}
-use denote.Triple.Clauses.{ensured, lasts}
+use denote.Triple.Clauses.{atExit, ensured, lasts}
 use Rattle.row_reader.specs.Step.{itemRead}
 use Rattle.row_reader.specs.declared.reader.Reader.{Reader}
 use Rattle.row_reader.specs.declared.step.Place.{Place}
@@ -150,12 +150,19 @@ module _ {M : Type 1} (𝓤 : URA M) (H : Heap 𝓤) (A : Atoms 𝓤) (W : Given
   again : (pl : Place) → Is P.the-row pl (P′.lowered pl ∷ []) → ent 𝓤 (sem 𝓤 H A Own) (sem 𝓤 H A (R .own (moved pl) (T′.lowered (moved pl) ∷ [])))
   again pl is = qed W (‵ Own ∷ []) ∵ owned ! P.the-row (Is P.the-row) (LL.makes P.the-type P′.the-plain 𝓤 H A) pl (P′.lowered pl ∷ []) is $ move ! (1 ∷ 0 ∷ []) $ by ! (own-put 𝓤 H A W D L 2 vh pl mach)
 
+  -- the two clauses, of the answer r
+  abbrev given-at : ItemRead → SProp 𝓤
+  given-at r = next.ensures-given 𝓤 H κs A at-mem run (a .0) record { entry = a .0; exit = atExit next.ended κs a (moved (r .place), tt) .0 } r
+
+  abbrev moved-at : ItemRead → SProp 𝓤
+  moved-at r = next.ensures-moved 𝓤 H κs A at-mem run (a .0) record { entry = a .0; exit = atExit next.ended κs a (moved (r .place), tt) .0 } r
+
   exits : (r : ItemRead) → r ≡ found
       → ent 𝓤 (⋆ 𝓤 H A (‵ (fobs γ (R .coded .code (moved (r .place)))) ∷ ‵ (fbor κ (Body (mem R) b o γ)) ∷ ‵ (flft κ q) ∷ ‵ (I.the-row .own r (I′.lowered r ∷ [])) ∷ (‵ (flft κ′ q′) ⊛ ‵ (flft κ″ q″) ⊛ ‵ ftrue) ∷ [])) (Post (I′.lowered r))
   exits r e =
       qed W (‵ (fobs γ (R .coded .code (moved (r .place)))) ∷ ‵ (fbor κ (Body (mem R) b o γ)) ∷ ‵ (flft κ q) ∷ ‵ (I.the-row .own r (I′.lowered r ∷ [])) ∷ (‵ (flft κ′ q′) ⊛ ‵ (flft κ″ q″) ⊛ ‵ ftrue) ∷ []) ∵
       suffices ! _ (ends-at 𝓤 H A next.ended stayed (next.clauses 𝓤 H A at-mem run) W ((κs, (q, (q′, (q″, tt))), bounds, a, vals), tt) (I′.lowered r) r (moved (r .place), tt) (tt, tt)) $
-      suffices ! _ (assoc∗ 𝓤 (onExit 𝓤 H A next.ended stayed κs (q, (q′, (q″, tt))) vals (I′.lowered r) r a (moved (r .place), tt)) (fact 𝓤 (r ≡ found)) (fact 𝓤 (moved (r .place) ≡ moved (r .place)))) $ says ! refl $ says ! e $
+      suffices ! _ (assoc∗ 𝓤 (onExit 𝓤 H A next.ended stayed κs (q, (q′, (q″, tt))) vals (I′.lowered r) r a (moved (r .place), tt)) (given-at r) (moved-at r)) $ says ! refl $ says ! e $
       move ! (2 ∷ 4 ∷ []) $ join ! $ frame ! $ feqI ! (List Val) (vptr b o ∷ []) (vptr b o ∷ []) refl $ fjoin3 ! $ nothing ! $ move ! (1 ∷ 0 ∷ []) $ fjoin ! $ done !
 
   module _ (C : Calls 𝓤 H) (Λ : Loops 𝓤 H) (fm : FmC 𝓤 H (W .laws) C) (known : Triple 𝓤 (C #item-at) (ItemAt 𝓤 H A at-mem run)) where

@@ -16,6 +16,7 @@ use Rattle.row_format.specs.Table.{tableNumber, maxItemBits}
 use Rattle.row_format.specs.Table.Laws.{Accepted, accepted, tableNumber-verdict, maxItemBits-most}
 use Rattle.row_format.specs.Row.{rowBits}
 use Rattle.row_format.specs.Calls.{checked, packNumber, packedRow, packed, room}
+use Rattle.row_format.specs.Calls.Laws.{checked-number}
 use Rattle.row_format.specs.Theorems.Bounds.{length-rowBits}
 use Rattle.code_table.specs.Check.Laws.{length-words}
 use Rattle.row_packer.specs.Pixels.{inside-halves, past-halves}
@@ -23,20 +24,15 @@ use Rattle.row_packer.specs.Measure.{Took}
 use Rattle.row_packer.specs.Write.{rowWritten}
 
 -- ---- the table
-countUnless-number : (e c : ℕ) → countUnless e c .number ≡ e
-countUnless-number zero c = refl
-countUnless-number (suc e) c = refl
-
 countUnless-done : (e c : ℕ) → e ≡ 0 → countUnless e c .count ≡ c
 countUnless-done e c z = rw z
 
 module _ (tb : List ℕ) {a : Answer} (is : a ≡ checked tb) where
-  checked-number : a .number ≡ tableNumber tb
-  unfolding checked
-  checked-number = ap (λ (x : Answer). x .number) is ∙ countUnless-number (tableNumber tb) (maxItemBits (wordsOf tb))
+  number-checked : a .number ≡ tableNumber tb
+  number-checked = ap (λ (x : Answer). x .number) is ∙ checked-number tb
 
   pub checked-zero : a .number ≡ 0 → tableNumber tb ≡ 0
-  checked-zero e = sym checked-number ∙ e
+  checked-zero e = sym number-checked ∙ e
 
   pub checked-count : a .number ≡ 0 → a .count ≡ maxItemBits (wordsOf tb)
   unfolding checked
@@ -63,7 +59,7 @@ pub packed-table : (tb pb m : List ℕ) {a : Answer} → a ≡ checked tb → (a
 unfolding checked packed packNumber
 packed-table tb pb m is n =
     ap (λ (x : Answer). outcome x m) is
-    ∙ refused-first (tableNumber tb) (maxItemBits (wordsOf tb)) _ m (packedRow (wordsOf tb) (halvesOf pb) m) (λ e. n (checked-number tb is ∙ e))
+    ∙ refused-first (tableNumber tb) (maxItemBits (wordsOf tb)) _ m (packedRow (wordsOf tb) (halvesOf pb) m) (λ e. n (number-checked tb is ∙ e))
 
 module _ (tb pb m : List ℕ) (table : tableNumber tb ≡ 0) where
   -- 11
@@ -109,7 +105,7 @@ refused-count (suc e) c d k n = refl
 
 pub room-table : (tb : List ℕ) (n : ℕ) {a : Answer} → a ≡ checked tb → (a .number ≡ 0 → ⊥) → a ≡ room tb n
 unfolding checked room
-room-table tb n is h = is ∙ refused-count (tableNumber tb) (maxItemBits (wordsOf tb)) _ _ (λ e. h (checked-number tb is ∙ e))
+room-table tb n is h = is ∙ refused-count (tableNumber tb) (maxItemBits (wordsOf tb)) _ _ (λ e. h (number-checked tb is ∙ e))
 
 module _ (tb : List ℕ) (n : ℕ) (table : tableNumber tb ≡ 0) where
   pub room-many : 4096 < n → answerOf 11 0 ≡ room tb n

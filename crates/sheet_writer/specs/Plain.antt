@@ -39,11 +39,11 @@ module _ (ps : List ℕ) where
       pub looking-more : pixel ≤ 4095 → Looking ps (i + 1)
       unfolding any
       looking-more low =
-          record { within = omega arith; above = l .above ∙ rw (drop-more ps i pixel h e, le-ltb 4095 pixel low) }
+          record { within = omega arith; above = l .above ∙ rw (drop-more ps i h e, le-ltb 4095 pixel low) }
 
       pub looked-above : 4095 < pixel → true ≡ any (ltb 4095) ps
       unfolding any
-      looked-above high = rw (l .above, drop-more ps i pixel h e, lt-ltb 4095 pixel high)
+      looked-above high = rw (l .above, drop-more ps i h e, lt-ltb 4095 pixel high)
 
     pub looked-all : length ps ≤ i → false ≡ any (ltb 4095) ps
     unfolding any

@@ -6,6 +6,9 @@ use adaptive::UnsignedRead;
 use answer::Answer;
 use item::ItemAnswer;
 use item::ReaderPlace;
+use sheet_format::RecordRead;
+use sheet_format::RecordWritten;
+use sheet_format::SheetState;
 ghost use mathlib.Core.Path.{_≡_};
 ghost use Rattle.answer.specs.Outcome.{outcome};
 ghost use Rattle.row_format.specs.Calls.{checked, packed, unpacked, room};
@@ -13,6 +16,10 @@ ghost use Rattle.code_table.specs.Plain.{plainLent};
 ghost use Rattle.row_reader.specs.Step.{startPlace, itemRead};
 ghost use Rattle.tahliruz.specs.Items.{placeOf, flatPlace, itemAnswer};
 ghost use Rattle.adaptive.specs.Calls.{signedRead, unsignedRead, signedWritten, unsignedWritten};
+ghost use Rattle.sheet_format.specs.Reading.{recordJudged, recordRead};
+ghost use Rattle.sheet_format.specs.Writing.{recordWritten};
+ghost use Rattle.sheet_reader.specs.Leaves.{readOutcome};
+ghost use Rattle.sheet_writer.specs.Outcome.{outcome as recordOutcome};
 
 #[no_mangle]
 pub extern "C" fn tahliruz_check(table: &[u8]) -> Answer
@@ -107,4 +114,32 @@ pub extern "C" fn tahliruz_write_unsigned(value: u32, out: &mut [u8]) -> Answer
     ensures { λ r. ⌜ outcome r (now (out .exit)) ≡ unsignedWritten value (now (out .entry)) ⌝ }
 {
     adaptive::write_unsigned(value, out)
+}
+
+#[no_mangle]
+pub extern "C" fn tahliruz_judge_record(table: &[u8], sheet: &[u8], state: SheetState) -> RecordRead
+    ensures { λ r. ⌜ r ≡ recordJudged (now (table .entry)) (now (sheet .entry)) state ⌝ }
+{
+    sheet_reader::judge_record(table, sheet, state)
+}
+
+#[no_mangle]
+pub extern "C" fn tahliruz_read_record(table: &[u8], sheet: &[u8], state: SheetState, content: &mut [u8]) -> RecordRead
+    ensures { λ r. ⌜ readOutcome r (now (content .exit)) ≡ recordRead (now (table .entry)) (now (sheet .entry)) state (now (content .entry)) ⌝ }
+{
+    sheet_reader::read_record(table, sheet, state, content)
+}
+
+#[no_mangle]
+pub extern "C" fn tahliruz_write_record(
+    kind: u32,
+    row: u16,
+    content: &[u8],
+    table: &[u8],
+    state: SheetState,
+    out: &mut [u8],
+) -> RecordWritten
+    ensures { λ r. ⌜ recordOutcome r (now (out .exit)) ≡ recordWritten kind row (now (table .entry)) (now (content .entry)) state (now (out .entry)) ⌝ }
+{
+    sheet_writer::record::write_record(kind, row, content, table, state, out)
 }

@@ -11,11 +11,12 @@ use borrow.Author.Tests.{ltb-false, le-ltb}
 use Rattle.bitstream.specs.Bits.{wordsOf, halvesOf, bytesOf, wordsFor}
 use Rattle.bitstream.specs.Bits.Laws.{length-cut}
 use Rattle.answer.specs.Outcome.{Outcome, _orElse_, refuseIf, refused, wrote, unless}
+use Rattle.answer.specs.Outcome.Laws.{countUnless-number}
 use Rattle.row_format.specs.Lists.{any}
 use Rattle.row_format.specs.Lists.Laws.{cond-zero-test}
-use Rattle.row_format.specs.Table.{tableNumber}
+use Rattle.row_format.specs.Table.{tableNumber, maxItemBits}
 use Rattle.row_format.specs.Row.{rowBits}
-use Rattle.row_format.specs.Calls.{tooMany, packNumber, packedRow, packed, unpackNumber}
+use Rattle.row_format.specs.Calls.{checked, tooMany, packNumber, packedRow, packed, unpackNumber}
 
 -- ---- refusals in order: none is given exactly where none of the parts is
 pub orElse-zero-left : (a b : ℕ) → a orElse b ≡ 0 → a ≡ 0
@@ -32,6 +33,11 @@ unless-number (suc e) m o h = refl
 
 tooMany-zero : (n : ℕ) → tooMany n ≡ 0 → n ≤ 4096
 tooMany-zero n e = ltb-false 4096 n (cond-zero-test (ltb 4096 n) 10 0 e)
+
+-- ---- checking
+pub checked-number : (tb : List ℕ) → checked tb .number ≡ tableNumber tb
+unfolding checked
+checked-number tb = countUnless-number (tableNumber tb) (maxItemBits (wordsOf tb))
 
 -- ---- packing
 -- what the refusals before the one for room ask of a table and a row

@@ -8,7 +8,6 @@ use lib.ListN.{drop}
 use lib.Dec.{ltb}
 use borrow.Author.Tests.{lt-ltb, le-ltb, eq-eqb, ne-eqb}
 use Rattle.bitstream.specs.Bits.{wordsOf, stream}
-use Rattle.answer.specs.Outcome.Laws.{countUnless-number}
 use Rattle.row_format.specs.Table.{tableNumber, maxItemBits}
 use Rattle.row_format.specs.Calls.{checked}
 use Rattle.row_format.specs.Row as row
@@ -22,11 +21,6 @@ use Rattle.row_unpacker.specs.Item.{stateOf, answered, itemAt}
 use Rattle.row_reader.specs.declared.step.Place.{Place}
 use Rattle.row_reader.specs.declared.step.ItemRead.{ItemRead}
 use Rattle.row_reader.specs.Step.{refusedAt, given, itemRead}
-
--- ---- the number of an opening
-pub checked-number : (tb : List ℕ) → checked tb .number ≡ tableNumber tb
-unfolding checked
-checked-number tb = countUnless-number (tableNumber tb) (maxItemBits (wordsOf tb))
 
 -- ---- a settled progress
 pub settled-begun : (p : Progress) → p .begun ≡ true → p ≡ progress (stateOf p)

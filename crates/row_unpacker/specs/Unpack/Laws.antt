@@ -19,7 +19,7 @@ use Rattle.row_format.specs.Table.{tableNumber, maxItemBits}
 use Rattle.row_format.specs.Row.{fresh, pixelsOf}
 use Rattle.row_format.specs.Reading.{Run, done, stop, readItems, stray}
 use Rattle.row_format.specs.Calls.{checked, afterRun, usedByRun, unpackNumber, unpacked}
-use Rattle.row_format.specs.Calls.Laws.{unpackNumber-unpackable}
+use Rattle.row_format.specs.Calls.Laws.{checked-number, unpackNumber-unpackable}
 use Rattle.row_format.specs.Theorems.Bounds.{readItems-uses}
 use Rattle.row_unpacker.specs.View.{Seen}
 use Rattle.row_unpacker.specs.View.Laws.{low-window}
@@ -103,28 +103,23 @@ module _ (r : List ℕ) (n : ℕ) (m out : List ℕ) (x : RowRead) where
   row-refused number place e (stop k at u) h = let same : k ≡ number = cc in rw same
 
 -- ---- the whole call
-number-unless : (e c : ℕ) → countUnless e c .number ≡ e
-number-unless zero c = refl
-number-unless (suc e) c = refl
-
-pub checked-number : (tb : List ℕ) (a : Answer) → a ≡ checked tb → a .number ≡ tableNumber tb
-unfolding checked
-checked-number tb a e = ap (λ (x : Answer). x .number) e ∙ number-unless (tableNumber tb) (maxItemBits (wordsOf tb))
-
 unless-first : (e d : ℕ) (m : List ℕ) (o : Outcome) → (e ≡ 0 → ⊥) → unless (e orElse d) m o ≡ refused e m
 unless-first zero d m o n = absurd (n refl)
 unless-first (suc e) d m o n = refl
 
 module _ (tb wb : List ℕ) (n : ℕ) (m : List ℕ) (a : Answer) (is : a ≡ checked tb) where
+  number-checked : a .number ≡ tableNumber tb
+  number-checked = ap (λ (x : Answer). x .number) is ∙ checked-number tb
+
   pub unpacked-table : (a .number ≡ 0 → ⊥) → refused (a .number) m ≡ unpacked tb wb n m
   unfolding unpacked unpackNumber
   unpacked-table bad =
-      let e : a .number ≡ tableNumber tb = checked-number tb a is in
+      let e : a .number ≡ tableNumber tb = number-checked in
       ap (λ (k : ℕ). refused k m) e ∙ sym (unless-first (tableNumber tb) _ m _ (λ z. bad (e ∙ z)))
 
   module _ (ok : a .number ≡ 0) where
     pub accepted-table : tableNumber tb ≡ 0
-    accepted-table = sym (checked-number tb a is) ∙ ok
+    accepted-table = sym number-checked ∙ ok
 
     pub unpacked-many : 4096 < n → refused 11 m ≡ unpacked tb wb n m
     unfolding unpacked unpackNumber

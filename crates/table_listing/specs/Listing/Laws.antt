@@ -72,14 +72,5 @@ lines-refused b e is some = rw (← is) (go e some)
     go zero h = absurd (h refl)
     go (suc n) h = unfold linesFor in refl
 
--- ---- the number that the check answers
-pub checked-number : (b : List ℕ) → checked b .number ≡ tableNumber b
-unfolding checked
-checked-number b = go (tableNumber b)
-  where
-    go : (e : ℕ) → countUnless e (maxItemBits (wordsOf b)) .number ≡ e
-    go zero = refl
-    go (suc e) = refl
-
 pub refused-block : (b : List ℕ) (e first : ℕ) (m : List ℕ) → e ≡ tableNumber b → (e ≡ 0 → ⊥) → blockOf (drop first (refusedLine e ∷ [])) m ≡ block b first m
 refused-block b e first m is some = ap (λ (ls : List (List ℕ)). blockOf (drop first ls) m) (lines-refused b e is some)

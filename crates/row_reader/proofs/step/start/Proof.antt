@@ -3,7 +3,7 @@ use mathlib.Core.Path.{ap, _∙_}
 use Rattle.answer.specs.declared.Answer.{Answer}
 use Rattle.row_format.specs.Row.{fresh}
 use Rattle.row_item.specs.Coded.{progress}
-use Rattle.row_reader.specs.Step.Laws.{checked-number}
+use Rattle.row_format.specs.Calls.Laws.{checked-number}
 use borrow.Author.Needs.{needs}
 use Rattle.row_reader.proofs.step.start.Statement.{statement}
 use Rattle.row_reader.proofs.step.start.Tie as tie

@@ -27,7 +27,7 @@ pub enum Read {
     Refused { number: u32, place: usize },
 }
 
-// The item at bit place `at`, where a row has come to p: for every table's bytes, accepted or not, and every words.
+// The item at bit place `at`, where a row has come to p: for every table's bytes, accepted or not, and whatever words.
 pub fn read_item(table: &[u8], words: &[u8], at: usize, p: Progress) -> Read
     requires { ⌜ at ≤ 2 ^ 32 ⌝ }
     ensures { λ r. ⌜ r ≡ itemAt (now (table .entry)) (now (words .entry)) at p ⌝ }

@@ -39,10 +39,10 @@ module _ (b : List ℕ) (st : SheetState) where
   unfolding fixedNumber
   fields-missing h = record { number = rw (lt-ltb (length b) 4 h); fields = λ e. absurd (omega arith) }
 
-  pub fields-there : 4 ≤ length b → (row count place : ℕ) → row ≡ rowNumber b → count ≡ pixelCount b → place ≡ placeNumber plainRecord row st
+  pub fields-there : 4 ≤ length b → {row count place : ℕ} → row ≡ rowNumber b → count ≡ pixelCount b → place ≡ placeNumber plainRecord row st
       → FieldsOf b st (record { number = place; row = row; count = count })
   unfolding fixedNumber
-  fields-there h row count place row-is count-is place-is = record {
+  fields-there h row-is count-is place-is = record {
     number = rw (le-ltb (length b) 4 h, ← row-is) place-is;
     fields = λ e. record { there = h; row = row-is; count = count-is; small = rw row-is (two-bytes-small b (omega arith)) };
   }

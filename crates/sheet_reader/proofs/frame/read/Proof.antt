@@ -1,5 +1,5 @@
 use native.Mathlib.Omega.{arith}
-use Rattle.sheet_reader.specs.Frame.{number-right, frame-refuses, frame-leaves, body-short}
+use Rattle.sheet_reader.specs.Frame.{number-right, body-short, frame-refuses, frame-leaves}
 use borrow.Author.Needs.{needs}
 use Rattle.sheet_reader.proofs.frame.read.Statement.{statement}
 use Rattle.sheet_reader.proofs.frame.read.Tie as tie

@@ -60,7 +60,7 @@ returns-4 c = line-leaves (c .before .before .before .before .match .keys4) (c .
 
 -- src/frame.rt:54:1
 returns-5 : tie.Need-returns-5
-returns-5 c = unknown-leaves (c .before .match .rest .0 .0 .0 .1) (c .before .match .rest .0 .0 .1) (c .before .match .rest .0 .1) (c .before .match .rest .1) (c .refused .ensures)
+returns-5 c = let rest = c .before .match .rest in unknown-leaves (rest .0 .0 .0 .1) (rest .0 .0 .1) (rest .0 .1) (rest .1) (c .refused .ensures)
 
 pub read-body-spec : {M : Type 1} → statement M
 read-body-spec =

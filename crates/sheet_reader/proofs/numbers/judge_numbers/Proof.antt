@@ -17,7 +17,7 @@ abbrev μ-loop : tie.MeasureT-loop
 
 -- src/numbers.rt:26:5
 loop-holds : tie.Need-loop-holds Inv-loop μ-loop
-loop-holds c = walk-start (c .before .args .count) (c .before .args .line .now)
+loop-holds c = walk-start
 
 -- src/numbers.rt:27:20
 sub-part : tie.Need-sub-part Inv-loop μ-loop
@@ -37,7 +37,7 @@ read-signed-requires c κs = search needs
 
 -- src/numbers.rt:31:13
 returns : tie.Need-returns Inv-loop μ-loop
-returns c = walk-fault (c .before .before .before .before .before .before .args .count) (c .before .before .before .before .before .before .args .line .now) (c .before .before .before .before .loop .at) (c .before .before .before .before .loop .i) (c .before .before .before .before .loop .inv) (c .before .before .before .loop-test .taken) (c .before .read-signed .result) (c .before .read-signed .ensures) (c .if1 .taken)
+returns c = walk-fault (c .before .before .before .before .loop .inv) (c .before .read-signed .ensures) (c .before .before .before .loop-test .taken) (c .if1 .taken)
 
 -- src/numbers.rt:33:15
 cast-at : tie.Need-cast-at Inv-loop μ-loop
@@ -45,7 +45,7 @@ cast-at c = search needs
 
 -- src/numbers.rt:33:9
 add-at : tie.Need-add-at Inv-loop μ-loop
-add-at c = omega (arith, walk-there (c .before .before .before .before .before .before .before .args .count) (c .before .before .before .before .before .before .before .args .line .now) (c .before .before .before .before .before .loop .at) (c .before .before .before .before .before .loop .i) (c .before .before .before .before .before .loop .inv) (c .before .before .before .before .loop-test .taken) (c .before .before .read-signed .result) (c .before .before .read-signed .ensures))
+add-at c = omega (arith, walk-there (c .before .before .before .before .before .loop .inv) (c .before .before .read-signed .ensures))
 
 -- src/numbers.rt:34:9
 add-i : tie.Need-add-i Inv-loop μ-loop
@@ -57,11 +57,11 @@ loop-less c = search needs
 
 -- src/numbers.rt:26:5
 loop-again : tie.Need-loop-again Inv-loop μ-loop
-loop-again c = walk-more (c .before .before .before .before .before .before .before .args .count) (c .before .before .before .before .before .before .before .args .line .now) (c .before .before .before .before .before .loop .at) (c .before .before .before .before .before .loop .i) (c .before .before .before .before .before .loop .inv) (c .before .before .before .before .loop-test .taken) (c .before .before .read-signed .result) (c .before .before .read-signed .ensures) (c .before .if1 .left)
+loop-again c = walk-more (c .before .before .before .before .before .loop .inv) (c .before .before .read-signed .ensures) (c .before .before .before .before .loop-test .taken) (c .before .if1 .left)
 
 -- src/numbers.rt:20:1
 returns-2 : tie.Need-returns-2 Inv-loop μ-loop
-returns-2 c = walk-judged (c .before .before .before .args .count) (c .before .before .before .args .line .now) (c .before .loop .at) (c .before .loop .i) (c .before .loop .inv) (c .loop-test .left)
+returns-2 c = walk-judged (c .before .loop .inv) (c .loop-test .left)
 
 pub judge-numbers-spec : {M : Type 1} → statement M
 judge-numbers-spec =

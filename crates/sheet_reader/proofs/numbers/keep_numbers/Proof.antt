@@ -4,6 +4,7 @@ use Rattle.sheet_reader.specs.Line.{Kept}
 use Rattle.sheet_reader.specs.Line.Laws.{walk-there, keep-start, keep-more, keep-all}
 use mathlib.Core.Path.{ap, _∙_}
 use mir.Syntax.{w32}
+use mir.Val.{SFits}
 use mir.Facts.{toZ-ofZ}
 use Rattle.sheet_format.specs.Line.{wordOf}
 use borrow.Author.Needs.{needs}
@@ -27,7 +28,7 @@ returns c = λ enough. absurd (omega arith)
 
 -- src/numbers.rt:50:5
 loop-holds : tie.Need-loop-holds Inv-loop μ-loop
-loop-holds c = keep-start (c .before .before .before .args .count) (c .before .before .before .args .line .now) (c .before .before .before .args .content .now)
+loop-holds c = keep-start
 
 -- src/numbers.rt:51:20
 sub-part : tie.Need-sub-part Inv-loop μ-loop
@@ -63,7 +64,7 @@ cast-at c = search needs
 
 -- src/numbers.rt:54:9
 add-at : tie.Need-add-at Inv-loop μ-loop
-add-at c = omega (arith, walk-there (c .before .before .before .before .before .before .before .before .before .before .before .before .before .before .args .count) (c .before .before .before .before .before .before .before .before .before .before .before .before .before .before .args .line .now) (c .before .before .before .before .before .before .before .before .before .before .loop .at) (c .before .before .before .before .before .before .before .before .before .before .loop .i) (c .before .before .before .before .before .before .before .before .before .before .loop .inv .walked) (c .before .before .before .before .before .before .before .before .before .loop-test .taken) (c .before .before .before .before .before .before .before .read-signed .result) (c .before .before .before .before .before .before .before .read-signed .ensures))
+add-at c = omega (arith, walk-there (c .before .before .before .before .before .before .before .before .before .before .loop .inv .walked) (c .before .before .before .before .before .before .before .read-signed .ensures))
 
 -- src/numbers.rt:55:9
 add-i : tie.Need-add-i Inv-loop μ-loop
@@ -75,7 +76,7 @@ loop-less c = search needs
 
 -- src/numbers.rt:50:5
 loop-again : tie.Need-loop-again Inv-loop μ-loop
-loop-again c = keep-more (c .before .before .before .before .before .before .before .before .before .before .before .before .before .before .args .count) (c .before .before .before .before .before .before .before .before .before .before .before .before .before .before .args .line .now) (c .before .before .before .before .before .before .before .before .before .before .before .before .before .before .args .content .now) (c .before .before .before .before .before .before .before .before .before .before .loop .content) (c .before .before .before .before .before .before .before .before .before .before .loop .at) (c .before .before .before .before .before .before .before .before .before .before .loop .i) (c .before .before .before .before .before .before .before .before .before .before .loop .inv) (c .before .before .before .before .before .before .before .before .before .loop-test .taken) (omega (arith, c .before .before .before .before .before .before .before .before .before .before .before .before .before .before .pre .1, c .before .before .before .before .before .before .before .before .before .before .before .if1 .left)) (c .before .before .before .before .before .before .before .before .before .before .before .before .before .before .pre .0) (c .before .before .before .before .before .before .before .read-signed .result) (c .before .before .before .before .before .before .before .read-signed .ensures) (c .before .before .before .before .word-of .result) (c .before .before .before .before .word-of .ensures ∙ ap wordOf (toZ-ofZ {w = w32} {z = c .before .before .before .before .before .before .before .read-signed .result .value} (record { sfits = c .before .before .before .before .before .struct-told .given .1 .0 .1 }))) (c .before .before .before .put-u32 .last .0) (c .before .before .before .put-u32 .ensures)
+loop-again c = let value : SFits w32 (c .before .before .before .before .before .before .before .read-signed .result .value) = record { sfits = c .before .before .before .before .before .struct-told .given .1 .0 .1 } in keep-more (c .before .before .before .before .before .before .before .before .before .before .loop .inv) (c .before .before .before .before .before .before .before .before .before .loop-test .taken) (omega (arith, c .before .before .before .before .before .before .before .before .before .before .before .before .before .before .pre .1, c .before .before .before .before .before .before .before .before .before .before .before .if1 .left)) (c .before .before .before .before .before .before .before .before .before .before .before .before .before .before .pre .0) (c .before .before .before .before .before .before .before .read-signed .ensures) (c .before .before .before .before .word-of .ensures ∙ ap wordOf (toZ-ofZ value)) (c .before .before .before .put-u32 .ensures)
 
 -- src/numbers.rt:40:1
 same-length : tie.Need-same-length Inv-loop μ-loop
@@ -83,7 +84,7 @@ same-length c = c .before .loop .inv .same
 
 -- src/numbers.rt:40:1
 returns-2 : tie.Need-returns-2 Inv-loop μ-loop
-returns-2 c = λ enough. keep-all (c .before .before .before .before .before .args .count) (c .before .before .before .before .before .args .line .now) (c .before .before .before .before .before .args .content .now) (c .before .loop .content) (c .before .loop .at) (c .before .loop .i) (c .before .loop .inv) (c .loop-test .left)
+returns-2 c = λ enough. keep-all (c .before .loop .inv) (c .loop-test .left)
 
 pub keep-numbers-spec : {M : Type 1} → statement M
 keep-numbers-spec =

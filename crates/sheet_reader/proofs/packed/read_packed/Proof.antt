@@ -1,5 +1,5 @@
 use native.Mathlib.Omega.{arith}
-use Rattle.sheet_reader.specs.Packed.Laws.{packed-not-words, packed-misplaced, packed-refused, packed-few, packed-fits, packed-held}
+use Rattle.sheet_reader.specs.Packed.Laws.{packed-not-words, packed-misplaced, packed-refused, packed-accepted, packed-few, packed-fits, packed-held}
 use borrow.Author.Needs.{needs}
 use Rattle.sheet_reader.proofs.packed.read_packed.Statement.{statement}
 use Rattle.sheet_reader.proofs.packed.read_packed.Tie as tie
@@ -18,7 +18,7 @@ refused-requires c κs = search needs
 
 -- src/packed.rt:27:9
 returns : tie.Need-returns
-returns c = packed-not-words (c .before .before .before .before .before .args .table .now) (c .before .before .before .before .before .args .body .now) (c .before .before .before .before .before .args .state) (c .before .before .before .before .before .args .room) (c .before .before .before .before .before .args .whole) (c .before .before .before .before .before .args .content .now) (c .before .if1 .taken) (c .refused .result) (c .refused .ensures)
+returns c = packed-not-words (c .before .if1 .taken) (c .refused .ensures)
 
 -- src/packed.rt:29:9
 row-fields-requires : tie.Need-row-fields-requires
@@ -30,7 +30,7 @@ refused-requires-2 c κs = search needs
 
 -- src/packed.rt:32:9
 returns-2 : tie.Need-returns-2
-returns-2 c = packed-misplaced (c .before .before .before .before .before .before .before .args .table .now) (c .before .before .before .before .before .before .before .args .body .now) (c .before .before .before .before .before .before .before .args .state) (c .before .before .before .before .before .before .before .args .room) (c .before .before .before .before .before .before .before .args .whole) (c .before .before .before .before .before .before .before .args .content .now) (c .before .before .before .if1 .left) (c .before .before .row-fields .result) (c .before .before .row-fields .ensures) (c .refused2 .result) (c .refused2 .ensures) (c .before .if2 .taken)
+returns-2 c = packed-misplaced (c .before .before .before .if1 .left) (c .before .before .row-fields .ensures) (c .refused2 .ensures) (c .before .if2 .taken)
 
 -- src/packed.rt:37:57
 slice-aggregate-unpack-row : tie.Need-slice-aggregate-unpack-row
@@ -46,7 +46,7 @@ refused-requires-3 c κs = search needs
 
 -- src/packed.rt:40:9
 returns-3 : tie.Need-returns-3
-returns-3 c = packed-refused (c .before .before .before .before .before .before .before .before .before .before .before .args .table .now) (c .before .before .before .before .before .before .before .before .before .before .before .args .body .now) (c .before .before .before .before .before .before .before .before .before .before .before .args .state) (c .before .before .before .before .before .before .before .before .before .before .before .args .room) (c .before .before .before .before .before .before .before .before .before .before .before .args .whole) (c .before .before .before .before .before .before .before .before .before .before .before .args .content .now) (c .before .before .before .before .before .before .before .if1 .left) (c .before .before .before .before .before .before .row-fields .result) (c .before .before .before .before .before .before .row-fields .ensures) (c .before .before .before .before .before .if2 .left) (c .before .before .before .unpack-row .result) (c .before .before .before .unpack-row .last .1 .1 .1 .1 .0) (c .before .before .before .unpack-row .ensures) (c .refused3 .result) (c .refused3 .ensures) (c .before .if3 .taken)
+returns-3 c = packed-refused (c .before .before .before .before .before .before .before .if1 .left) (c .before .before .before .before .before .before .row-fields .ensures) (c .before .before .before .before .before .if2 .left) (c .before .before .before .unpack-row .ensures) (c .refused3 .ensures) (c .before .if3 .taken)
 
 -- src/packed.rt:42:10
 slice-aggregate-keep : tie.Need-slice-aggregate-keep
@@ -62,7 +62,7 @@ mul-keep c = search needs
 
 -- src/packed.rt:42:5
 keep-requires : tie.Need-keep-requires
-keep-requires c κs = (omega (arith, packed-few (c .before .before .before .before .before .before .before .before .before .before .before .before .args .table .now) (c .before .before .before .before .before .before .before .before .before .before .before .before .args .body .now) (c .before .before .before .before .before .before .before .before .before .before .before .before .args .state) (c .before .before .before .before .before .before .before .before .before .before .before .before .args .room) (c .before .before .before .before .before .before .before .before .before .before .before .before .args .whole) (c .before .before .before .before .before .before .before .before .before .before .before .before .args .content .now) (c .before .before .before .before .before .before .before .before .if1 .left) (c .before .before .before .before .before .before .before .row-fields .result) (c .before .before .before .before .before .before .before .row-fields .ensures) (c .before .before .before .before .before .before .if2 .left) (c .before .before .before .before .unpack-row .result) (c .before .before .before .before .unpack-row .last .1 .1 .1 .1 .0) (c .before .before .before .before .unpack-row .ensures) (c .before .before .if3 .left)), packed-fits (c .before .before .before .before .before .before .before .before .before .before .before .before .args .table .now) (c .before .before .before .before .before .before .before .before .before .before .before .before .args .body .now) (c .before .before .before .before .before .before .before .before .before .before .before .before .args .state) (c .before .before .before .before .before .before .before .before .before .before .before .before .args .room) (c .before .before .before .before .before .before .before .before .before .before .before .before .args .whole) (c .before .before .before .before .before .before .before .before .before .before .before .before .args .content .now) (c .before .before .before .before .before .before .before .before .if1 .left) (c .before .before .before .before .before .before .before .row-fields .result) (c .before .before .before .before .before .before .before .row-fields .ensures) (c .before .before .before .before .before .before .if2 .left) (c .before .before .before .before .unpack-row .result) (c .before .before .before .before .unpack-row .last .1 .1 .1 .1 .0) (c .before .before .before .before .unpack-row .ensures) (c .before .before .if3 .left))
+keep-requires c κs = let accepted = packed-accepted (c .before .before .before .before .before .before .before .before .if1 .left) (c .before .before .before .before .before .before .before .row-fields .ensures) (c .before .before .before .before .before .before .if2 .left) (c .before .before .before .before .unpack-row .ensures) (c .before .before .if3 .left) in (omega (arith, packed-few accepted), packed-fits accepted)
 
 -- src/packed.rt:43:48
 after-row-requires : tie.Need-after-row-requires
@@ -78,7 +78,7 @@ same-length c = search needs
 
 -- src/packed.rt:23:1
 returns-4 : tie.Need-returns-4
-returns-4 c = packed-held (c .before .before .before .before .before .before .before .before .before .before .before .before .before .before .before .before .before .args .table .now) (c .before .before .before .before .before .before .before .before .before .before .before .before .before .before .before .before .before .args .body .now) (c .before .before .before .before .before .before .before .before .before .before .before .before .before .before .before .before .before .args .state) (c .before .before .before .before .before .before .before .before .before .before .before .before .before .before .before .before .before .args .room) (c .before .before .before .before .before .before .before .before .before .before .before .before .before .before .before .before .before .args .whole) (c .before .before .before .before .before .before .before .before .before .before .before .before .before .before .before .before .before .args .content .now) (c .before .before .before .before .before .before .before .before .before .before .before .before .before .if1 .left) (c .before .before .before .before .before .before .before .before .before .before .before .before .row-fields .result) (c .before .before .before .before .before .before .before .before .before .before .before .before .row-fields .ensures) (c .before .before .before .before .before .before .before .before .before .before .before .if2 .left) (c .before .before .before .before .before .before .before .before .before .unpack-row .result) (c .before .before .before .before .before .before .before .before .before .unpack-row .last .1 .1 .1 .1 .0) (c .before .before .before .before .before .before .before .before .before .unpack-row .ensures) (c .before .before .before .before .before .before .before .if3 .left) (c .held .result) (c .before .after-row .result) (c .before .after-row .ensures) (c .held .ensures) (c .before .before .before .before .keep .last .1 .1 .1 .0) (c .before .before .before .before .keep .ensures)
+returns-4 c = let accepted = packed-accepted (c .before .before .before .before .before .before .before .before .before .before .before .before .before .if1 .left) (c .before .before .before .before .before .before .before .before .before .before .before .before .row-fields .ensures) (c .before .before .before .before .before .before .before .before .before .before .before .if2 .left) (c .before .before .before .before .before .before .before .before .before .unpack-row .ensures) (c .before .before .before .before .before .before .before .if3 .left) in packed-held accepted (c .before .after-row .ensures) (c .held .ensures) (c .before .before .before .before .keep .ensures)
 
 pub read-packed-spec : {M : Type 1} → statement M
 read-packed-spec =

@@ -1,9 +1,8 @@
-use Prim.Native.Nat.{_-_}
 use native.Mathlib.Omega.{arith}
-use mathlib.Core.Path.{refl, sym}
-use lib.ListN.{length, take, drop}
+use mathlib.Core.Path.{sym}
+use lib.ListN.{drop}
 use lib.Seq.{length-take-le}
-use Rattle.sheet_reader.specs.Packed.Laws.{row-refused, row-leftover, row-done}
+use Rattle.sheet_reader.specs.Packed.Laws.{unpacked-row, row-refused, row-leftover, row-done}
 use borrow.Author.Needs.{needs}
 use Rattle.sheet_reader.proofs.packed.unpack_row.Statement.{statement}
 use Rattle.sheet_reader.proofs.packed.unpack_row.Tie as tie
@@ -46,7 +45,7 @@ same-length c = search needs
 
 -- src/packed.rt:59:9
 returns : tie.Need-returns
-returns c = row-refused (c .before .before .before .before .before .before .before .before .before .before .args .table .now) (c .before .before .before .before .before .before .before .before .before .before .args .body .now) (c .before .before .before .before .before .before .before .before .before .before .args .room) (c .before .before .before .before .before .smaller .result) (take (c .before .before .before .before .before .smaller .result) (c .before .before .before .before .before .before .before .before .before .before .args .pixels .now)) (c .before .before .before .before .before .smaller .ensures) (sym (length-take-le (c .before .before .before .before .before .smaller .result) (c .before .before .before .before .before .before .before .before .before .before .args .pixels .now) (omega (arith, c .before .before .before .before .before .smaller .ensures, c .before .before .before .before .before .before .before .before .before .before .pre .1 .1)))) (take (length (c .before .before .before .before .before .before .before .before .before .before .args .body .now) - 4) (drop 4 (c .before .before .before .before .before .before .before .before .before .before .args .body .now))) refl (c .before .before .before .before .before .before .before .before .before .before .args .count) (c .before .before .before .before .before .before .before .before .before .before .pre .1 .0) (c .before .before .before .unpack .result) (c .before .before .before .unpack .last .1 .1 .1 .0) (c .before .before .before .unpack .ensures) (c .if1 .taken) _
+returns c = let told = unpacked-row (c .before .before .before .before .before .before .before .before .before .before .args .pixels .now) (c .before .before .before .before .before .before .before .before .before .before .pre .1 .1) (c .before .before .before .before .before .smaller .ensures) (c .before .before .before .before .before .before .before .before .before .before .pre .1 .0) (c .before .before .before .unpack .ensures) in row-refused told (c .if1 .taken)
 
 -- src/packed.rt:62:17
 cast-used : tie.Need-cast-used
@@ -66,7 +65,7 @@ same-length-2 c = search needs
 
 -- src/packed.rt:64:9
 returns-2 : tie.Need-returns-2
-returns-2 c = row-leftover (c .before .before .before .before .before .before .before .before .before .before .before .args .table .now) (c .before .before .before .before .before .before .before .before .before .before .before .args .body .now) (c .before .before .before .before .before .before .before .before .before .before .before .args .room) (c .before .before .before .before .before .before .smaller .result) (take (c .before .before .before .before .before .before .smaller .result) (c .before .before .before .before .before .before .before .before .before .before .before .args .pixels .now)) (c .before .before .before .before .before .before .smaller .ensures) (sym (length-take-le (c .before .before .before .before .before .before .smaller .result) (c .before .before .before .before .before .before .before .before .before .before .before .args .pixels .now) (omega (arith, c .before .before .before .before .before .before .smaller .ensures, c .before .before .before .before .before .before .before .before .before .before .before .pre .1 .1)))) (take (length (c .before .before .before .before .before .before .before .before .before .before .before .args .body .now) - 4) (drop 4 (c .before .before .before .before .before .before .before .before .before .before .before .args .body .now))) refl (c .before .before .before .before .before .before .before .before .before .before .before .args .count) (c .before .before .before .before .before .before .before .before .before .before .before .pre .1 .0) (c .before .before .before .before .unpack .result) (c .before .before .before .before .unpack .last .1 .1 .1 .0) (c .before .before .before .before .unpack .ensures) (c .before .if1 .left) (c .if2 .taken) _
+returns-2 c = let told = unpacked-row (c .before .before .before .before .before .before .before .before .before .before .before .args .pixels .now) (c .before .before .before .before .before .before .before .before .before .before .before .pre .1 .1) (c .before .before .before .before .before .before .smaller .ensures) (c .before .before .before .before .before .before .before .before .before .before .before .pre .1 .0) (c .before .before .before .before .unpack .ensures) in row-leftover told (c .before .if1 .left) (c .if2 .taken)
 
 -- src/packed.rt:48:1
 same-length-3 : tie.Need-same-length-3
@@ -74,7 +73,7 @@ same-length-3 c = search needs
 
 -- src/packed.rt:48:1
 returns-3 : tie.Need-returns-3
-returns-3 c = row-done (c .before .before .before .before .before .before .before .before .before .before .before .args .table .now) (c .before .before .before .before .before .before .before .before .before .before .before .args .body .now) (c .before .before .before .before .before .before .before .before .before .before .before .args .room) (c .before .before .before .before .before .before .smaller .result) (take (c .before .before .before .before .before .before .smaller .result) (c .before .before .before .before .before .before .before .before .before .before .before .args .pixels .now)) (c .before .before .before .before .before .before .smaller .ensures) (sym (length-take-le (c .before .before .before .before .before .before .smaller .result) (c .before .before .before .before .before .before .before .before .before .before .before .args .pixels .now) (omega (arith, c .before .before .before .before .before .before .smaller .ensures, c .before .before .before .before .before .before .before .before .before .before .before .pre .1 .1)))) (take (length (c .before .before .before .before .before .before .before .before .before .before .before .args .body .now) - 4) (drop 4 (c .before .before .before .before .before .before .before .before .before .before .before .args .body .now))) refl (c .before .before .before .before .before .before .before .before .before .before .before .args .count) (c .before .before .before .before .before .before .before .before .before .before .before .pre .1 .0) (c .before .before .before .before .unpack .result) (c .before .before .before .before .unpack .last .1 .1 .1 .0) (c .before .before .before .before .unpack .ensures) (c .before .if1 .left) (c .if2 .left) (drop (c .before .before .before .before .before .before .smaller .result) (c .before .before .before .before .before .before .before .before .before .before .before .args .pixels .now))
+returns-3 c = let told = unpacked-row (c .before .before .before .before .before .before .before .before .before .before .before .args .pixels .now) (c .before .before .before .before .before .before .before .before .before .before .before .pre .1 .1) (c .before .before .before .before .before .before .smaller .ensures) (c .before .before .before .before .before .before .before .before .before .before .before .pre .1 .0) (c .before .before .before .before .unpack .ensures) in row-done told (c .before .if1 .left) (c .if2 .left) (drop (c .before .before .before .before .before .before .smaller .result) (c .before .before .before .before .before .before .before .before .before .before .before .args .pixels .now))
 
 pub unpack-row-spec : {M : Type 1} → statement M
 unpack-row-spec =

@@ -17,7 +17,7 @@ abbrev μ-loop : tie.MeasureT-loop
 
 -- src/plain.rt:63:5
 loop-holds : tie.Need-loop-holds Inv-loop μ-loop
-loop-holds c = above-start (c .before .args .pixels .now)
+loop-holds c = above-start
 
 -- src/plain.rt:64:36
 mul-read-u16 : tie.Need-mul-read-u16 Inv-loop μ-loop
@@ -29,7 +29,7 @@ read-u16-requires c κs = search needs
 
 -- src/plain.rt:65:13
 returns : tie.Need-returns Inv-loop μ-loop
-returns c = above-found (c .before .before .before .before .before .args .pixels .now) (c .before .before .before .loop .i) (c .before .before .before .loop .inv) (c .before .before .loop-test .taken) (c .before .read-u16 .result) (c .before .read-u16 .ensures) (c .if1 .taken)
+returns c = above-found (c .before .before .before .loop .inv) (c .before .before .loop-test .taken) (c .before .read-u16 .ensures) (c .if1 .taken)
 
 -- src/plain.rt:67:9
 add-i : tie.Need-add-i Inv-loop μ-loop
@@ -41,11 +41,11 @@ loop-less c = search needs
 
 -- src/plain.rt:63:5
 loop-again : tie.Need-loop-again Inv-loop μ-loop
-loop-again c = above-more (c .before .before .before .before .before .args .pixels .now) (c .before .before .before .loop .i) (c .before .before .before .loop .inv) (c .before .before .loop-test .taken) (c .before .read-u16 .result) (c .before .read-u16 .ensures) (c .if1 .left)
+loop-again c = above-more (c .before .before .before .loop .inv) (c .before .before .loop-test .taken) (c .before .read-u16 .ensures) (c .if1 .left)
 
 -- src/plain.rt:58:1
 returns-2 : tie.Need-returns-2 Inv-loop μ-loop
-returns-2 c = above-none (c .before .before .before .args .pixels .now) (c .before .loop .i) (c .before .loop .inv) (c .loop-test .left)
+returns-2 c = above-none (c .before .loop .inv) (c .loop-test .left)
 
 pub any-above-spec : {M : Type 1} → statement M
 any-above-spec =

@@ -1,4 +1,4 @@
-use Rattle.sheet_reader.specs.Plain.Laws.{plain-misplaced, plain-refused, plain-long, plain-fits, plain-held}
+use Rattle.sheet_reader.specs.Plain.Laws.{plain-misplaced, plain-refused, plain-accepted, plain-long, plain-fits, plain-held}
 use borrow.Author.Needs.{needs}
 use Rattle.sheet_reader.proofs.plain.read_plain.Statement.{statement}
 use Rattle.sheet_reader.proofs.plain.read_plain.Tie as tie
@@ -21,7 +21,7 @@ refused-requires c κs = search needs
 
 -- src/plain.rt:27:9
 returns : tie.Need-returns
-returns c = plain-misplaced (c .before .before .before .before .before .args .body .now) (c .before .before .before .before .before .args .state) (c .before .before .before .before .before .args .room) (c .before .before .before .before .before .args .whole) (c .before .before .before .before .before .args .content .now) (c .before .before .row-fields .result) (c .before .before .row-fields .ensures) (c .refused .result) (c .refused .ensures) (c .before .if1 .taken)
+returns c = plain-misplaced (c .before .before .row-fields .ensures) (c .refused .ensures) (c .before .if1 .taken)
 
 -- src/plain.rt:31:9
 pixels-number-requires : tie.Need-pixels-number-requires
@@ -33,7 +33,7 @@ refused-requires-2 c κs = search needs
 
 -- src/plain.rt:33:9
 returns-2 : tie.Need-returns-2
-returns-2 c = plain-refused (c .before .before .before .before .before .before .before .args .body .now) (c .before .before .before .before .before .before .before .args .state) (c .before .before .before .before .before .before .before .args .room) (c .before .before .before .before .before .before .before .args .whole) (c .before .before .before .before .before .before .before .args .content .now) (c .before .before .before .before .row-fields .result) (c .before .before .before .before .row-fields .ensures) (c .before .before .before .if1 .left) (c .before .before .pixels-number .result) (c .before .before .pixels-number .ensures) (c .refused2 .result) (c .refused2 .ensures) (c .before .if2 .taken)
+returns-2 c = plain-refused (c .before .before .before .before .row-fields .ensures) (c .before .before .before .if1 .left) (c .before .before .pixels-number .ensures) (c .refused2 .ensures) (c .before .if2 .taken)
 
 -- src/plain.rt:35:18
 sub-pixels : tie.Need-sub-pixels
@@ -57,7 +57,7 @@ mul-keep c = search needs
 
 -- src/plain.rt:36:5
 keep-requires : tie.Need-keep-requires
-keep-requires c κs = (plain-long (c .before .before .before .before .before .before .before .before .args .body .now) (c .before .before .before .before .before .before .before .before .args .state) (c .before .before .before .before .before .before .before .before .args .room) (c .before .before .before .before .before .before .before .before .args .whole) (c .before .before .before .before .before .before .before .before .args .content .now) (c .before .before .before .before .before .row-fields .result) (c .before .before .before .before .before .row-fields .ensures) (c .before .before .before .before .if1 .left) (c .before .before .before .pixels-number .result) (c .before .before .before .pixels-number .ensures) (c .before .before .if2 .left), plain-fits (c .before .before .before .before .before .before .before .before .args .body .now) (c .before .before .before .before .before .before .before .before .args .state) (c .before .before .before .before .before .before .before .before .args .room) (c .before .before .before .before .before .before .before .before .args .whole) (c .before .before .before .before .before .before .before .before .args .content .now) (c .before .before .before .before .before .row-fields .result) (c .before .before .before .before .before .row-fields .ensures) (c .before .before .before .before .if1 .left) (c .before .before .before .pixels-number .result) (c .before .before .before .pixels-number .ensures) (c .before .before .if2 .left))
+keep-requires c κs = let accepted = plain-accepted (c .before .before .before .before .before .row-fields .ensures) (c .before .before .before .before .if1 .left) (c .before .before .before .pixels-number .ensures) (c .before .before .if2 .left) in (plain-long accepted, plain-fits accepted)
 
 -- src/plain.rt:37:35
 after-row-requires : tie.Need-after-row-requires
@@ -73,7 +73,7 @@ same-length c = search needs
 
 -- src/plain.rt:21:1
 returns-3 : tie.Need-returns-3
-returns-3 c = plain-held (c .before .before .before .before .before .before .before .before .before .before .before .before .before .args .body .now) (c .before .before .before .before .before .before .before .before .before .before .before .before .before .args .state) (c .before .before .before .before .before .before .before .before .before .before .before .before .before .args .room) (c .before .before .before .before .before .before .before .before .before .before .before .before .before .args .whole) (c .before .before .before .before .before .before .before .before .before .before .before .before .before .args .content .now) (c .before .before .before .before .before .before .before .before .before .before .row-fields .result) (c .before .before .before .before .before .before .before .before .before .before .row-fields .ensures) (c .before .before .before .before .before .before .before .before .before .if1 .left) (c .before .before .before .before .before .before .before .before .pixels-number .result) (c .before .before .before .before .before .before .before .before .pixels-number .ensures) (c .before .before .before .before .before .before .before .if2 .left) (c .held .result) (c .before .after-row .result) (c .before .after-row .ensures) (c .held .ensures) (c .before .before .before .before .keep .last .1 .1 .1 .0) (c .before .before .before .before .keep .ensures)
+returns-3 c = let accepted = plain-accepted (c .before .before .before .before .before .before .before .before .before .before .row-fields .ensures) (c .before .before .before .before .before .before .before .before .before .if1 .left) (c .before .before .before .before .before .before .before .before .pixels-number .ensures) (c .before .before .before .before .before .before .before .if2 .left) in plain-held accepted (c .before .after-row .ensures) (c .held .ensures) (c .before .before .before .before .keep .ensures)
 
 pub read-plain-spec : {M : Type 1} → statement M
 read-plain-spec =

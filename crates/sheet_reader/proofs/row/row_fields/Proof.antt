@@ -25,7 +25,7 @@ place-number-requires c κs = search needs
 
 -- src/row.rt:19:1
 returns-2 : tie.Need-returns-2
-returns-2 c = fields-there (c .before .before .before .before .before .args .body .now) (c .before .before .before .before .before .args .state) (c .before .before .before .if1 .left) (c .before .before .read-u16 .result) (c .before .read-u162 .result) (c .place-number .result) (c .before .before .read-u16 .ensures) (c .before .read-u162 .ensures) (c .place-number .ensures)
+returns-2 c = fields-there (c .before .before .before .before .before .args .body .now) (c .before .before .before .before .before .args .state) (c .before .before .before .if1 .left) (c .before .before .read-u16 .ensures) (c .before .read-u162 .ensures) (c .place-number .ensures)
 
 pub row-fields-spec : {M : Type 1} → statement M
 row-fields-spec =

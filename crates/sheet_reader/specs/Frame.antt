@@ -1,21 +1,18 @@
 -- The ways out of judging a record's length and kind. Assumes nothing.
-use Prim.Native.Nat.{ℕ, zero, suc, _+_, _-_, _*_, _≤_, _<_}
+use Prim.Native.Nat.{ℕ, zero, suc, _+_, _-_, _≤_, _<_}
 use native.Mathlib.Omega.{arith}
-use mathlib.Core.Path.{_≡_, refl, sym, ap, _∙_}
-use mathlib.Core.List.{List, [], _++_}
+use mathlib.Core.Path.{_≡_, refl, sym, _∙_}
+use mathlib.Core.List.{List, []}
 use lib.ListN.{length, take, drop, length-take}
 use borrow.Author.Tests.{lt-ltb, le-ltb}
-use Rattle.answer.specs.Outcome.{_orElse_}
-use Rattle.row_format.specs.Calls.{tooMany}
-use Rattle.row_format.specs.Calls.Laws.{orElse-zero-left}
 use Rattle.sheet_format.specs.declared.SheetState.{SheetState}
 use Rattle.sheet_format.specs.declared.RecordRead.{RecordRead}
-use Rattle.sheet_format.specs.Record.{lengthField, kindField, bodyOf, Kind, tableRecord, packedRecord, plainRecord, lineRecord, unknown, kindOf, rowNumber, pixelCount, numberCount, lengthNumber, kindNumber, fixedNumber, placeNumber, nothing, lent, roomNumber, bodyNumber, leftoverNumber, lastRoomNumber, contentNumber, recordNumber}
-use Rattle.sheet_format.specs.Record.Laws.{orElse-same, lessNumber-zero, lessNumber-none, RightLength, lengthNumber-right, right-length, kindOf-unknown}
+use Rattle.sheet_format.specs.Record.{lengthField, kindField, tableRecord, packedRecord, plainRecord, lineRecord, unknown, kindOf, lengthNumber, kindNumber, lent, bodyNumber, leftoverNumber, lastRoomNumber, contentNumber, recordNumber}
+use Rattle.sheet_format.specs.Record.Laws.{RightLength, lengthNumber-right, right-length, kindOf-unknown}
 use Rattle.sheet_format.specs.Theorems.Judged.{recordNumber-enough}
 use Rattle.sheet_format.specs.Reading.{refusedRecord, recordHeld, recordContent, recordJudged}
-use Rattle.sheet_reader.specs.Leaves.{Leaves, ContentLeaves, BodyLeaves, RecordLeaves, tableJudged}
-use Rattle.sheet_reader.specs.Leaves.Laws.{orElse-assoc, given-first, given-next, keptUnless-nothing, refuses}
+use Rattle.sheet_reader.specs.Leaves.{ContentLeaves, BodyLeaves, RecordLeaves, tableJudged}
+use Rattle.sheet_reader.specs.Leaves.Laws.{given-first, keptUnless-nothing, refuses}
 
 -- ---- the length
 pub length-missing : (r : List ℕ) → length r < 4 → 14 ≡ lengthNumber r

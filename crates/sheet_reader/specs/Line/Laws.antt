@@ -1,12 +1,12 @@
 -- The ways out of reading a line. Assumes nothing.
-use Prim.Native.Nat.{ℕ, zero, suc, _+_, _-_, _*_, _%_, _≤_, _<_}
+use Prim.Native.Nat.{ℕ, suc, _+_, _-_, _*_, _%_, _≤_, _<_}
 use native.Mathlib.Nat.{sub-zero}
 use native.Mathlib.Decide.{decLt}
 use native.Mathlib.Omega.{arith}
-use mathlib.Core.Path.{_≡_, refl, sym, ap, ap₂, _∙_}
+use mathlib.Core.Path.{_≡_, refl, sym, ap, _∙_}
 use mathlib.Core.Logic.{by-cases}
-use mathlib.Core.List.{List, [], _∷_, _++_, map, append-assoc}
-use lib.ListN.{length, take, drop, length-append, length-drop, length-map}
+use mathlib.Core.List.{List, [], _∷_, _++_}
+use lib.ListN.{length, drop, length-append, length-drop}
 use lib.Dec.{ltb}
 use lib.Seq.{take-at, drop-append-add, drop-drop}
 use lib.IntN.{ℤ, pos, negsuc, _+ℤ_}
@@ -21,12 +21,12 @@ use Rattle.row_format.specs.Calls.{tooMany}
 use Rattle.row_format.specs.Calls.Laws.{orElse-zero-right}
 use Rattle.adaptive.specs.declared.SignedRead.{SignedRead}
 use Rattle.adaptive.specs.Calls.{signedRead}
-use Rattle.adaptive.specs.Calls.Laws.{Used, signedRead-used}
-use Rattle.sheet_format.specs.Line.{Line, numbers, faulty, wordOf, readLine}
+use Rattle.adaptive.specs.Calls.Laws.{signedRead-used}
+use Rattle.sheet_format.specs.Line.{Line, numbers, wordOf, readLine}
 use Rattle.sheet_format.specs.Line.Steps.{LineSoFar, line-start, line-more, line-fault, line-all, bytesOf-more}
 use Rattle.sheet_format.specs.declared.SheetState.{SheetState}
 use Rattle.sheet_format.specs.declared.RecordRead.{RecordRead}
-use Rattle.sheet_format.specs.Record.{lineRecord, numberCount, lineContent, lineOf, fixedNumber, placeNumber, lent, roomNumber, faultNumber, lineNumber, bodyNumber, bytesOfLine, leftoverNumber, lastRoomNumber, contentNumber}
+use Rattle.sheet_format.specs.Record.{lineRecord, numberCount, lineOf, fixedNumber, placeNumber, lent, roomNumber, faultNumber, lineNumber, bodyNumber, bytesOfLine, leftoverNumber, lastRoomNumber, contentNumber}
 use Rattle.sheet_format.specs.Record.Laws.{lessNumber-zero, Passed, passed}
 use Rattle.sheet_format.specs.Theorems.Judged.{Content, passed-content}
 use Rattle.sheet_format.specs.Reading.{numberBytes, refusedRecord}
@@ -90,7 +90,7 @@ module _ {n : ℕ} {s : List ℕ} {at i : ℕ} (w : Walked n s at i) where
         let is = read-rest s at read in
         by-cases (decLt 0 (r .number))
         (λ some. rw is (sym (ap faultNumber (line-fault (next more) (λ e. omega (arith, rw (← is) at e)))) ∙ none))
-        (λ zero. omega arith)
+        (λ not. omega arith)
 
   walk-all : n ≤ i → readLine n s ≡ numbers (w .values) at
   walk-all end = let left : n - i ≡ 0 = omega arith in line-all (rw left at (w .so-far))

@@ -7,11 +7,10 @@ use mathlib.Core.Logic.{by-cases}
 use mathlib.Core.List.{List, _++_, append-assoc}
 use lib.ListN.{length, take, drop}
 use lib.Seq.{length-take-le, take-append-seam}
-use lib.Dec.{ltb}
 use borrow.Author.Tests.{lt-ltb, le-ltb}
 use Rattle.bitstream.specs.Bits.{stream, wordsFor}
 use Rattle.answer.specs.declared.Answer.{Answer}
-use Rattle.answer.specs.Outcome.{Outcome, outcome, wrote, _orElse_, refuseIf}
+use Rattle.answer.specs.Outcome.{Outcome, outcome, wrote, _orElse_}
 use Rattle.row_format.specs.Table.{tableNumber}
 use Rattle.row_format.specs.Calls.{tooMany, unpacked}
 use Rattle.row_format.specs.Calls.Laws.{orElse-zero-left, orElse-zero-right}

@@ -1,21 +1,18 @@
 -- The ways out of judging a record's length and kind. Assumes nothing.
-use Prim.Native.Nat.{ℕ, zero, suc, _+_, _-_, _*_, _≤_, _<_}
+use Prim.Native.Nat.{ℕ, zero, suc, _+_, _-_, _≤_, _<_}
 use native.Mathlib.Omega.{arith}
-use mathlib.Core.Path.{_≡_, refl, sym, ap, _∙_}
-use mathlib.Core.List.{List, [], _++_}
+use mathlib.Core.Path.{_≡_, refl, sym, _∙_}
+use mathlib.Core.List.{List, []}
 use lib.ListN.{length, take, drop, length-take}
 use borrow.Author.Tests.{lt-ltb, le-ltb}
-use Rattle.answer.specs.Outcome.{_orElse_}
-use Rattle.row_format.specs.Calls.{tooMany}
-use Rattle.row_format.specs.Calls.Laws.{orElse-zero-left}
 use Rattle.sheet_format.specs.declared.SheetState.{SheetState}
 use Rattle.sheet_format.specs.declared.RecordRead.{RecordRead}
-use Rattle.sheet_format.specs.Record.{lengthField, kindField, bodyOf, Kind, tableRecord, packedRecord, plainRecord, lineRecord, unknown, kindOf, rowNumber, pixelCount, numberCount, lengthNumber, kindNumber, fixedNumber, placeNumber, nothing, lent, roomNumber, bodyNumber, leftoverNumber, lastRoomNumber, contentNumber, recordNumber}
-use Rattle.sheet_format.specs.Record.Laws.{orElse-same, lessNumber-zero, lessNumber-none, RightLength, lengthNumber-right, right-length, kindOf-unknown}
+use Rattle.sheet_format.specs.Record.{lengthField, kindField, tableRecord, packedRecord, plainRecord, lineRecord, unknown, kindOf, lengthNumber, kindNumber, lent, bodyNumber, leftoverNumber, lastRoomNumber, contentNumber, recordNumber}
+use Rattle.sheet_format.specs.Record.Laws.{RightLength, lengthNumber-right, right-length, kindOf-unknown}
 use Rattle.sheet_format.specs.Theorems.Judged.{recordNumber-enough}
-use Rattle.sheet_format.specs.Reading.{refusedRecord, recordHeld, recordContent, recordJudged}
-use Rattle.sheet_reader.specs.Leaves.{Leaves, ContentLeaves, BodyLeaves, RecordLeaves, tableJudged}
-use Rattle.sheet_reader.specs.Leaves.Laws.{orElse-assoc, given-first, given-next, keptUnless-nothing, refuses}
+use Rattle.sheet_format.specs.Reading.{refusedRecord, held, recordHeld, recordContent, recordJudged, recordRead}
+use Rattle.sheet_reader.specs.Leaves.{readOutcome, ContentLeaves, BodyLeaves, RecordLeaves, tableJudged}
+use Rattle.sheet_reader.specs.Leaves.Laws.{given-first, readUnless-nothing, refuses}
 
 -- ---- the length
 pub length-missing : (r : List ℕ) → length r < 4 → 14 ≡ lengthNumber r
@@ -67,7 +64,12 @@ unknown-code (suc k) a b c d = kindOf-unknown (suc k) (omega arith)
 module _ {room : ℕ} {tb b : List ℕ} {st : SheetState} {m : List ℕ} {x : RecordRead} {code whole : ℕ} where
   pub table-leaves : code ≡ 1 → x ≡ tableJudged whole b st → BodyLeaves room code whole tb b st m x m
   unfolding kindNumber contentNumber bodyNumber leftoverNumber lastRoomNumber
-  table-leaves is judged = record { leaves = rw is (record { answer = judged; memory = λ enough. sym (keptUnless-nothing (contentNumber tableRecord (lent room) tb b st) m) }) }
+  table-leaves is judged =
+      let number = contentNumber tableRecord (lent room) tb b st in
+      let a = held tableRecord 1 whole tb b st in
+      record {
+        leaves = rw is (record { answer = judged; outcome = λ enough. rw judged (sym (readUnless-nothing number st m a)) });
+      }
 
   pub packed-leaves : {m′ : List ℕ} → code ≡ 2 → ContentLeaves packedRecord room 2 whole tb b st m x m′
       → BodyLeaves room code whole tb b st m x m′
@@ -94,3 +96,9 @@ pub judged-leaves : {tb r : List ℕ} {st : SheetState} {m : List ℕ} {x : Reco
     → x ≡ recordJudged tb r st
 unfolding recordJudged
 judged-leaves {tb} {r} {st} l = l .leaves .answer ∙ rw (recordNumber-enough 16384 (omega arith) tb r st)
+
+-- ---- a record that is read: the room is what is lent
+pub read-leaves : {tb r : List ℕ} {st : SheetState} {m : List ℕ} {x : RecordRead} {m′ : List ℕ} → RecordLeaves (length m) tb r st m x m′
+    → readOutcome x m′ ≡ recordRead tb r st m
+unfolding recordRead
+read-leaves l = l .leaves .outcome (omega arith)

@@ -1,28 +1,23 @@
 -- What judging and reading a record leave: the answer, and the memory lent for the content. Assumes nothing.
-use Prim.Native.Nat.{ℕ, zero, suc, _≤_}
+use Prim.Native.Nat.{ℕ, _≤_}
 use mathlib.Core.Path.{_≡_}
-use mathlib.Core.List.{List, [], _++_}
-use lib.ListN.{length, drop}
+use mathlib.Core.List.{List, []}
+use lib.ListN.{length}
 use Rattle.answer.specs.Outcome.{_orElse_}
 use Rattle.sheet_format.specs.declared.SheetState.{SheetState}
 use Rattle.sheet_format.specs.declared.RecordRead.{RecordRead}
 use Rattle.sheet_format.specs.Record.{Kind, tableRecord, kindOf, nothing, lent, kindNumber, contentNumber, recordNumber}
-use Rattle.sheet_format.specs.Reading.{held, contentHeld, recordHeld, recordContent, heldUnless, ReadOutcome}
+use Rattle.sheet_format.specs.Reading.{held, contentHeld, recordHeld, recordContent, heldUnless, ReadOutcome, readUnless}
 pub mod Laws
 
 abbrev pub readOutcome : RecordRead → List ℕ → ReadOutcome
 readOutcome a m = record { answer = a; memory = m }
 
--- the memory m after a reading with the content c, unless it is refused
-abbrev pub keptUnless : ℕ → List ℕ → List ℕ → List ℕ
-keptUnless zero c m = c ++ drop (length c) m
-keptUnless (suc e) c m = m
-
 -- what a reading leaves whose number is e, and which holds a and the content c where that is 0: the answer x, and m′ of the
 -- memory m. Where m has less than the room asked for, the record is only judged, and nothing is said of the memory
 pub record Leaves (e : ℕ) (st : SheetState) (a : RecordRead) (c : List ℕ) (room : ℕ) (m : List ℕ) (x : RecordRead) (m′ : List ℕ) : Type 0 where
   pub answer : x ≡ heldUnless e st a
-  pub memory : room ≤ length m → m′ ≡ keptUnless e c m
+  pub outcome : room ≤ length m → readOutcome x m′ ≡ readUnless e st m a c
 
 -- of the content of a record, its kind known
 pub record ContentLeaves (k : Kind) (room code whole : ℕ) (tb b : List ℕ) (st : SheetState) (m : List ℕ) (x : RecordRead) (m′ : List ℕ) : Type 0 where

@@ -1,3 +1,4 @@
+pub mod Part
 pub mod Leaves
 pub mod Frame
 pub mod Table

@@ -1,12 +1,13 @@
 -- What judging a line's numbers answers, and the passes over them. Assumes nothing.
 use Prim.Native.Nat.{ℕ, _-_, _*_, _≤_}
 use mathlib.Core.Path.{_≡_}
-use mathlib.Core.List.{List, _++_}
+use mathlib.Core.List.{List, [], _++_}
 use lib.ListN.{length, drop}
 use lib.IntN.{ℤ}
 use Rattle.sheet_format.specs.Line.{Line, numbers}
 use Rattle.sheet_format.specs.Line.Steps.{LineSoFar}
-use Rattle.sheet_format.specs.Record.{faultNumber, bytesOfLine}
+use Rattle.sheet_format.specs.declared.SheetState.{SheetState}
+use Rattle.sheet_format.specs.Record.{lineRecord, numberCount, lent, faultNumber, bytesOfLine, contentNumber}
 use Rattle.sheet_format.specs.Reading.{numberBytes}
 use Rattle.sheet_reader.specs.declared.numbers.LineJudged.{LineJudged}
 pub mod Laws
@@ -27,3 +28,8 @@ pub record Kept (n : ℕ) (s m out : List ℕ) (at i : ℕ) : Type 0 where
   pub walked : Walked n s at i
   pub same : length out ≡ length m
   pub front : out ≡ numberBytes (numbers (walked .values) at) ++ drop (4 * i) m
+
+-- what is known of an accepted record with the body b, whose count is given
+pub record LineAccepted (b : List ℕ) (st : SheetState) (room count : ℕ) : Type 0 where
+  pub count-is : count ≡ numberCount b
+  pub zero : contentNumber lineRecord (lent room) [] b st ≡ 0

@@ -1,14 +1,25 @@
--- The pass over a plain row's pixels. Assumes nothing.
+-- What a plain row's pixels show, and the pass over them. Assumes nothing.
 use Prim.Native.Nat.{ℕ, _*_, _≤_}
 use mathlib.Core.Path.{_≡_}
-use mathlib.Core.List.{List}
+use mathlib.Core.List.{List, []}
 use lib.ListN.{length, drop}
 use lib.Dec.{ltb}
 use Rattle.bitstream.specs.Bits.{halvesOf}
 use Rattle.row_format.specs.Lists.{any}
+use Rattle.sheet_format.specs.declared.SheetState.{SheetState}
+use Rattle.sheet_format.specs.Record.{plainRecord, lent, contentNumber}
+use Rattle.sheet_format.specs.Theorems.Judged.{Content}
+use Rattle.sheet_reader.specs.declared.row.RowFields.{RowFields}
+use Rattle.sheet_reader.specs.Row.{Fields}
 pub mod Laws
 
 -- none of the first i pixels of the bytes s is above 4095
 pub record NoneAbove (s : List ℕ) (i : ℕ) : Type 0 where
   pub within : 2 * i ≤ length s
   pub rest : any (ltb 4095) (halvesOf s) ≡ any (ltb 4095) (halvesOf (drop (2 * i) s))
+
+-- what is known of an accepted record with the body b, whose fields are f
+pub record PlainAccepted (b : List ℕ) (st : SheetState) (room : ℕ) (f : RowFields) : Type 0 where
+  pub fields : Fields b f
+  pub zero : contentNumber plainRecord (lent room) [] b st ≡ 0
+  pub content : Content plainRecord (lent room) [] b

@@ -14,9 +14,15 @@ ghost use lib.ListN.{length};
 ghost use Rattle.sheet_format.specs.Record.{lengthNumber};
 ghost use Rattle.sheet_reader.specs.Leaves.{RecordLeaves, BodyLeaves};
 
-// The record at the front of `sheet`, where so much room is asked of its content as if lent. The content is written where
+// The record at the front of `sheet`. It is refused 5 as if `room` bytes were lent, and its content is written where
 // `content` has that room; where it has less, the record is only judged.
-pub fn read(table: &[u8], sheet: &[u8], state: SheetState, room: usize, content: &mut [u8]) -> RecordRead
+pub fn read(
+    table: &[u8],
+    sheet: &[u8],
+    state: SheetState,
+    room: usize,
+    content: &mut [u8],
+) -> RecordRead
     ensures { λ r. ⌜ RecordLeaves room (now (table .entry)) (now (sheet .entry)) state (now (content .entry)) r (now (content .exit)) ⌝ }
 {
     let number = length_number(sheet);
@@ -30,7 +36,7 @@ pub fn read(table: &[u8], sheet: &[u8], state: SheetState, room: usize, content:
     read_body(kind, table, body, whole, state, room, content)
 }
 
-// 14 where the length is wrong, else 0.
+// 14, or 0 where the length is in order: "2 to 32,774", and no more than the bytes left.
 fn length_number(sheet: &[u8]) -> u32
     ensures { λ r. ⌜ r ≡ lengthNumber (now (sheet .entry)) ⌝ }
 {
@@ -51,7 +57,15 @@ fn length_number(sheet: &[u8]) -> u32
 }
 
 // The one place where kinds are told apart.
-fn read_body(kind: u32, table: &[u8], body: &[u8], whole: u32, state: SheetState, room: usize, content: &mut [u8]) -> RecordRead
+fn read_body(
+    kind: u32,
+    table: &[u8],
+    body: &[u8],
+    whole: u32,
+    state: SheetState,
+    room: usize,
+    content: &mut [u8],
+) -> RecordRead
     requires { ⌜ length (now body) ≤ 32772 ⌝ }
     ensures { λ r. ⌜ BodyLeaves room kind whole (now (table .entry)) (now (body .entry)) state (now (content .entry)) r (now (content .exit)) ⌝ }
 {

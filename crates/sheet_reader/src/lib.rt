@@ -8,6 +8,7 @@ mod packed;
 mod plain;
 mod row;
 mod table;
+
 use sheet_format::RecordRead;
 use sheet_format::SheetState;
 ghost use mathlib.Core.Path.{_≡_};

@@ -14,7 +14,13 @@ ghost use Rattle.answer.specs.Outcome.{_orElse_};
 ghost use Rattle.sheet_format.specs.Record.{lineRecord, numberCount, lent, lineNumber, leftoverNumber, lastRoomNumber};
 ghost use Rattle.sheet_reader.specs.Leaves.{ContentLeaves};
 
-pub fn read_line(body: &[u8], whole: u32, state: SheetState, room: usize, content: &mut [u8]) -> RecordRead
+pub fn read_line(
+    body: &[u8],
+    whole: u32,
+    state: SheetState,
+    room: usize,
+    content: &mut [u8],
+) -> RecordRead
     ensures { λ r. ⌜ ContentLeaves lineRecord room 4 whole [] (now (body .entry)) state (now (content .entry)) r (now (content .exit)) ⌝ }
 {
     if body.len() < 2 {

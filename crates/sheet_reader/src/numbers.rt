@@ -20,7 +20,7 @@ pub struct LineJudged {
 pub fn judge_numbers(line: &[u8], count: usize) -> LineJudged
     ensures { λ r. ⌜ r ≡ lineJudged (readLine count (now (line .entry))) ⌝ }
 {
-    // i numbers are read, and the next is at `at`
+    // i numbers are read, and the next one begins at byte `at`
     let mut at = 0;
     let mut i = 0;
     while i < count {
@@ -33,10 +33,14 @@ pub fn judge_numbers(line: &[u8], count: usize) -> LineJudged
         at += read.used as usize;
         i += 1;
     }
-    LineJudged { number: 0, used: at }
+    LineJudged {
+        number: 0,
+        used: at,
+    }
 }
 
-// The same numbers to the front of `content`, four bytes each.
+// The numbers of a line that was judged to the front of `content`, four bytes each; nothing where less than the room is
+// lent.
 pub fn keep_numbers(line: &[u8], count: usize, room: usize, content: &mut [u8])
     requires { ⌜ faultNumber (readLine count (now line)) ≡ 0 ⌝ }
     requires { ⌜ 4 * count ≤ room ⌝ }

@@ -20,9 +20,17 @@ const MOST_ROW_BYTES: usize = 8192;
 
 // A row's pixels are unpacked before a leftover word is known, and a refusal leaves `content` as it was: so they go to
 // memory of this call first.
-pub fn read_packed(table: &[u8], body: &[u8], whole: u32, state: SheetState, room: usize, content: &mut [u8]) -> RecordRead
+pub fn read_packed(
+    table: &[u8],
+    body: &[u8],
+    whole: u32,
+    state: SheetState,
+    room: usize,
+    content: &mut [u8],
+) -> RecordRead
     ensures { λ r. ⌜ ContentLeaves packedRecord room 2 whole (now (table .entry)) (now (body .entry)) state (now (content .entry)) r (now (content .exit)) ⌝ }
 {
+    // a missing field is 14 too, so that the order of the two does not matter
     if body.len() % 4 != 0 {
         return refused(14, state);
     }
@@ -33,7 +41,7 @@ pub fn read_packed(table: &[u8], body: &[u8], whole: u32, state: SheetState, roo
     }
     let row = fields.row;
     let count = fields.count;
-    let mut pixels = [0u8; 8192];
+    let mut pixels = [0u8; MOST_ROW_BYTES];
     let unpacked = unpack_row(table, body, count, room, &mut pixels);
     let number = unpacked.number;
     if number != 0 {
@@ -43,8 +51,8 @@ pub fn read_packed(table: &[u8], body: &[u8], whole: u32, state: SheetState, roo
     held(2, row, count, unpacked.count, whole, after_row(row, state))
 }
 
-// The row's bits, and its pixels to the front of `pixels`; 14 where a word is left after the last used one. Lent no more
-// than the room, unpacking itself gives 5 in its turn.
+// The row's bits, and its pixels to the front of `pixels`; 14 where a word is left after the last used one. Unpacking gives
+// 5 in its turn, since it is lent no more than the room.
 fn unpack_row(table: &[u8], body: &[u8], count: u32, room: usize, pixels: &mut [u8]) -> Answer
     requires { ⌜ 4 ≤ length (now body) ⌝ }
     requires { ⌜ count ≡ pixelCount (now body) ⌝ }
@@ -66,7 +74,10 @@ fn unpack_row(table: &[u8], body: &[u8], count: u32, room: usize, pixels: &mut [
             count: 0,
         };
     }
-    Answer { number: 0, count: bits }
+    Answer {
+        number: 0,
+        count: bits,
+    }
 }
 
 fn smaller(a: usize, b: usize) -> usize

@@ -18,7 +18,13 @@ ghost use Rattle.row_format.specs.Lists.{any};
 ghost use Rattle.sheet_format.specs.Record.{plainRecord, pixelCount, lent, plainNumber, lastRoomNumber};
 ghost use Rattle.sheet_reader.specs.Leaves.{ContentLeaves};
 
-pub fn read_plain(body: &[u8], whole: u32, state: SheetState, room: usize, content: &mut [u8]) -> RecordRead
+pub fn read_plain(
+    body: &[u8],
+    whole: u32,
+    state: SheetState,
+    room: usize,
+    content: &mut [u8],
+) -> RecordRead
     ensures { λ r. ⌜ ContentLeaves plainRecord room 3 whole [] (now (body .entry)) state (now (content .entry)) r (now (content .exit)) ⌝ }
 {
     let fields = row_fields(body, state);

@@ -1,20 +1,15 @@
-use Rattle.sheet_reader.specs.Frame.{judged-leaves}
+-- `sheet_reader::judge_record` meets its contract: the room of the longest content is never too small. Assumes nothing.
 use borrow.Author.Needs.{needs}
+use Rattle.sheet_reader.specs.Frame.{judged-leaves}
 use Rattle.sheet_reader.proofs.judge_record.Statement.{statement}
 use Rattle.sheet_reader.proofs.judge_record.Tie as tie
-use Rattle.sheet_reader.proofs.judge_record.Reads as reads
-use Rattle.sheet_reader.proofs.judge_record.Lts as lts
-use Rattle.sheet_reader.proofs.frame.read.Reads as read-reads
 
--- src/lib.rt:26:58
 slice-aggregate-read : tie.Need-slice-aggregate-read
 slice-aggregate-read c = search needs
 
--- src/lib.rt:26:5
 read-requires : tie.Need-read-requires
 read-requires c κs = search needs
 
--- src/lib.rt:22:1
 returns : tie.Need-returns
 returns c = judged-leaves (c .before .read .ensures)
 

@@ -1,17 +1,16 @@
 -- The ways out of a row's fields and place. Assumes nothing.
-use Prim.Native.Nat.{ℕ, _*_, _^_, _≤_, _<_}
+use Prim.Native.Nat.{ℕ, _*_, _≤_, _<_}
 use native.Mathlib.Omega.{arith}
-use mathlib.Core.Path.{_≡_, refl, sym, ap, _∙_}
+use mathlib.Core.Path.{_≡_, ap, _∙_}
 use mathlib.Core.List.{List}
-use lib.ListN.{length, take, drop}
+use lib.ListN.{length, take}
 use lib.Seq.{length-take-le}
 use borrow.Author.Tests.{lt-ltb, le-ltb, eq-eqb, ne-eqb}
 use Rattle.bitstream.specs.Bits.{bitsOf, numberOf}
 use Rattle.bitstream.specs.Bits.Laws.{numOf-lt, below-flat, length-flat}
 use Rattle.sheet_format.specs.declared.SheetState.{SheetState}
 use Rattle.sheet_format.specs.Record.{plainRecord, rowNumber, pixelCount, fixedNumber, placeNumber}
-use Rattle.sheet_reader.specs.declared.row.RowFields.{RowFields}
-use Rattle.sheet_reader.specs.Row.{Fields, FieldsOf}
+use Rattle.sheet_reader.specs.Row.{FieldsOf}
 
 -- two bytes hold a number below 65536
 two-bytes-small : (s : List ℕ) → 2 ≤ length s → numberOf (take 2 s) < 65536
@@ -39,10 +38,10 @@ module _ (b : List ℕ) (st : SheetState) where
   unfolding fixedNumber
   fields-missing h = record { number = rw (lt-ltb (length b) 4 h); fields = λ e. absurd (omega arith) }
 
-  pub fields-there : 4 ≤ length b → (row count place : ℕ) → row ≡ rowNumber b → count ≡ pixelCount b → place ≡ placeNumber plainRecord row st
+  pub fields-there : 4 ≤ length b → {row count place : ℕ} → row ≡ rowNumber b → count ≡ pixelCount b → place ≡ placeNumber plainRecord row st
       → FieldsOf b st (record { number = place; row = row; count = count })
   unfolding fixedNumber
-  fields-there h row count place row-is count-is place-is = record {
+  fields-there h row-is count-is place-is = record {
     number = rw (le-ltb (length b) 4 h, ← row-is) place-is;
     fields = λ e. record { there = h; row = row-is; count = count-is; small = rw row-is (two-bytes-small b (omega arith)) };
   }

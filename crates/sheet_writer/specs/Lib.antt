@@ -1,9 +1,12 @@
 pub mod Outcome
 pub mod Fields
 pub mod Frame
+pub mod Place
 pub mod Table
-pub mod Row
 pub mod Packed
+pub mod Pixels
 pub mod Plain
+pub mod Number
+pub mod Numbers
 pub mod Line
 pub mod Record

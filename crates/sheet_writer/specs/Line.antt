@@ -1,20 +1,53 @@
--- Writing a line: its numbers one after another. Definitions only. Assumes nothing.
-use Prim.Native.Nat.{ℕ, _≤_}
-use mathlib.Core.Path.{_≡_}
-use mathlib.Core.List.{List, _++_}
-use lib.ListN.{length, take, drop}
-use lib.IntN.{ℤ}
+-- The ways out of writing a line. Assumes nothing.
+use Prim.Native.Nat.{ℕ, _+_, _-_, _/_, _≤_, _<_}
+use native.Mathlib.Omega.{arith}
+use mathlib.Core.Path.{_≡_, refl}
+use mathlib.Core.List.{List, []}
+use lib.ListN.{length}
+use borrow.Author.Tests.{lt-ltb, le-ltb, eq-eqb, ne-eqb}
+use Rattle.sheet_format.specs.declared.SheetState.{SheetState}
 use Rattle.sheet_format.specs.Line.{lineBytes}
-pub mod Laws
+use Rattle.sheet_format.specs.Line.Laws.{length-lineBytes}
+use Rattle.sheet_format.specs.Record.{lineRecord, kindNumber, placeNumber}
+use Rattle.sheet_format.specs.Record.Laws.{lessNumber-zero}
+use Rattle.sheet_format.specs.Writing.{givenNumbers, bodyFor, givenNumber}
+use Rattle.row_format.specs.Calls.Laws.{orElse-zero-right}
+use Rattle.sheet_writer.specs.Outcome.{judged}
+use Rattle.sheet_writer.specs.Fields.{lineFields}
+use Rattle.sheet_writer.specs.Fields.Laws.{length-lineFields, line-fields}
+use Rattle.sheet_writer.specs.Frame.{Frame}
+use Rattle.sheet_writer.specs.Number.Laws.{length-given}
 
--- the first i of the numbers vs take so many bytes
-pub record Reached (vs : List ℤ) (bytes i : ℕ) : Type 0 where
-  pub within : i ≤ length vs
-  pub sum : bytes ≡ length (lineBytes (take i vs))
+-- ---- how the record stands
+pub line-frame : (c : List ℕ)
+    → Frame 4 0 [] c (lineFields 4 (length c / 4) (8 + length (lineBytes (givenNumbers c)))) (lineBytes (givenNumbers c)) 8
+unfolding kindNumber bodyFor
+line-frame c =
+    record {
+      known = refl;
+      bytes = rw (length-given c) (line-fields 4 (length c / 4) (lineBytes (givenNumbers c)));
+      fields = length-lineFields 4 (length c / 4) (8 + length (lineBytes (givenNumbers c)));
+    }
 
--- these are put: m was the memory, o it is now
-pub record Putting (vs : List ℤ) (m o : List ℕ) (at i : ℕ) : Type 0 where
-  pub reached : Reached vs at i
-  pub memory : o ≡ lineBytes (take i vs) ++ drop at m
-  pub size : length o ≡ length m
-  pub inside : at ≤ length o
+-- ---- its number
+module _ (c : List ℕ) (st : SheetState) where
+  pub line-first : st .tables ≡ 0 → 16 ≡ judged lineRecord 0 [] c st
+  unfolding judged placeNumber
+  line-first e = rw (eq-eqb (st .tables) 0 e)
+
+  module _ (table : st .tables ≡ 0 → ⊥) where
+    pub line-many : 4096 < length c / 4 → 11 ≡ judged lineRecord 0 [] c st
+    unfolding judged placeNumber givenNumber
+    line-many h = rw (ne-eqb (st .tables) 0 table, length-given c, lt-ltb 4096 (length c / 4) h)
+
+    pub line-right : length c / 4 ≤ 4096 → 0 ≡ judged lineRecord 0 [] c st
+    unfolding judged placeNumber givenNumber
+    line-right h = rw (ne-eqb (st .tables) 0 table, length-given c, le-ltb 4096 (length c / 4) h)
+
+  pub line-few : judged lineRecord 0 [] c st ≡ 0 → length c / 4 ≤ 4096
+  unfolding judged givenNumber
+  line-few e =
+      omega (arith, length-given c, lessNumber-zero 4096 (length (givenNumbers c)) 10 (orElse-zero-right (placeNumber lineRecord 0 st) _ e))
+
+pub line-most : (c : List ℕ) → length c / 4 ≤ 4096 → length (lineBytes (givenNumbers c)) ≤ 20480
+line-most c few = omega (arith, length-given c, length-lineBytes (givenNumbers c))

@@ -11,7 +11,7 @@ use lib.Seq.{take-all}
 use lib.Dec.{ltb}
 use borrow.Author.Tests.{lt-ltb, le-ltb}
 use borrow.Rule.Slice.PartMut.{put-same}
-use Rattle.bitstream.specs.Bits.{bytesOf, halvesOf, wordsOf, wordsFor}
+use Rattle.bitstream.specs.Bits.{halvesOf, wordsOf, wordsFor}
 use Rattle.bitstream.specs.Bits.Laws.{length-cut}
 use Rattle.answer.specs.declared.Answer.{Answer}
 use Rattle.answer.specs.Outcome as answers

@@ -1,10 +1,10 @@
--- Writing a row as it is: its pixels looked through, and its ways out. Assumes nothing.
+-- The ways out of writing a row as it is. Assumes nothing.
 use Prim.Native.Nat.{ℕ, _+_, _*_, _/_, _≤_, _<_}
 use native.Mathlib.Omega.{arith}
-use mathlib.Core.Path.{_≡_, refl, sym, ap, _∙_}
+use mathlib.Core.Path.{_≡_, refl, _∙_}
 use mathlib.Core.Bool.{true, false}
 use mathlib.Core.List.{List, []}
-use lib.ListN.{length, take, drop, getD}
+use lib.ListN.{length, take}
 use lib.Seq.{length-take-le}
 use lib.Dec.{ltb}
 use borrow.Author.Tests.{lt-ltb, le-ltb}
@@ -14,7 +14,6 @@ use Rattle.row_format.specs.Lists.{any}
 use Rattle.row_format.specs.Calls.{tooMany}
 use Rattle.row_format.specs.Calls.Laws.{orElse-zero-left, orElse-zero-right}
 use Rattle.row_packer.specs.Pixels.{length-halves}
-use Rattle.row_packer.specs.Remaining.Laws.{drop-more, drop-end}
 use Rattle.sheet_format.specs.declared.SheetState.{SheetState}
 use Rattle.sheet_format.specs.Record.{packedRecord, plainRecord, kindNumber, placeNumber}
 use Rattle.sheet_format.specs.Record.Laws.{lessNumber-zero}
@@ -24,30 +23,6 @@ use Rattle.sheet_writer.specs.Outcome.Laws.{judged-placed}
 use Rattle.sheet_writer.specs.Fields.{rowFields}
 use Rattle.sheet_writer.specs.Fields.Laws.{length-rowFields, row-fields}
 use Rattle.sheet_writer.specs.Frame.{Frame}
-
--- ---- after i pixels, none of them above 4095
-pub record Looking (ps : List ℕ) (i : ℕ) : Type 0 where
-  pub within : i ≤ length ps
-  pub above : any (ltb 4095) ps ≡ any (ltb 4095) (drop i ps)
-
-module _ (ps : List ℕ) where
-  pub looking-none : Looking ps 0
-  looking-none = record { within = omega arith; above = refl }
-
-  module _ (i : ℕ) (l : Looking ps i) where
-    module _ (h : i < length ps) (pixel : ℕ) (e : pixel ≡ getD ps i 0) where
-      pub looking-more : pixel ≤ 4095 → Looking ps (i + 1)
-      unfolding any
-      looking-more low =
-          record { within = omega arith; above = l .above ∙ rw (drop-more ps i h e, le-ltb 4095 pixel low) }
-
-      pub looked-above : 4095 < pixel → true ≡ any (ltb 4095) ps
-      unfolding any
-      looked-above high = rw (l .above, drop-more ps i h e, lt-ltb 4095 pixel high)
-
-    pub looked-all : length ps ≤ i → false ≡ any (ltb 4095) ps
-    unfolding any
-    looked-all g = rw (l .above, drop-end ps i (l .within) g)
 
 -- ---- how the record stands
 abbrev pub wholePixels : List ℕ → List ℕ

@@ -3,7 +3,7 @@ use sheet_format::RecordWritten;
 use sheet_format::SheetState;
 ghost use mathlib.Core.Path.{_≡_};
 
-// A refusal counts nothing, and the state is as it was.
+// Nothing is counted, and the sheet holds what it held.
 pub fn refused(number: u32, state: SheetState) -> RecordWritten
     ensures { λ r. ⌜ r ≡ record { number = number; count = 0; state = state } ⌝ }
 {
@@ -14,7 +14,7 @@ pub fn refused(number: u32, state: SheetState) -> RecordWritten
     }
 }
 
-// So many bytes are written, after which the sheet holds `state`.
+// So many bytes are written, and the sheet now holds `state`.
 pub fn written(count: u32, state: SheetState) -> RecordWritten
     ensures { λ r. ⌜ r ≡ record { number = 0; count = count; state = state } ⌝ }
 {

@@ -1,8 +1,9 @@
-// Writing the records of a sheet. What the call answers is defined in sheet_format's specs/Writing.antt.
+// Writing the records of a sheet. What the one call answers is defined in sheet_format's specs/Writing.antt.
 mod done;
 mod fields;
 mod line;
 mod number;
+mod numbers;
 mod packed;
 mod pixels;
 mod place;

@@ -1,4 +1,4 @@
-// The numbers of a line, four little-endian bytes each in two's complement, and in a record signed adaptive numbers.
+// One number of a line: given as four little-endian bytes in two's complement, written as a signed adaptive number.
 use adaptive::write_signed;
 use bitstream::number::read_u32;
 ghost use mathlib.Core.Path.{_≡_};
@@ -9,7 +9,7 @@ ghost use Rattle.adaptive.specs.Number.{signed, shortest};
 ghost use Rattle.sheet_format.specs.Line.{signedOf};
 ghost use Rattle.sheet_format.specs.Writing.{givenNumbers};
 
-// Number i.
+// Number i of the content.
 pub fn number_at(content: &[u8], i: usize) -> i32
     requires { ⌜ i < length (now content) / 4 ⌝ }
     ensures { λ r. ⌜ r ≡ getD (givenNumbers (now (content .entry))) i (pos 0) ⌝ }
@@ -28,12 +28,11 @@ fn signed_of(word: u32) -> i32
     }
 }
 
-// The bytes that a number takes in a record.
+// The bytes that a number takes in a record, found by writing it: none takes more than five.
 pub fn number_bytes(value: i32) -> usize
     ensures { λ r. ⌜ r ≡ length (shortest signed value) ⌝ }
 {
-    // no number takes more than five
     let mut scratch = [0u8; 5];
-    let written = write_signed(value, &mut scratch);
-    written.count as usize
+    let put = write_signed(value, &mut scratch);
+    put.count as usize
 }

@@ -12,7 +12,8 @@ ghost use Prim.Native.Nat.{min};
 ghost use Rattle.sheet_format.specs.Writing.{recordWritten};
 ghost use Rattle.sheet_writer.specs.Outcome.{outcome};
 
-const FIELDS: usize = 10;
+// Length 4, kind 2, row number 2 and pixel count 2.
+const FIELD_BYTES: usize = 10;
 
 pub fn write_packed(row: u16, content: &[u8], table: &[u8], state: SheetState, out: &mut [u8]) -> RecordWritten
     ensures { λ r. ⌜ outcome r (now (out .exit)) ≡ recordWritten 2 row (now (table .entry)) (now (content .entry)) state (now (out .entry)) ⌝ }
@@ -21,19 +22,21 @@ pub fn write_packed(row: u16, content: &[u8], table: &[u8], state: SheetState, o
     if place != 0 {
         return refused(place, state);
     }
-    // The words go straight to their place behind the fields; where not even these have room, to the empty rest of the
-    // memory, so that packing gives the numbers that come before 5 and writes nothing.
-    let start = lesser(FIELDS, out.len());
+    // The words are packed straight to their place behind the fields. Memory that is too small for these lends its empty
+    // end: packing then gives the numbers that come before 5, and writes nothing.
+    let start = lesser(FIELD_BYTES, out.len());
     let packed = pack(table, content, &mut out[start..]);
     if packed.number != 0 {
         return refused(packed.number, state);
     }
-    if start < FIELDS {
+    if start < FIELD_BYTES {
         return refused(5, state);
     }
-    let bytes = 10 + 4 * ((packed.count + 31) / 32);
-    put_row_fields(2, row, (content.len() / 2) as u32, bytes, out);
-    written(bytes, after_row(row, state))
+    let pixels = content.len() / 2;
+    let words = ((packed.count + 31) / 32) as usize;
+    let record_bytes = FIELD_BYTES + 4 * words;
+    put_row_fields(2, row, pixels as u32, record_bytes as u32, out);
+    written(record_bytes as u32, after_row(row, state))
 }
 
 fn lesser(a: usize, b: usize) -> usize

@@ -1,5 +1,6 @@
-// The pixels of a row that is written as it is, two little-endian bytes each.
+// The pixels of a row, two little-endian bytes each.
 use bitstream::number::read_u16;
+use row_format::MAX_PIXEL;
 ghost use mathlib.Core.Path.{_≡_};
 ghost use lib.Dec.{ltb};
 ghost use Rattle.bitstream.specs.Bits.{halvesOf};
@@ -12,7 +13,7 @@ pub fn any_above(pixels: &[u8]) -> bool
     let n = pixels.len() / 2;
     let mut i = 0;
     while i < n {
-        if 4095 < read_u16(pixels, 2 * i) {
+        if MAX_PIXEL < read_u16(pixels, 2 * i) {
             return true;
         }
         i += 1;

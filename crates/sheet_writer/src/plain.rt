@@ -14,7 +14,8 @@ ghost use Rattle.sheet_format.specs.Record.{plainRecord};
 ghost use Rattle.sheet_format.specs.Writing.{recordWritten};
 ghost use Rattle.sheet_writer.specs.Outcome.{outcome, judged};
 
-const FIELDS: usize = 10;
+// Length 4, kind 2, row number 2 and pixel count 2.
+const FIELD_BYTES: usize = 10;
 
 pub fn write_plain(row: u16, content: &[u8], state: SheetState, out: &mut [u8]) -> RecordWritten
     ensures { λ r. ⌜ outcome r (now (out .exit)) ≡ recordWritten 3 row [] (now (content .entry)) state (now (out .entry)) ⌝ }
@@ -23,16 +24,16 @@ pub fn write_plain(row: u16, content: &[u8], state: SheetState, out: &mut [u8]) 
     if number != 0 {
         return refused(number, state);
     }
-    let n = content.len() / 2;
-    let bytes = FIELDS + 2 * n;
-    if out.len() < bytes {
+    // half a pixel at the end counts for nothing
+    let pixels = content.len() / 2;
+    let end = 2 * pixels;
+    let record_bytes = FIELD_BYTES + end;
+    if out.len() < record_bytes {
         return refused(5, state);
     }
-    // an incomplete pixel at the end counts for nothing
-    let end = 2 * n;
-    copy(&content[..end], &mut out[FIELDS..]);
-    put_row_fields(3, row, n as u32, bytes as u32, out);
-    written(bytes as u32, after_row(row, state))
+    copy(&content[..end], &mut out[FIELD_BYTES..]);
+    put_row_fields(3, row, pixels as u32, record_bytes as u32, out);
+    written(record_bytes as u32, after_row(row, state))
 }
 
 // The refusals before the one for room: 16, 11, 4.

@@ -12,7 +12,8 @@ ghost use Rattle.sheet_format.specs.Record.{tableRecord};
 ghost use Rattle.sheet_format.specs.Writing.{recordWritten};
 ghost use Rattle.sheet_writer.specs.Outcome.{outcome, judged};
 
-const FIELDS: usize = 6;
+// Length 4 and kind 2.
+const FIELD_BYTES: usize = 6;
 
 pub fn write_table(content: &[u8], state: SheetState, out: &mut [u8]) -> RecordWritten
     ensures { λ r. ⌜ outcome r (now (out .exit)) ≡ recordWritten 1 0 [] (now (content .entry)) state (now (out .entry)) ⌝ }
@@ -21,17 +22,17 @@ pub fn write_table(content: &[u8], state: SheetState, out: &mut [u8]) -> RecordW
     if number != 0 {
         return refused(number, state);
     }
-    let bytes = FIELDS + content.len();
-    if out.len() < bytes {
+    let record_bytes = FIELD_BYTES + content.len();
+    if out.len() < record_bytes {
         return refused(5, state);
     }
-    copy(content, &mut out[FIELDS..]);
-    put_record_fields(1, bytes as u32, out);
+    copy(content, &mut out[FIELD_BYTES..]);
+    put_record_fields(1, record_bytes as u32, out);
     let next = SheetState {
         tables: 1,
         least: state.least,
     };
-    written(bytes as u32, next)
+    written(record_bytes as u32, next)
 }
 
 // The refusals before the one for room: 16, and 1 to 3.

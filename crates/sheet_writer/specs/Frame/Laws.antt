@@ -9,7 +9,7 @@ use lib.Dec.{ltb}
 use Rattle.answer.specs.Outcome.{_orElse_, refuseIf}
 use Rattle.sheet_format.specs.declared.SheetState.{SheetState}
 use Rattle.sheet_format.specs.declared.RecordWritten.{RecordWritten}
-use Rattle.sheet_format.specs.Record.{kindOf, kindNumber, placeNumber}
+use Rattle.sheet_format.specs.Record.{kindOf, placeNumber}
 use Rattle.sheet_format.specs.Record.Laws.{lessNumber-none, lessNumber-given}
 use Rattle.sheet_format.specs.Reading.{stateAfter}
 use Rattle.sheet_format.specs.Writing.{bodyFor, recordBytes, givenNumber, writeNumber, recordWritten}

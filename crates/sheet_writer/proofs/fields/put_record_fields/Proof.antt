@@ -7,25 +7,25 @@ use Rattle.sheet_writer.proofs.fields.put_record_fields.Lts as lts
 use Rattle.bitstream.proofs.number.put_u16.Reads as put-u16-reads
 use Rattle.bitstream.proofs.number.put_u32.Reads as put-u32-reads
 
--- src/fields.rt:17:21
+-- src/fields.rt:16:21
 sub-put-u32 : tie.Need-sub-put-u32
 sub-put-u32 c = search needs
 
--- src/fields.rt:17:5
+-- src/fields.rt:16:5
 put-u32-requires : tie.Need-put-u32-requires
 put-u32-requires c κs = search needs
 
--- src/fields.rt:18:5
+-- src/fields.rt:17:5
 put-u16-requires : tie.Need-put-u16-requires
 put-u16-requires c κs = search needs
 
--- src/fields.rt:12:1
+-- src/fields.rt:11:1
 same-length : tie.Need-same-length
 same-length c = search needs
 
--- src/fields.rt:12:1
+-- src/fields.rt:11:1
 returns : tie.Need-returns
-returns c = put-record-done (c .before .before .before .before .before .before .before .before .before .args .out .now) (c .before .before .before .before .before .before .put-u32 .last .0) (c .before .before .put-u16 .last .0) (c .before .before .before .before .before .before .before .before .before .args .kind) (c .before .before .before .before .before .before .before .before .before .args .bytes) (c .before .before .before .before .before .before .put-u32 .ensures) (c .before .before .put-u16 .ensures)
+returns c = let a = c .before .before .before .before .before .before .before .before .before .args in put-record-done (a .out .now) (c .before .before .before .before .before .before .put-u32 .last .0) (c .before .before .put-u16 .last .0) (a .kind) (a .record-bytes) (c .before .before .before .before .before .before .put-u32 .ensures) (c .before .before .put-u16 .ensures)
 
 pub put-record-fields-spec : {M : Type 1} → statement M
 put-record-fields-spec =

@@ -7,25 +7,25 @@ use Rattle.sheet_writer.proofs.fields.put_row_fields.Lts as lts
 use Rattle.bitstream.proofs.number.put_u16.Reads as put-u16-reads
 use Rattle.sheet_writer.proofs.fields.put_record_fields.Reads as put-record-fields-reads
 
--- src/fields.rt:27:5
+-- src/fields.rt:26:5
 put-record-fields-requires : tie.Need-put-record-fields-requires
 put-record-fields-requires c κs = search needs
 
--- src/fields.rt:28:5
+-- src/fields.rt:27:5
 put-u16-requires : tie.Need-put-u16-requires
 put-u16-requires c κs = search needs
 
--- src/fields.rt:29:5
+-- src/fields.rt:28:5
 put-u16-requires-2 : tie.Need-put-u16-requires-2
 put-u16-requires-2 c κs = search needs
 
--- src/fields.rt:22:1
+-- src/fields.rt:21:1
 same-length : tie.Need-same-length
 same-length c = search needs
 
--- src/fields.rt:22:1
+-- src/fields.rt:21:1
 returns : tie.Need-returns
-returns c = put-row-done (c .before .before .before .before .before .before .before .before .before .before .before .before .before .args .out .now) (c .before .before .before .before .before .before .before .before .before .before .put-record-fields .last .1 .1 .0) (c .before .before .before .before .before .before .put-u16 .last .0) (c .before .before .put-u162 .last .0) (c .before .before .before .before .before .before .before .before .before .before .before .before .before .args .kind) (c .before .before .before .before .before .before .before .before .before .before .before .before .before .args .row) (c .before .before .before .before .before .before .before .before .before .before .before .before .before .args .pixels) (c .before .before .before .before .before .before .before .before .before .before .before .before .before .args .bytes) (c .before .before .before .before .before .before .before .before .before .before .put-record-fields .ensures) (c .before .before .before .before .before .before .put-u16 .ensures) (c .before .before .put-u162 .ensures)
+returns c = let a = c .before .before .before .before .before .before .before .before .before .before .before .before .before .args in put-row-done (a .out .now) (c .before .before .before .before .before .before .before .before .before .before .put-record-fields .last .1 .1 .0) (c .before .before .before .before .before .before .put-u16 .last .0) (c .before .before .put-u162 .last .0) (a .kind) (a .row) (a .pixels) (a .record-bytes) (c .before .before .before .before .before .before .before .before .before .before .put-record-fields .ensures) (c .before .before .before .before .before .before .put-u16 .ensures) (c .before .before .put-u162 .ensures)
 
 pub put-row-fields-spec : {M : Type 1} → statement M
 put-row-fields-spec =

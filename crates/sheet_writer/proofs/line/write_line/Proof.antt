@@ -1,12 +1,11 @@
-use Prim.Native.Nat.{_+_, _≤_}
-use lib.ListN.{length}
-use Rattle.sheet_format.specs.Line.{lineBytes}
-use Rattle.sheet_format.specs.Writing.{givenNumbers}
+use Prim.Native.Nat.{_+_, _-_, _/_, _≤_}
+use lib.ListN.{length, getD, length-drop}
 use native.Mathlib.Omega.{arith}
 use mathlib.Core.Path.{_∙_, sym, ap}
-use Rattle.sheet_writer.specs.Line.Laws.{line-frame, line-few, line-most}
-use Rattle.sheet_writer.specs.Frame.Laws.{part-is, frame-refused, frame-full, frame-passed, frame-done}
-use lib.ListN.{length-drop}
+use Rattle.sheet_format.specs.Line.{lineBytes}
+use Rattle.sheet_format.specs.Writing.{givenNumbers}
+use Rattle.sheet_writer.specs.Line.{line-frame, line-few, line-most}
+use Rattle.sheet_writer.specs.Frame.Laws.{part-is, copied, frame-refused, frame-full, frame-passed, frame-done}
 use borrow.Author.Needs.{needs}
 use Rattle.sheet_writer.proofs.line.write_line.Statement.{statement}
 use Rattle.sheet_writer.proofs.line.write_line.Tie as tie
@@ -15,81 +14,81 @@ use Rattle.sheet_writer.proofs.line.write_line.Lts as lts
 use Rattle.sheet_writer.proofs.done.refused.Reads as refused-reads
 use Rattle.sheet_writer.proofs.done.written.Reads as written-reads
 use Rattle.sheet_writer.proofs.fields.put_line_fields.Reads as put-line-fields-reads
-use Rattle.sheet_writer.proofs.line.line_bytes.Reads as line-bytes-reads
 use Rattle.sheet_writer.proofs.line.line_number.Reads as line-number-reads
-use Rattle.sheet_writer.proofs.line.put_numbers.Reads as put-numbers-reads
+use Rattle.sheet_writer.proofs.numbers.line_bytes.Reads as line-bytes-reads
+use Rattle.sheet_writer.proofs.numbers.put_numbers.Reads as put-numbers-reads
 
--- src/line.rt:24:9
+-- src/line.rt:21:9
 line-number-requires : tie.Need-line-number-requires
 line-number-requires c κs = search needs
 
--- src/line.rt:26:9
+-- src/line.rt:23:9
 refused-requires : tie.Need-refused-requires
 refused-requires c κs = search needs
 
--- src/line.rt:26:9
+-- src/line.rt:23:9
 returns : tie.Need-returns
-returns c = frame-refused (line-frame (c .before .before .before .before .before .args .content .now)) (c .before .before .before .before .before .args .state) (c .before .before .before .before .before .args .out .now) (c .refused .result) (c .before .before .line-number .result) (c .before .before .line-number .ensures) (c .before .if1 .taken) (c .refused .ensures)
+returns c = let a = c .before .before .before .before .before .args in frame-refused (line-frame (a .content .now)) (a .state) (a .out .now) (c .refused .result) (c .before .before .line-number .result) (c .before .before .line-number .ensures) (c .before .if1 .taken) (c .refused .ensures)
 
--- src/line.rt:28:26
+-- src/line.rt:26:38
 line-bytes-requires : tie.Need-line-bytes-requires
-line-bytes-requires c κs = line-few (c .before .before .before .before .args .content .now) (c .before .before .before .before .args .state) (sym (c .before .line-number .ensures) ∙ c .if1 .left)
+line-bytes-requires c κs = let a = c .before .before .before .before .args in line-few (a .content .now) (a .state) (sym (c .before .line-number .ensures) ∙ c .if1 .left)
 
--- src/line.rt:28:17
-add-bytes : tie.Need-add-bytes
-add-bytes c = omega (arith, c .line-bytes .ensures, line-most (c .before .before .before .before .before .args .content .now) (line-few (c .before .before .before .before .before .args .content .now) (c .before .before .before .before .before .args .state) (sym (c .before .before .line-number .ensures) ∙ c .before .if1 .left)))
+-- src/line.rt:26:24
+add-record-bytes : tie.Need-add-record-bytes
+add-record-bytes c = let a = c .before .before .before .before .before .args in omega (arith, c .line-bytes .ensures, line-most (a .content .now) (line-few (a .content .now) (a .state) (sym (c .before .before .line-number .ensures) ∙ c .before .if1 .left)))
 
--- src/line.rt:30:9
+-- src/line.rt:28:9
 refused-requires-2 : tie.Need-refused-requires-2
 refused-requires-2 c κs = search needs
 
--- src/line.rt:30:9
+-- src/line.rt:28:9
 returns-2 : tie.Need-returns-2
-returns-2 c = frame-full (line-frame (c .before .before .before .before .before .before .before .args .content .now)) (c .before .before .before .before .before .before .before .args .state) (c .before .before .before .before .before .before .before .args .out .now) (c .refused2 .result) (sym (c .before .before .before .before .line-number .ensures) ∙ c .before .before .before .if1 .left) (omega (arith, c .before .before .line-bytes .ensures, c .before .if2 .taken)) (c .refused2 .ensures)
+returns-2 c = let a = c .before .before .before .before .before .before .before .args in frame-full (line-frame (a .content .now)) (a .state) (a .out .now) (c .refused2 .result) (sym (c .before .before .before .before .line-number .ensures) ∙ c .before .before .before .if1 .left) (omega (arith, c .before .before .line-bytes .ensures, c .before .if2 .taken)) (c .refused2 .ensures)
 
--- src/line.rt:32:26
+-- src/line.rt:30:26
 sub-put-numbers : tie.Need-sub-put-numbers
 sub-put-numbers c = search needs
 
--- src/line.rt:32:26
+-- src/line.rt:30:26
 part-put-numbers-start : tie.Need-part-put-numbers-start
 part-put-numbers-start c = search needs
 
--- src/line.rt:32:26
+-- src/line.rt:30:26
 part-put-numbers-end : tie.Need-part-put-numbers-end
 part-put-numbers-end c = search needs
 
--- src/line.rt:32:5
+-- src/line.rt:30:5
 put-numbers-requires : tie.Need-put-numbers-requires
-put-numbers-requires c κs = rw (part-is 8 (c .before .before .before .before .before .before .before .args .out .now), length-drop 8 (c .before .before .before .before .before .before .before .args .out .now)) (omega (arith, c .before .before .line-bytes .ensures, c .before .if2 .left))
+put-numbers-requires c κs = let a = c .before .before .before .before .before .before .before .args in rw (part-is 8 (a .out .now), length-drop 8 (a .out .now)) (omega (arith, c .before .before .line-bytes .ensures, c .before .if2 .left))
 
--- src/line.rt:33:24
+-- src/line.rt:31:24
 cast-put-line-fields : tie.Need-cast-put-line-fields
-cast-put-line-fields c = omega (arith, line-few (c .before .before .before .before .before .before .before .before .before .before .args .content .now) (c .before .before .before .before .before .before .before .before .before .before .args .state) (sym (c .before .before .before .before .before .before .before .line-number .ensures) ∙ c .before .before .before .before .before .before .if1 .left))
+cast-put-line-fields c = let a = c .before .before .before .before .before .before .before .before .before .before .args in omega (arith, line-few (a .content .now) (a .state) (sym (c .before .before .before .before .before .before .before .line-number .ensures) ∙ c .before .before .before .before .before .before .if1 .left))
 
--- src/line.rt:33:52
+-- src/line.rt:31:40
 cast-put-line-fields-2 : tie.Need-cast-put-line-fields-2
-cast-put-line-fields-2 c = omega (arith, c .before .before .before .before .before .line-bytes .ensures, line-most (c .before .before .before .before .before .before .before .before .before .before .args .content .now) (line-few (c .before .before .before .before .before .before .before .before .before .before .args .content .now) (c .before .before .before .before .before .before .before .before .before .before .args .state) (sym (c .before .before .before .before .before .before .before .line-number .ensures) ∙ c .before .before .before .before .before .before .if1 .left)))
+cast-put-line-fields-2 c = let a = c .before .before .before .before .before .before .before .before .before .before .args in omega (arith, c .before .before .before .before .before .line-bytes .ensures, line-most (a .content .now) (line-few (a .content .now) (a .state) (sym (c .before .before .before .before .before .before .before .line-number .ensures) ∙ c .before .before .before .before .before .before .if1 .left)))
 
--- src/line.rt:33:5
+-- src/line.rt:31:5
 put-line-fields-requires : tie.Need-put-line-fields-requires
 put-line-fields-requires c κs = search needs
 
--- src/line.rt:34:13
+-- src/line.rt:32:13
 cast-written : tie.Need-cast-written
-cast-written c = omega (arith, c .before .before .before .before .before .before .before .before .before .line-bytes .ensures, line-most (c .before .before .before .before .before .before .before .before .before .before .before .before .before .before .args .content .now) (line-few (c .before .before .before .before .before .before .before .before .before .before .before .before .before .before .args .content .now) (c .before .before .before .before .before .before .before .before .before .before .before .before .before .before .args .state) (sym (c .before .before .before .before .before .before .before .before .before .before .before .line-number .ensures) ∙ c .before .before .before .before .before .before .before .before .before .before .if1 .left)))
+cast-written c = let a = c .before .before .before .before .before .before .before .before .before .before .before .before .before .before .args in omega (arith, c .before .before .before .before .before .before .before .before .before .line-bytes .ensures, line-most (a .content .now) (line-few (a .content .now) (a .state) (sym (c .before .before .before .before .before .before .before .before .before .before .before .line-number .ensures) ∙ c .before .before .before .before .before .before .before .before .before .before .if1 .left)))
 
--- src/line.rt:34:5
+-- src/line.rt:32:5
 written-requires : tie.Need-written-requires
 written-requires c κs = search needs
 
--- src/line.rt:21:1
+-- src/line.rt:18:1
 same-length : tie.Need-same-length
 same-length c = search needs
 
--- src/line.rt:21:1
+-- src/line.rt:18:1
 returns-3 : tie.Need-returns-3
-returns-3 c = let at-start = c .before .before .before .before .before .before .before .before .before .before .before .before .before .before .before in let front = line-frame (at-start .args .content .now) in let st = at-start .args .state in let m = at-start .args .out .now in let fits : 8 + length (lineBytes (givenNumbers (at-start .args .content .now))) ≤ length m = omega (arith, c .before .before .before .before .before .before .before .before .before .before .line-bytes .ensures, c .before .before .before .before .before .before .before .before .before .if2 .left) in frame-done front st m (c .written .result) (frame-passed front st m (c .written .result) (sym (c .before .before .before .before .before .before .before .before .before .before .before .before .line-number .ensures) ∙ c .before .before .before .before .before .before .before .before .before .before .before .if1 .left) fits) (omega arith) (rw (← c .before .before .before .before .before .before .before .before .before .before .line-bytes .ensures) (c .written .ensures)) (c .before .before .before .before .before .before .before .put-numbers .last .1 .0) (c .before .before .before .put-line-fields .last .1 .1 .1 .0) (c .before .before .before .before .before .before .before .put-numbers .ensures) (rw (c .before .before .before .before .before .before .before .before .before .before .line-bytes .ensures) at (c .before .before .before .put-line-fields .ensures))
+returns-3 c = let a = c .before .before .before .before .before .before .before .before .before .before .before .before .before .before .before .args in let frame = line-frame (a .content .now) in let m = a .out .now in let passed = sym (c .before .before .before .before .before .before .before .before .before .before .before .before .line-number .ensures) ∙ c .before .before .before .before .before .before .before .before .before .before .before .if1 .left in let fits : 8 + length (lineBytes (givenNumbers (a .content .now))) ≤ length m = omega (arith, c .before .before .before .before .before .before .before .before .before .before .line-bytes .ensures, c .before .before .before .before .before .before .before .before .before .if2 .left) in let number = frame-passed frame (a .state) m (c .written .result) passed fits in frame-done frame (a .state) m (c .written .result) number (omega arith) (rw (← c .before .before .before .before .before .before .before .before .before .before .line-bytes .ensures) (c .written .ensures)) (c .before .before .before .before .before .before .before .put-numbers .last .1 .0) (c .before .before .before .put-line-fields .last .1 .1 .1 .0) (c .before .before .before .before .before .before .before .put-numbers .ensures) (rw (c .before .before .before .before .before .before .before .before .before .before .line-bytes .ensures) at (c .before .before .before .put-line-fields .ensures))
 
 pub write-line-spec : {M : Type 1} → statement M
 write-line-spec =
@@ -99,7 +98,7 @@ write-line-spec =
     refused-requires
     returns
     line-bytes-requires
-    add-bytes
+    add-record-bytes
     refused-requires-2
     returns-2
     sub-put-numbers

@@ -1,8 +1,5 @@
-use Rattle.sheet_writer.specs.Line.Laws.{held}
-use mir.Syntax.{w32}
-use mathlib.Core.Path.{_∙_}
-use mir.Facts.{toZ-ofZ}
-use Rattle.sheet_writer.specs.Line.Laws.{given-at}
+use mathlib.Core.Path.{_∙_, sym, ap}
+use Rattle.sheet_writer.specs.Number.Laws.{held, given-at}
 use borrow.Author.Needs.{needs}
 use Rattle.sheet_writer.proofs.number.number_at.Statement.{statement}
 use Rattle.sheet_writer.proofs.number.number_at.Tie as tie

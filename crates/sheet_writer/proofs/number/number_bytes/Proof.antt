@@ -1,9 +1,6 @@
-use mathlib.Core.Path.{_∙_, ap}
-use mir.Facts.{toZ-ofZ}
 use Rattle.adaptive.specs.Number.{signed}
 use Rattle.adaptive.specs.Number.Read.{shortest-count}
-use Rattle.adaptive.specs.Calls.{signedWritten}
-use Rattle.sheet_writer.specs.Line.Laws.{wrote-number}
+use Rattle.sheet_writer.specs.Number.Laws.{wrote-number}
 use borrow.Author.Needs.{needs}
 use Rattle.sheet_writer.proofs.number.number_bytes.Statement.{statement}
 use Rattle.sheet_writer.proofs.number.number_bytes.Tie as tie
@@ -11,15 +8,15 @@ use Rattle.sheet_writer.proofs.number.number_bytes.Reads as reads
 use Rattle.sheet_writer.proofs.number.number_bytes.Lts as lts
 use Rattle.adaptive.proofs.write_signed.Reads as write-signed-reads
 
--- src/number.rt:37:39
+-- src/number.rt:36:35
 slice-aggregate-write-signed : tie.Need-slice-aggregate-write-signed
 slice-aggregate-write-signed c = search needs
 
--- src/number.rt:37:9
+-- src/number.rt:36:9
 write-signed-requires : tie.Need-write-signed-requires
 write-signed-requires c κs = search needs
 
--- src/number.rt:38:5
+-- src/number.rt:37:5
 cast-result : tie.Need-cast-result
 cast-result c = search needs
 

@@ -1,8 +1,8 @@
 use native.Mathlib.Omega.{arith}
-use mathlib.Core.Path.{_∙_, sym}
+use mathlib.Core.Path.{_∙_, sym, ap}
 use Rattle.sheet_format.specs.Record.{packedRecord}
 use Rattle.sheet_writer.specs.Outcome.Laws.{judged-placed}
-use Rattle.sheet_writer.specs.Frame.Laws.{frame-refused}
+use Rattle.sheet_writer.specs.Frame.Laws.{part-is, copied, frame-refused, frame-full, frame-passed, frame-done}
 use Rattle.sheet_writer.specs.Packed.{packed-frame, pack-refused, pack-short, pack-few, pack-most, pack-done}
 use borrow.Author.Needs.{needs}
 use Rattle.sheet_writer.proofs.packed.write_packed.Statement.{statement}
@@ -17,97 +17,109 @@ use Rattle.sheet_writer.proofs.packed.lesser.Reads as lesser-reads
 use Rattle.sheet_writer.proofs.place.after_row.Reads as after-row-reads
 use Rattle.sheet_writer.proofs.place.row_place.Reads as row-place-reads
 
--- src/packed.rt:20:9
+-- src/packed.rt:21:9
 row-place-requires : tie.Need-row-place-requires
 row-place-requires c κs = search needs
 
--- src/packed.rt:22:9
+-- src/packed.rt:23:9
 refused-requires : tie.Need-refused-requires
 refused-requires c κs = search needs
 
--- src/packed.rt:22:9
+-- src/packed.rt:23:9
 returns : tie.Need-returns
-returns c = let a = c .before .before .before .before .before .before .args in frame-refused (packed-frame (a .row) (a .table .now) (a .content .now)) (a .state) (a .out .now) (c .refused .result) (c .before .before .row-place .result) (judged-placed packedRecord (a .row) (a .table .now) (a .content .now) (a .state) (c .before .before .row-place .result) (c .before .before .row-place .ensures) (c .before .if1 .taken)) (c .before .if1 .taken) (c .refused .ensures)
+returns c = let a = c .before .before .before .before .before .before .args in let judged = judged-placed packedRecord (a .row) (a .table .now) (a .content .now) (a .state) (c .before .before .row-place .result) (c .before .before .row-place .ensures) (c .before .if1 .taken) in frame-refused (packed-frame (a .row) (a .table .now) (a .content .now)) (a .state) (a .out .now) (c .refused .result) (c .before .before .row-place .result) judged (c .before .if1 .taken) (c .refused .ensures)
 
--- src/packed.rt:26:9
+-- src/packed.rt:27:9
 lesser-requires : tie.Need-lesser-requires
 lesser-requires c κs = search needs
 
--- src/packed.rt:27:39
+-- src/packed.rt:28:39
 sub-pack : tie.Need-sub-pack
 sub-pack c = search needs
 
--- src/packed.rt:27:39
+-- src/packed.rt:28:39
 part-pack-start : tie.Need-part-pack-start
 part-pack-start c = search needs
 
--- src/packed.rt:27:39
+-- src/packed.rt:28:39
 part-pack-end : tie.Need-part-pack-end
 part-pack-end c = search needs
 
--- src/packed.rt:27:9
+-- src/packed.rt:28:9
 pack-requires : tie.Need-pack-requires
 pack-requires c κs = search needs
 
--- src/packed.rt:29:9
+-- src/packed.rt:30:9
 refused-requires-2 : tie.Need-refused-requires-2
 refused-requires-2 c κs = search needs
 
--- src/packed.rt:29:9
+-- src/packed.rt:30:9
 same-length : tie.Need-same-length
 same-length c = search needs
 
--- src/packed.rt:29:9
+-- src/packed.rt:30:9
 returns-2 : tie.Need-returns-2
-returns-2 c = pack-refused (c .before .before .before .before .before .before .before .before .before .before .before .before .before .args .row) (c .before .before .before .before .before .before .before .before .before .before .before .before .before .args .table .now) (c .before .before .before .before .before .before .before .before .before .before .before .before .before .args .content .now) (c .before .before .before .before .before .before .before .before .before .before .before .before .before .args .state) (c .before .before .before .before .before .before .before .before .before .before .before .before .before .args .out .now) (sym (c .before .before .before .before .before .before .before .before .before .row-place .ensures) ∙ c .before .before .before .before .before .before .before .before .if1 .left) (c .before .before .before .before .before .before .before .lesser .result) (c .before .before .before .before .before .before .before .lesser .ensures) (c .before .before .before .before .before .pack .result) (c .before .before .before .before .before .pack .last .1 .1 .0) (c .before .before .before .before .before .pack .ensures) (c .before .if2 .taken) (c .refused2 .result) (c .refused2 .ensures)
+returns-2 c = let a = c .before .before .before .before .before .before .before .before .before .before .before .before .before .args in let placed = sym (c .before .before .before .before .before .before .before .before .before .row-place .ensures) ∙ c .before .before .before .before .before .before .before .before .if1 .left in let ran = c .before .before .before .before .before .pack in pack-refused (a .row) (a .table .now) (a .content .now) (a .state) (a .out .now) placed (c .before .before .before .before .before .before .before .lesser .result) (c .before .before .before .before .before .before .before .lesser .ensures) (ran .result) (ran .last .1 .1 .0) (ran .ensures) (c .before .if2 .taken) (c .refused2 .result) (c .refused2 .ensures)
 
--- src/packed.rt:32:9
+-- src/packed.rt:33:9
 refused-requires-3 : tie.Need-refused-requires-3
 refused-requires-3 c κs = search needs
 
--- src/packed.rt:32:9
+-- src/packed.rt:33:9
 same-length-2 : tie.Need-same-length-2
 same-length-2 c = search needs
 
--- src/packed.rt:32:9
+-- src/packed.rt:33:9
 returns-3 : tie.Need-returns-3
-returns-3 c = pack-short (c .before .before .before .before .before .before .before .before .before .before .before .before .before .before .args .row) (c .before .before .before .before .before .before .before .before .before .before .before .before .before .before .args .table .now) (c .before .before .before .before .before .before .before .before .before .before .before .before .before .before .args .content .now) (c .before .before .before .before .before .before .before .before .before .before .before .before .before .before .args .state) (c .before .before .before .before .before .before .before .before .before .before .before .before .before .before .args .out .now) (sym (c .before .before .before .before .before .before .before .before .before .before .row-place .ensures) ∙ c .before .before .before .before .before .before .before .before .before .if1 .left) (c .before .before .before .before .before .before .before .before .lesser .result) (c .before .before .before .before .before .before .before .before .lesser .ensures) (c .before .before .before .before .before .before .pack .result) (c .before .before .before .before .before .before .pack .last .1 .1 .0) (c .before .before .before .before .before .before .pack .ensures) (c .before .before .if2 .left) (c .before .if3 .taken) (c .refused3 .result) (c .refused3 .ensures)
+returns-3 c = let a = c .before .before .before .before .before .before .before .before .before .before .before .before .before .before .args in let placed = sym (c .before .before .before .before .before .before .before .before .before .before .row-place .ensures) ∙ c .before .before .before .before .before .before .before .before .before .if1 .left in let ran = c .before .before .before .before .before .before .pack in pack-short (a .row) (a .table .now) (a .content .now) (a .state) (a .out .now) placed (c .before .before .before .before .before .before .before .before .lesser .result) (c .before .before .before .before .before .before .before .before .lesser .ensures) (ran .result) (ran .last .1 .1 .0) (ran .ensures) (c .before .before .if2 .left) (c .before .if3 .taken) (c .refused3 .result) (c .refused3 .ensures)
 
--- src/packed.rt:34:28
-add-bytes : tie.Need-add-bytes
-add-bytes c = omega (arith, pack-most (c .before .before .before .before .before .before .before .before .before .before .before .before .before .before .args .row) (c .before .before .before .before .before .before .before .before .before .before .before .before .before .before .args .table .now) (c .before .before .before .before .before .before .before .before .before .before .before .before .before .before .args .content .now) (c .before .before .before .before .before .before .before .before .before .before .before .before .before .before .args .state) (c .before .before .before .before .before .before .before .before .before .before .before .before .before .before .args .out .now) (sym (c .before .before .before .before .before .before .before .before .before .before .row-place .ensures) ∙ c .before .before .before .before .before .before .before .before .before .if1 .left) (c .before .before .before .before .before .before .before .before .lesser .result) (c .before .before .before .before .before .before .before .before .lesser .ensures) (c .before .before .before .before .before .before .pack .result) (c .before .before .before .before .before .before .pack .last .1 .1 .0) (c .before .before .before .before .before .before .pack .ensures) (c .before .before .if2 .left))
+-- src/packed.rt:36:19
+add-words : tie.Need-add-words
+add-words c = let a = c .before .before .before .before .before .before .before .before .before .before .before .before .before .before .args in let placed = sym (c .before .before .before .before .before .before .before .before .before .before .row-place .ensures) ∙ c .before .before .before .before .before .before .before .before .before .if1 .left in let ran = c .before .before .before .before .before .before .pack in omega (arith, pack-most (a .row) (a .table .now) (a .content .now) (a .state) (a .out .now) placed (c .before .before .before .before .before .before .before .before .lesser .result) (c .before .before .before .before .before .before .before .before .lesser .ensures) (ran .result) (ran .last .1 .1 .0) (ran .ensures) (c .before .before .if2 .left))
 
--- src/packed.rt:34:22
-mul-bytes : tie.Need-mul-bytes
-mul-bytes c = search needs
+-- src/packed.rt:36:17
+cast-words : tie.Need-cast-words
+cast-words c = search needs
 
--- src/packed.rt:34:17
-add-bytes-2 : tie.Need-add-bytes-2
-add-bytes-2 c = search needs
+-- src/packed.rt:37:38
+mul-record-bytes : tie.Need-mul-record-bytes
+mul-record-bytes c = search needs
 
--- src/packed.rt:35:28
+-- src/packed.rt:37:24
+add-record-bytes : tie.Need-add-record-bytes
+add-record-bytes c = search needs
+
+-- src/packed.rt:38:28
 cast-put-row-fields : tie.Need-cast-put-row-fields
-cast-put-row-fields c = omega (arith, pack-few (c .before .before .before .before .before .before .before .before .before .before .before .before .before .before .args .row) (c .before .before .before .before .before .before .before .before .before .before .before .before .before .before .args .table .now) (c .before .before .before .before .before .before .before .before .before .before .before .before .before .before .args .content .now) (c .before .before .before .before .before .before .before .before .before .before .before .before .before .before .args .state) (c .before .before .before .before .before .before .before .before .before .before .before .before .before .before .args .out .now) (sym (c .before .before .before .before .before .before .before .before .before .before .row-place .ensures) ∙ c .before .before .before .before .before .before .before .before .before .if1 .left) (c .before .before .before .before .before .before .before .before .lesser .result) (c .before .before .before .before .before .before .before .before .lesser .ensures) (c .before .before .before .before .before .before .pack .result) (c .before .before .before .before .before .before .pack .last .1 .1 .0) (c .before .before .before .before .before .before .pack .ensures) (c .before .before .if2 .left))
+cast-put-row-fields c = let a = c .before .before .before .before .before .before .before .before .before .before .before .before .before .before .args in let placed = sym (c .before .before .before .before .before .before .before .before .before .before .row-place .ensures) ∙ c .before .before .before .before .before .before .before .before .before .if1 .left in let ran = c .before .before .before .before .before .before .pack in omega (arith, pack-few (a .row) (a .table .now) (a .content .now) (a .state) (a .out .now) placed (c .before .before .before .before .before .before .before .before .lesser .result) (c .before .before .before .before .before .before .before .before .lesser .ensures) (ran .result) (ran .last .1 .1 .0) (ran .ensures) (c .before .before .if2 .left))
 
--- src/packed.rt:35:5
+-- src/packed.rt:38:43
+cast-put-row-fields-2 : tie.Need-cast-put-row-fields-2
+cast-put-row-fields-2 c = let a = c .before .before .before .before .before .before .before .before .before .before .before .before .before .before .args in let placed = sym (c .before .before .before .before .before .before .before .before .before .before .row-place .ensures) ∙ c .before .before .before .before .before .before .before .before .before .if1 .left in let ran = c .before .before .before .before .before .before .pack in omega (arith, pack-most (a .row) (a .table .now) (a .content .now) (a .state) (a .out .now) placed (c .before .before .before .before .before .before .before .before .lesser .result) (c .before .before .before .before .before .before .before .before .lesser .ensures) (ran .result) (ran .last .1 .1 .0) (ran .ensures) (c .before .before .if2 .left))
+
+-- src/packed.rt:38:5
 put-row-fields-requires : tie.Need-put-row-fields-requires
 put-row-fields-requires c κs = search needs
 
--- src/packed.rt:36:20
+-- src/packed.rt:39:13
+cast-written : tie.Need-cast-written
+cast-written c = let a = c .before .before .before .before .before .before .before .before .before .before .before .before .before .before .before .before .before .before .args in let placed = sym (c .before .before .before .before .before .before .before .before .before .before .before .before .before .before .row-place .ensures) ∙ c .before .before .before .before .before .before .before .before .before .before .before .before .before .if1 .left in let ran = c .before .before .before .before .before .before .before .before .before .before .pack in omega (arith, pack-most (a .row) (a .table .now) (a .content .now) (a .state) (a .out .now) placed (c .before .before .before .before .before .before .before .before .before .before .before .before .lesser .result) (c .before .before .before .before .before .before .before .before .before .before .before .before .lesser .ensures) (ran .result) (ran .last .1 .1 .0) (ran .ensures) (c .before .before .before .before .before .before .if2 .left))
+
+-- src/packed.rt:39:34
 after-row-requires : tie.Need-after-row-requires
 after-row-requires c κs = search needs
 
--- src/packed.rt:36:5
+-- src/packed.rt:39:5
 written-requires : tie.Need-written-requires
 written-requires c κs = search needs
 
--- src/packed.rt:17:1
+-- src/packed.rt:18:1
 same-length-3 : tie.Need-same-length-3
 same-length-3 c = search needs
 
--- src/packed.rt:17:1
+-- src/packed.rt:18:1
 returns-4 : tie.Need-returns-4
-returns-4 c = pack-done (c .before .before .before .before .before .before .before .before .before .before .before .before .before .before .before .before .before .before .before .before .args .row) (c .before .before .before .before .before .before .before .before .before .before .before .before .before .before .before .before .before .before .before .before .args .table .now) (c .before .before .before .before .before .before .before .before .before .before .before .before .before .before .before .before .before .before .before .before .args .content .now) (c .before .before .before .before .before .before .before .before .before .before .before .before .before .before .before .before .before .before .before .before .args .state) (c .before .before .before .before .before .before .before .before .before .before .before .before .before .before .before .before .before .before .before .before .args .out .now) (sym (c .before .before .before .before .before .before .before .before .before .before .before .before .before .before .before .before .row-place .ensures) ∙ c .before .before .before .before .before .before .before .before .before .before .before .before .before .before .before .if1 .left) (c .before .before .before .before .before .before .before .before .before .before .before .before .before .before .lesser .result) (c .before .before .before .before .before .before .before .before .before .before .before .before .before .before .lesser .ensures) (c .before .before .before .before .before .before .before .before .before .before .before .before .pack .result) (c .before .before .before .before .before .before .before .before .before .before .before .before .pack .last .1 .1 .0) (c .before .before .before .before .before .before .before .before .before .before .before .before .pack .ensures) (c .before .before .before .before .before .before .before .before .if2 .left) (c .before .before .before .before .before .before .before .if3 .left) (c .written .result) (rw (← c .before .after-row .ensures) (c .written .ensures)) (c .before .before .before .before .put-row-fields .last .1 .1 .1 .1 .0) (c .before .before .before .before .put-row-fields .ensures)
+returns-4 c = let a = c .before .before .before .before .before .before .before .before .before .before .before .before .before .before .before .before .before .before .before .before .args in let placed = sym (c .before .before .before .before .before .before .before .before .before .before .before .before .before .before .before .before .row-place .ensures) ∙ c .before .before .before .before .before .before .before .before .before .before .before .before .before .before .before .if1 .left in let ran = c .before .before .before .before .before .before .before .before .before .before .before .before .pack in pack-done (a .row) (a .table .now) (a .content .now) (a .state) (a .out .now) placed (c .before .before .before .before .before .before .before .before .before .before .before .before .before .before .lesser .result) (c .before .before .before .before .before .before .before .before .before .before .before .before .before .before .lesser .ensures) (ran .result) (ran .last .1 .1 .0) (ran .ensures) (c .before .before .before .before .before .before .before .before .if2 .left) (c .before .before .before .before .before .before .before .if3 .left) (c .written .result) (rw (← c .before .after-row .ensures) (c .written .ensures)) (c .before .before .before .before .put-row-fields .last .1 .1 .1 .1 .0) (c .before .before .before .before .put-row-fields .ensures)
 
 pub write-packed-spec : {M : Type 1} → statement M
 write-packed-spec =
@@ -127,11 +139,14 @@ write-packed-spec =
     refused-requires-3
     same-length-2
     returns-3
-    add-bytes
-    mul-bytes
-    add-bytes-2
+    add-words
+    cast-words
+    mul-record-bytes
+    add-record-bytes
     cast-put-row-fields
+    cast-put-row-fields-2
     put-row-fields-requires
+    cast-written
     after-row-requires
     written-requires
     same-length-3

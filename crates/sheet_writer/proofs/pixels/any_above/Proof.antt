@@ -1,11 +1,12 @@
-use Prim.Native.Nat.{_-_, _/_}
+use Prim.Native.Nat.{_+_, _-_, _/_, _≤_}
 use native.Mathlib.Omega.{arith}
-use mathlib.Core.Path.{_∙_, sym}
-use lib.ListN.{length}
+use mathlib.Core.Path.{_∙_, sym, ap}
+use lib.ListN.{length, getD, length-drop}
 use borrow.Author.Needs.{needs}
 use Rattle.bitstream.specs.Bits.{halvesOf}
 use Rattle.row_packer.specs.Pixels.{length-halves, getD-halves}
-use Rattle.sheet_writer.specs.Plain.{Looking, looking-none, looking-more, looked-above, looked-all}
+use Rattle.sheet_writer.specs.Pixels.{Looking}
+use Rattle.sheet_writer.specs.Pixels.Laws.{looking-none, looking-more, looked-above, looked-all}
 use Rattle.sheet_writer.proofs.pixels.any_above.Statement.{statement}
 use Rattle.sheet_writer.proofs.pixels.any_above.Tie as tie
 use Rattle.sheet_writer.proofs.pixels.any_above.Reads as reads
@@ -18,37 +19,37 @@ Inv-loop pixels n i₀ i = Looking (halvesOf pixels) i
 abbrev μ-loop : tie.MeasureT-loop
 μ-loop pixels n i₀ i = length pixels / 2 - i
 
--- src/pixels.rt:14:5
+-- src/pixels.rt:15:5
 loop-holds : tie.Need-loop-holds Inv-loop μ-loop
 loop-holds c = looking-none (halvesOf (c .before .args .pixels .now))
 
--- src/pixels.rt:15:36
+-- src/pixels.rt:16:41
 mul-read-u16 : tie.Need-mul-read-u16 Inv-loop μ-loop
 mul-read-u16 c = search needs
 
--- src/pixels.rt:15:19
+-- src/pixels.rt:16:24
 read-u16-requires : tie.Need-read-u16-requires Inv-loop μ-loop
 read-u16-requires c κs = search needs
 
--- src/pixels.rt:16:13
+-- src/pixels.rt:17:13
 returns : tie.Need-returns Inv-loop μ-loop
-returns c = looked-above (halvesOf (c .before .before .before .before .before .args .pixels .now)) (c .before .before .before .loop .i) (c .before .before .before .loop .inv) (omega (arith, length-halves (c .before .before .before .before .before .args .pixels .now))) (c .before .read-u16 .result) (c .before .read-u16 .ensures ∙ sym (getD-halves (c .before .before .before .before .before .args .pixels .now) (c .before .before .before .loop .i) (c .before .before .loop-test .taken))) (c .if1 .taken)
+returns c = let s = c .before .before .before .before .before .args .pixels .now in let i = c .before .before .before .loop .i in let pixel = c .before .read-u16 .ensures ∙ sym (getD-halves s i (c .before .before .loop-test .taken)) in looked-above (halvesOf s) i (c .before .before .before .loop .inv) (omega (arith, length-halves s)) (c .before .read-u16 .result) pixel (c .if1 .taken)
 
--- src/pixels.rt:18:9
+-- src/pixels.rt:19:9
 add-i : tie.Need-add-i Inv-loop μ-loop
 add-i c = search needs
 
--- src/pixels.rt:14:5
+-- src/pixels.rt:15:5
 loop-less : tie.Need-loop-less Inv-loop μ-loop
 loop-less c = search needs
 
--- src/pixels.rt:14:5
+-- src/pixels.rt:15:5
 loop-again : tie.Need-loop-again Inv-loop μ-loop
-loop-again c = looking-more (halvesOf (c .before .before .before .before .before .args .pixels .now)) (c .before .before .before .loop .i) (c .before .before .before .loop .inv) (omega (arith, length-halves (c .before .before .before .before .before .args .pixels .now))) (c .before .read-u16 .result) (c .before .read-u16 .ensures ∙ sym (getD-halves (c .before .before .before .before .before .args .pixels .now) (c .before .before .before .loop .i) (c .before .before .loop-test .taken))) (c .if1 .left)
+loop-again c = let s = c .before .before .before .before .before .args .pixels .now in let i = c .before .before .before .loop .i in let pixel = c .before .read-u16 .ensures ∙ sym (getD-halves s i (c .before .before .loop-test .taken)) in looking-more (halvesOf s) i (c .before .before .before .loop .inv) (omega (arith, length-halves s)) (c .before .read-u16 .result) pixel (c .if1 .left)
 
--- src/pixels.rt:9:1
+-- src/pixels.rt:10:1
 returns-2 : tie.Need-returns-2 Inv-loop μ-loop
-returns-2 c = looked-all (halvesOf (c .before .before .before .args .pixels .now)) (c .before .loop .i) (c .before .loop .inv) (omega (arith, length-halves (c .before .before .before .args .pixels .now)))
+returns-2 c = let s = c .before .before .before .args .pixels .now in looked-all (halvesOf s) (c .before .loop .i) (c .before .loop .inv) (omega (arith, length-halves s))
 
 pub any-above-spec : {M : Type 1} → statement M
 any-above-spec =

@@ -1,4 +1,4 @@
-use Rattle.sheet_writer.specs.Row.{row-first, row-not-risen, row-risen}
+use Rattle.sheet_writer.specs.Place.{row-first, row-not-risen, row-risen}
 use Rattle.sheet_writer.proofs.place.row_place.Statement.{statement}
 use Rattle.sheet_writer.proofs.place.row_place.Tie as tie
 use Rattle.sheet_writer.proofs.place.row_place.Reads as reads

@@ -1,10 +1,9 @@
-use Prim.Native.Nat.{_+_, _≤_}
-use lib.ListN.{length}
+use Prim.Native.Nat.{_+_, _-_, _/_, _≤_}
+use lib.ListN.{length, getD, length-drop}
 use native.Mathlib.Omega.{arith}
 use mathlib.Core.Path.{_∙_, sym, ap}
 use Rattle.sheet_writer.specs.Plain.{wholePixels, length-wholePixels, plain-frame, plain-few}
 use Rattle.sheet_writer.specs.Frame.Laws.{part-is, copied, frame-refused, frame-full, frame-passed, frame-done}
-use lib.ListN.{length-drop}
 use borrow.Author.Needs.{needs}
 use Rattle.sheet_writer.proofs.plain.write_plain.Statement.{statement}
 use Rattle.sheet_writer.proofs.plain.write_plain.Tie as tie
@@ -17,89 +16,85 @@ use Rattle.sheet_writer.proofs.fields.put_row_fields.Reads as put-row-f
 use Rattle.sheet_writer.proofs.place.after_row.Reads as after-row-reads
 use Rattle.sheet_writer.proofs.plain.plain_number.Reads as plain-number-reads
 
--- src/plain.rt:22:9
+-- src/plain.rt:23:9
 plain-number-requires : tie.Need-plain-number-requires
 plain-number-requires c κs = search needs
 
--- src/plain.rt:24:9
+-- src/plain.rt:25:9
 refused-requires : tie.Need-refused-requires
 refused-requires c κs = search needs
 
--- src/plain.rt:24:9
+-- src/plain.rt:25:9
 returns : tie.Need-returns
-returns c = frame-refused (plain-frame (c .before .before .before .before .before .args .row) (c .before .before .before .before .before .args .content .now)) (c .before .before .before .before .before .args .state) (c .before .before .before .before .before .args .out .now) (c .refused .result) (c .before .before .plain-number .result) (c .before .before .plain-number .ensures) (c .before .if1 .taken) (c .refused .ensures)
+returns c = let a = c .before .before .before .before .before .args in frame-refused (plain-frame (a .row) (a .content .now)) (a .state) (a .out .now) (c .refused .result) (c .before .before .plain-number .result) (c .before .before .plain-number .ensures) (c .before .if1 .taken) (c .refused .ensures)
 
--- src/plain.rt:27:26
-mul-bytes : tie.Need-mul-bytes
-mul-bytes c = search needs
-
--- src/plain.rt:27:17
-add-bytes : tie.Need-add-bytes
-add-bytes c = search needs
-
--- src/plain.rt:29:9
-refused-requires-2 : tie.Need-refused-requires-2
-refused-requires-2 c κs = search needs
-
--- src/plain.rt:29:9
-returns-2 : tie.Need-returns-2
-returns-2 c = frame-full (plain-frame (c .before .before .before .before .before .before .args .row) (c .before .before .before .before .before .before .args .content .now)) (c .before .before .before .before .before .before .args .state) (c .before .before .before .before .before .before .args .out .now) (c .refused2 .result) (sym (c .before .before .before .plain-number .ensures) ∙ c .before .before .if1 .left) (omega (arith, length-wholePixels (c .before .before .before .before .before .before .args .content .now), c .before .if2 .taken)) (c .refused2 .ensures)
-
--- src/plain.rt:32:15
+-- src/plain.rt:29:15
 mul-end : tie.Need-mul-end
 mul-end c = search needs
 
--- src/plain.rt:33:10
+-- src/plain.rt:30:24
+add-record-bytes : tie.Need-add-record-bytes
+add-record-bytes c = search needs
+
+-- src/plain.rt:32:9
+refused-requires-2 : tie.Need-refused-requires-2
+refused-requires-2 c κs = search needs
+
+-- src/plain.rt:32:9
+returns-2 : tie.Need-returns-2
+returns-2 c = let a = c .before .before .before .before .before .before .args in frame-full (plain-frame (a .row) (a .content .now)) (a .state) (a .out .now) (c .refused2 .result) (sym (c .before .before .before .plain-number .ensures) ∙ c .before .before .if1 .left) (omega (arith, length-wholePixels (a .content .now), c .before .if2 .taken)) (c .refused2 .ensures)
+
+-- src/plain.rt:34:10
 slice-aggregate-copy : tie.Need-slice-aggregate-copy
 slice-aggregate-copy c = sym (length-wholePixels (c .before .before .before .before .before .before .args .content .now))
 
--- src/plain.rt:33:27
+-- src/plain.rt:34:27
 sub-copy : tie.Need-sub-copy
 sub-copy c = search needs
 
--- src/plain.rt:33:27
+-- src/plain.rt:34:27
 part-copy-start : tie.Need-part-copy-start
 part-copy-start c = search needs
 
--- src/plain.rt:33:27
+-- src/plain.rt:34:27
 part-copy-end : tie.Need-part-copy-end
 part-copy-end c = search needs
 
--- src/plain.rt:33:5
-copy-requires : tie.Need-copy-requires
-copy-requires c κs = rw (part-is 10 (c .before .before .before .before .before .before .before .args .out .now), length-drop 10 (c .before .before .before .before .before .before .before .args .out .now)) (omega (arith, length-wholePixels (c .before .before .before .before .before .before .before .args .content .now), c .before .before .if2 .left))
-
--- src/plain.rt:34:28
-cast-put-row-fields : tie.Need-cast-put-row-fields
-cast-put-row-fields c = omega (arith, plain-few (c .before .before .before .before .before .before .before .before .before .before .args .row) (c .before .before .before .before .before .before .before .before .before .before .args .content .now) (c .before .before .before .before .before .before .before .before .before .before .args .state) (sym (c .before .before .before .before .before .before .before .plain-number .ensures) ∙ c .before .before .before .before .before .before .if1 .left))
-
--- src/plain.rt:34:38
-cast-put-row-fields-2 : tie.Need-cast-put-row-fields-2
-cast-put-row-fields-2 c = omega (arith, plain-few (c .before .before .before .before .before .before .before .before .before .before .args .row) (c .before .before .before .before .before .before .before .before .before .before .args .content .now) (c .before .before .before .before .before .before .before .before .before .before .args .state) (sym (c .before .before .before .before .before .before .before .plain-number .ensures) ∙ c .before .before .before .before .before .before .if1 .left))
-
 -- src/plain.rt:34:5
+copy-requires : tie.Need-copy-requires
+copy-requires c κs = let a = c .before .before .before .before .before .before .before .args in rw (part-is 10 (a .out .now), length-drop 10 (a .out .now)) (omega (arith, length-wholePixels (a .content .now), c .before .before .if2 .left))
+
+-- src/plain.rt:35:28
+cast-put-row-fields : tie.Need-cast-put-row-fields
+cast-put-row-fields c = let a = c .before .before .before .before .before .before .before .before .before .before .args in omega (arith, plain-few (a .row) (a .content .now) (a .state) (sym (c .before .before .before .before .before .before .before .plain-number .ensures) ∙ c .before .before .before .before .before .before .if1 .left))
+
+-- src/plain.rt:35:43
+cast-put-row-fields-2 : tie.Need-cast-put-row-fields-2
+cast-put-row-fields-2 c = let a = c .before .before .before .before .before .before .before .before .before .before .args in omega (arith, plain-few (a .row) (a .content .now) (a .state) (sym (c .before .before .before .before .before .before .before .plain-number .ensures) ∙ c .before .before .before .before .before .before .if1 .left))
+
+-- src/plain.rt:35:5
 put-row-fields-requires : tie.Need-put-row-fields-requires
 put-row-fields-requires c κs = search needs
 
--- src/plain.rt:35:13
+-- src/plain.rt:36:13
 cast-written : tie.Need-cast-written
-cast-written c = omega (arith, plain-few (c .before .before .before .before .before .before .before .before .before .before .before .before .before .before .args .row) (c .before .before .before .before .before .before .before .before .before .before .before .before .before .before .args .content .now) (c .before .before .before .before .before .before .before .before .before .before .before .before .before .before .args .state) (sym (c .before .before .before .before .before .before .before .before .before .before .before .plain-number .ensures) ∙ c .before .before .before .before .before .before .before .before .before .before .if1 .left))
+cast-written c = let a = c .before .before .before .before .before .before .before .before .before .before .before .before .before .before .args in omega (arith, plain-few (a .row) (a .content .now) (a .state) (sym (c .before .before .before .before .before .before .before .before .before .before .before .plain-number .ensures) ∙ c .before .before .before .before .before .before .before .before .before .before .if1 .left))
 
--- src/plain.rt:35:27
+-- src/plain.rt:36:34
 after-row-requires : tie.Need-after-row-requires
 after-row-requires c κs = search needs
 
--- src/plain.rt:35:5
+-- src/plain.rt:36:5
 written-requires : tie.Need-written-requires
 written-requires c κs = search needs
 
--- src/plain.rt:19:1
+-- src/plain.rt:20:1
 same-length : tie.Need-same-length
 same-length c = search needs
 
--- src/plain.rt:19:1
+-- src/plain.rt:20:1
 returns-3 : tie.Need-returns-3
-returns-3 c = let at-start = c .before .before .before .before .before .before .before .before .before .before .before .before .before .before .before .before in let front = plain-frame (at-start .args .row) (at-start .args .content .now) in let st = at-start .args .state in let m = at-start .args .out .now in let fits : 10 + length (wholePixels (at-start .args .content .now)) ≤ length m = omega (arith, length-wholePixels (at-start .args .content .now), c .before .before .before .before .before .before .before .before .before .before .before .if2 .left) in frame-done front st m (c .written .result) (frame-passed front st m (c .written .result) (sym (c .before .before .before .before .before .before .before .before .before .before .before .before .before .plain-number .ensures) ∙ c .before .before .before .before .before .before .before .before .before .before .before .before .if1 .left) fits) (omega arith) (rw (length-wholePixels (at-start .args .content .now), ← c .before .after-row .ensures) (c .written .ensures)) (c .before .before .before .before .before .before .before .before .copy .last .1 .0) (c .before .before .before .before .put-row-fields .last .1 .1 .1 .1 .0) (copied (wholePixels (at-start .args .content .now)) _ _ (c .before .before .before .before .before .before .before .before .copy .ensures .1)) (c .before .before .before .before .put-row-fields .ensures)
+returns-3 c = let a = c .before .before .before .before .before .before .before .before .before .before .before .before .before .before .before .before .args in let frame = plain-frame (a .row) (a .content .now) in let m = a .out .now in let passed = sym (c .before .before .before .before .before .before .before .before .before .before .before .before .before .plain-number .ensures) ∙ c .before .before .before .before .before .before .before .before .before .before .before .before .if1 .left in let fits : 10 + length (wholePixels (a .content .now)) ≤ length m = omega (arith, length-wholePixels (a .content .now), c .before .before .before .before .before .before .before .before .before .before .before .if2 .left) in let number = frame-passed frame (a .state) m (c .written .result) passed fits in frame-done frame (a .state) m (c .written .result) number (omega arith) (rw (length-wholePixels (a .content .now), ← c .before .after-row .ensures) (c .written .ensures)) (c .before .before .before .before .before .before .before .before .copy .last .1 .0) (c .before .before .before .before .put-row-fields .last .1 .1 .1 .1 .0) (copied (wholePixels (a .content .now)) _ _ (c .before .before .before .before .before .before .before .before .copy .ensures .1)) (c .before .before .before .before .put-row-fields .ensures)
 
 pub write-plain-spec : {M : Type 1} → statement M
 write-plain-spec =
@@ -108,11 +103,10 @@ write-plain-spec =
     plain-number-requires
     refused-requires
     returns
-    mul-bytes
-    add-bytes
+    mul-end
+    add-record-bytes
     refused-requires-2
     returns-2
-    mul-end
     slice-aggregate-copy
     sub-copy
     part-copy-start

@@ -1,4 +1,4 @@
-use mathlib.Core.Path.{_∙_}
+use mathlib.Core.Path.{_∙_, sym, ap}
 use Rattle.sheet_writer.specs.Record.{table-only, plain-only, line-only, refused-kind}
 use borrow.Author.Needs.{needs}
 use Rattle.sheet_writer.proofs.record.write_record.Statement.{statement}
@@ -65,7 +65,7 @@ returns-4 c = let a = c .before .before .before .before .before .before .before 
 
 -- src/record.rt:17:1
 returns-5 : tie.Need-returns-5
-returns-5 c = let a = c .before .before .before .before .before .args in let rest = c .before .match .rest in refused-kind (a .row) (a .table .now) (a .content .now) (a .state) (a .out .now) (a .kind) (rest .0 .0 .0 .1) (rest .0 .0 .1) (rest .0 .1) (rest .1) (c .refused .result) (c .refused .ensures)
+returns-5 c = let a = c .before .before .before .before .before .args in let none = c .before .match .rest in refused-kind (a .row) (a .table .now) (a .content .now) (a .state) (a .out .now) (a .kind) (none .0 .0 .0 .1) (none .0 .0 .1) (none .0 .1) (none .1) (c .refused .result) (c .refused .ensures)
 
 pub write-record-spec : {M : Type 1} → statement M
 write-record-spec =

@@ -6,15 +6,15 @@ use Rattle.sheet_writer.proofs.table.table_number.Reads as reads
 use Rattle.sheet_writer.proofs.table.table_number.Lts as lts
 use Rattle.code_table.proofs.check.check.Reads as check-reads
 
--- src/table.rt:42:9
+-- src/table.rt:43:9
 returns : tie.Need-returns
 returns c = table-second (c .before .before .before .args .content .now) (c .before .before .before .args .state) (c .if1 .taken)
 
--- src/table.rt:44:9
+-- src/table.rt:45:9
 check-requires : tie.Need-check-requires
 check-requires c κs = search needs
 
--- src/table.rt:38:1
+-- src/table.rt:39:1
 returns-2 : tie.Need-returns-2
 returns-2 c = table-checked (c .before .before .before .before .args .content .now) (c .before .before .before .before .args .state) (c .before .if1 .left) (c .check .result) (c .check .ensures)
 

@@ -1,12 +1,9 @@
-use Prim.Native.Nat.{_+_, _≤_}
-use lib.ListN.{length}
-use Rattle.sheet_writer.specs.Frame.Laws.{copied}
+use Prim.Native.Nat.{_+_, _-_, _/_, _≤_}
+use lib.ListN.{length, getD, length-drop}
 use native.Mathlib.Omega.{arith}
 use mathlib.Core.Path.{_∙_, sym, ap}
 use Rattle.sheet_writer.specs.Table.{table-frame, table-most}
-use Rattle.sheet_writer.specs.Frame.Laws.{frame-refused, frame-full, frame-passed, frame-done}
-use lib.Seq.{take-length}
-use mathlib.Core.List.{_++_}
+use Rattle.sheet_writer.specs.Frame.Laws.{part-is, copied, frame-refused, frame-full, frame-passed, frame-done}
 use borrow.Author.Needs.{needs}
 use Rattle.sheet_writer.proofs.table.write_table.Statement.{statement}
 use Rattle.sheet_writer.proofs.table.write_table.Tie as tie
@@ -18,69 +15,69 @@ use Rattle.sheet_writer.proofs.done.written.Reads as written-reads
 use Rattle.sheet_writer.proofs.fields.put_record_fields.Reads as put-record-fields-reads
 use Rattle.sheet_writer.proofs.table.table_number.Reads as table-number-reads
 
--- src/table.rt:20:9
+-- src/table.rt:21:9
 table-number-requires : tie.Need-table-number-requires
 table-number-requires c κs = search needs
 
--- src/table.rt:22:9
+-- src/table.rt:23:9
 refused-requires : tie.Need-refused-requires
 refused-requires c κs = search needs
 
--- src/table.rt:22:9
+-- src/table.rt:23:9
 returns : tie.Need-returns
-returns c = frame-refused (table-frame (c .before .before .before .before .before .args .content .now)) (c .before .before .before .before .before .args .state) (c .before .before .before .before .before .args .out .now) (c .refused .result) (c .before .before .table-number .result) (c .before .before .table-number .ensures) (c .before .if1 .taken) (c .refused .ensures)
+returns c = let a = c .before .before .before .before .before .args in frame-refused (table-frame (a .content .now)) (a .state) (a .out .now) (c .refused .result) (c .before .before .table-number .result) (c .before .before .table-number .ensures) (c .before .if1 .taken) (c .refused .ensures)
 
--- src/table.rt:24:17
-add-bytes : tie.Need-add-bytes
-add-bytes c = search needs
+-- src/table.rt:25:24
+add-record-bytes : tie.Need-add-record-bytes
+add-record-bytes c = search needs
 
--- src/table.rt:26:9
+-- src/table.rt:27:9
 refused-requires-2 : tie.Need-refused-requires-2
 refused-requires-2 c κs = search needs
 
--- src/table.rt:26:9
+-- src/table.rt:27:9
 returns-2 : tie.Need-returns-2
-returns-2 c = frame-full (table-frame (c .before .before .before .before .before .before .args .content .now)) (c .before .before .before .before .before .before .args .state) (c .before .before .before .before .before .before .args .out .now) (c .refused2 .result) (sym (c .before .before .before .table-number .ensures) ∙ c .before .before .if1 .left) (c .before .if2 .taken) (c .refused2 .ensures)
+returns-2 c = let a = c .before .before .before .before .before .before .args in frame-full (table-frame (a .content .now)) (a .state) (a .out .now) (c .refused2 .result) (sym (c .before .before .before .table-number .ensures) ∙ c .before .before .if1 .left) (c .before .if2 .taken) (c .refused2 .ensures)
 
--- src/table.rt:28:19
+-- src/table.rt:29:19
 sub-copy : tie.Need-sub-copy
 sub-copy c = search needs
 
--- src/table.rt:28:19
+-- src/table.rt:29:19
 part-copy-start : tie.Need-part-copy-start
 part-copy-start c = search needs
 
--- src/table.rt:28:19
+-- src/table.rt:29:19
 part-copy-end : tie.Need-part-copy-end
 part-copy-end c = search needs
 
--- src/table.rt:28:5
+-- src/table.rt:29:5
 copy-requires : tie.Need-copy-requires
 copy-requires c κs = search needs
 
--- src/table.rt:29:26
+-- src/table.rt:30:26
 cast-put-record-fields : tie.Need-cast-put-record-fields
-cast-put-record-fields c = omega (arith, table-most (c .before .before .before .before .before .before .before .before .before .args .content .now) (c .before .before .before .before .before .before .before .before .before .args .state) (sym (c .before .before .before .before .before .before .table-number .ensures) ∙ c .before .before .before .before .before .if1 .left))
+cast-put-record-fields c = let a = c .before .before .before .before .before .before .before .before .before .args in omega (arith, table-most (a .content .now) (a .state) (sym (c .before .before .before .before .before .before .table-number .ensures) ∙ c .before .before .before .before .before .if1 .left))
 
--- src/table.rt:29:5
+-- src/table.rt:30:5
 put-record-fields-requires : tie.Need-put-record-fields-requires
 put-record-fields-requires c κs = search needs
 
--- src/table.rt:34:13
+-- src/table.rt:35:13
 cast-written : tie.Need-cast-written
-cast-written c = omega (arith, table-most (c .before .before .before .before .before .before .before .before .before .before .before .before .before .args .content .now) (c .before .before .before .before .before .before .before .before .before .before .before .before .before .args .state) (sym (c .before .before .before .before .before .before .before .before .before .before .table-number .ensures) ∙ c .before .before .before .before .before .before .before .before .before .if1 .left))
+cast-written c = let a = c .before .before .before .before .before .before .before .before .before .before .before .before .before .args in omega (arith, table-most (a .content .now) (a .state) (sym (c .before .before .before .before .before .before .before .before .before .before .table-number .ensures) ∙ c .before .before .before .before .before .before .before .before .before .if1 .left))
 
--- src/table.rt:34:5
+-- src/table.rt:35:5
 written-requires : tie.Need-written-requires
 written-requires c κs = search needs
 
--- src/table.rt:17:1
+-- src/table.rt:18:1
 same-length : tie.Need-same-length
 same-length c = search needs
 
--- src/table.rt:17:1
+-- src/table.rt:18:1
 returns-3 : tie.Need-returns-3
-returns-3 c = let at-start = c .before .before .before .before .before .before .before .before .before .before .before .before .before .before in let front = table-frame (at-start .args .content .now) in let st = at-start .args .state in let m = at-start .args .out .now in let fits : 6 + length (at-start .args .content .now) ≤ length m = c .before .before .before .before .before .before .before .before .before .if2 .left in frame-done front st m (c .written .result) (frame-passed front st m (c .written .result) (sym (c .before .before .before .before .before .before .before .before .before .before .before .table-number .ensures) ∙ c .before .before .before .before .before .before .before .before .before .before .if1 .left) fits) (omega arith) (c .written .ensures) (c .before .before .before .before .before .before .before .copy .last .1 .0) (c .before .before .before .put-record-fields .last .1 .1 .0) (copied (at-start .args .content .now) _ _ (c .before .before .before .before .before .before .before .copy .ensures .1)) (c .before .before .before .put-record-fields .ensures)
+returns-3 c = let a = c .before .before .before .before .before .before .before .before .before .before .before .before .before .before .args in let frame = table-frame (a .content .now) in let m = a .out .now in let passed = sym (c .before .before .before .before .before .before .before .before .before .before .before .table-number .ensures) ∙ c .before .before .before .before .before .before .before .before .before .before .if1 .left in let fits : 6 + length (a .content .now) ≤ length m = c .before .before .before .before .before .before .before .before .before .if2 .left in let number = frame-passed frame (a .state) m (c .written .result) passed fits in frame-done frame (a .state) m (c .written .result) number (omega arith) (c .written .ensures) (c .before .before .before .before .before .before .before .copy .last .1 .0) (c .before .before .before .put-record-fields .last .1 .1 .0) (copied (a .content .now) _ _ (c .before .before .before .before .before .before .before .copy .ensures .1)) (c .before .before .before .put-record-fields .ensures)
 
 pub write-table-spec : {M : Type 1} → statement M
 write-table-spec =
@@ -89,7 +86,7 @@ write-table-spec =
     table-number-requires
     refused-requires
     returns
-    add-bytes
+    add-record-bytes
     refused-requires-2
     returns-2
     sub-copy

@@ -1,4 +1,4 @@
--- The place of a row among the records. Assumes nothing.
+-- The place of a row, packed or not, among the records. Assumes nothing.
 use Prim.Native.Nat.{ℕ, _≤_, _<_}
 use mathlib.Core.Path.{_≡_}
 use borrow.Author.Tests.{lt-ltb, le-ltb, eq-eqb, ne-eqb}

@@ -1,0 +1,13 @@
+-- Looking a row's pixels through. Definitions only. Assumes nothing.
+use Prim.Native.Nat.{ℕ, _≤_}
+use mathlib.Core.Path.{_≡_}
+use mathlib.Core.List.{List}
+use lib.ListN.{length, drop}
+use lib.Dec.{ltb}
+use Rattle.row_format.specs.Lists.{any}
+pub mod Laws
+
+-- after i pixels, none of them above 4095
+pub record Looking (ps : List ℕ) (i : ℕ) : Type 0 where
+  pub within : i ≤ length ps
+  pub above : any (ltb 4095) ps ≡ any (ltb 4095) (drop i ps)

@@ -1,0 +1,74 @@
+-- `table_listing::arrange::copy`: i numbers are copied before each turn; the measure is what is left of them. Assumes nothing.
+use Prim.Native.Nat.{_-_}
+use mathlib.Core.Path.{refl, sym}
+use borrow.Author.Needs.{needs}
+use lib.ListN.{length}
+use Rattle.table_listing.specs.Pick.{Copying}
+use Rattle.table_listing.specs.Pick.Laws.{copying-none, copying-more, copying-all}
+use Rattle.table_listing.proofs.arrange.copy.Statement.{statement}
+use Rattle.table_listing.proofs.arrange.copy.Tie as tie
+use Rattle.table_listing.proofs.arrange.copy.Reads as reads
+use Rattle.table_listing.proofs.arrange.copy.Lts as lts
+
+abbrev Inv-loop : tie.InvT-loop
+Inv-loop from to₀ i₀ to i = Copying from i to
+
+abbrev μ-loop : tie.MeasureT-loop
+μ-loop from to₀ i₀ to i = length from - i
+
+-- src/arrange.rt:70:5
+loop-holds : tie.Need-loop-holds Inv-loop μ-loop
+loop-holds c = copying-none (c .args .from .now) (c .args .to .now) (sym (c .pre))
+
+-- src/arrange.rt:71:17
+mul-to : tie.Need-mul-to Inv-loop μ-loop
+mul-to c = search needs
+
+-- src/arrange.rt:71:17
+shared-slice-read-to : tie.Need-shared-slice-read-to Inv-loop μ-loop
+shared-slice-read-to c = search needs
+
+-- src/arrange.rt:71:9
+mul-to-2 : tie.Need-mul-to-2 Inv-loop μ-loop
+mul-to-2 c = search needs
+
+-- src/arrange.rt:71:9
+slice-write-to : tie.Need-slice-write-to Inv-loop μ-loop
+slice-write-to c = search needs
+
+-- src/arrange.rt:72:9
+add-i : tie.Need-add-i Inv-loop μ-loop
+add-i c = search needs
+
+-- src/arrange.rt:70:5
+loop-less : tie.Need-loop-less Inv-loop μ-loop
+loop-less c = search needs
+
+-- src/arrange.rt:70:5
+loop-again : tie.Need-loop-again Inv-loop μ-loop
+loop-again c = copying-more _ (c .before .loop-test .taken) refl (c .before .before .loop .inv)
+
+-- src/arrange.rt:65:1
+same-length : tie.Need-same-length Inv-loop μ-loop
+same-length c = search needs
+
+-- src/arrange.rt:65:1
+returns : tie.Need-returns Inv-loop μ-loop
+returns c = copying-all (c .loop-test .left) (c .before .loop .inv)
+
+pub copy-spec : {M : Type 1} → statement M
+copy-spec =
+    tie.close
+    (tie.spec
+    Inv-loop
+    μ-loop
+    loop-holds
+    mul-to
+    shared-slice-read-to
+    mul-to-2
+    slice-write-to
+    add-i
+    loop-less
+    loop-again
+    same-length
+    returns)

@@ -1,0 +1,89 @@
+// A block of lines in lent memory: as many whole lines as there is room for.
+use crate::Listed;
+use crate::line::put_line;
+use text::line::put_refused_line;
+use text::put::put_bytes;
+ghost use mathlib.Core.Path.{_≡_};
+ghost use mathlib.Core.List.{[], _∷_, map};
+ghost use Prim.Native.Nat.{_+_, _≤_, _<_};
+ghost use lib.ListN.{length, drop};
+ghost use Rattle.bitstream.specs.Bits.{wordsOf};
+ghost use Rattle.bitstream.specs.Bits.Laws.{Below};
+ghost use Rattle.row_format.specs.Table.{tableSize};
+ghost use Rattle.code_table.specs.Check.{WholeTable};
+ghost use Rattle.text.specs.Lines.{refusedLine};
+ghost use Rattle.table_listing.specs.Line.{line};
+ghost use Rattle.table_listing.specs.Listing.{left, blockOf};
+ghost use Rattle.table_listing.specs.Fill.{Appended};
+
+// The lines of the strings at some places, from the place numbered `first` on.
+pub fn list_lines(table: &[u8], list: &[u16], first: usize, out: &mut [u8]) -> Listed
+    requires { ⌜ WholeTable (now table) ⌝ }
+    requires { ⌜ Below (3 + tableSize (wordsOf (now table))) (now list) ⌝ }
+    ensures { λ r. ⌜ left r (now (out .exit)) ≡ blockOf (drop first (map (line (wordsOf (now (table .entry)))) (now (list .entry)))) (now (out .entry)) ⌝ }
+{
+    let mut at = 0;
+    let mut i = first;
+    while i < list.len() {
+        let next = append_line(out, at, table, list[i]);
+        if next == at {
+            return Listed {
+                lines: i - first,
+                bytes: at,
+            };
+        }
+        at = next;
+        i += 1;
+    }
+    Listed {
+        lines: i - first,
+        bytes: at,
+    }
+}
+
+// The one line of a refused table.
+pub fn list_refusal(number: u32, first: usize, out: &mut [u8]) -> Listed
+    ensures { λ r. ⌜ left r (now (out .exit)) ≡ blockOf (drop first (refusedLine number ∷ [])) (now (out .entry)) ⌝ }
+{
+    if 0 < first {
+        return Listed { lines: 0, bytes: 0 };
+    }
+    let bytes = append_refused(out, 0, number);
+    if bytes == 0 {
+        return Listed { lines: 0, bytes: 0 };
+    }
+    Listed { lines: 1, bytes }
+}
+
+// The line of the string at a place, put where it fits.
+fn append_line(out: &mut [u8], at: usize, table: &[u8], place: u16) -> usize
+    requires { ⌜ WholeTable (now table) ⌝ }
+    requires { ⌜ place < 3 + tableSize (wordsOf (now table)) ⌝ }
+    requires { ⌜ at ≤ length (now out) ⌝ }
+    ensures { λ r. ⌜ Appended (now (out .entry)) at (line (wordsOf (now (table .entry))) place) r (now (out .exit)) ⌝ }
+{
+    let mut text = [0u8; 128];
+    let n = put_line(&mut text, 0, table, place);
+    append(out, at, &text[..n])
+}
+
+// The line `refused N`, put where it fits.
+fn append_refused(out: &mut [u8], at: usize, number: u32) -> usize
+    requires { ⌜ at ≤ length (now out) ⌝ }
+    ensures { λ r. ⌜ Appended (now (out .entry)) at (refusedLine number) r (now (out .exit)) ⌝ }
+{
+    let mut text = [0u8; 128];
+    let n = put_refused_line(&mut text, 0, number);
+    append(out, at, &text[..n])
+}
+
+// A text put where it fits. The answer is the place after it, and `at` where it does not fit.
+fn append(out: &mut [u8], at: usize, text: &[u8]) -> usize
+    requires { ⌜ at ≤ length (now out) ⌝ }
+    ensures { λ r. ⌜ Appended (now (out .entry)) at (now (text .entry)) r (now (out .exit)) ⌝ }
+{
+    if text.len() <= out.len() - at {
+        return put_bytes(out, at, text);
+    }
+    at
+}

@@ -1,0 +1,5 @@
+// Text into lent bytes: words, numbers and the lines of the listers. Every writer takes the place to write at and answers
+// the place after what it wrote. The texts are defined in specs/Text.antt and specs/Lines.antt.
+pub mod line;
+pub mod number;
+pub mod put;

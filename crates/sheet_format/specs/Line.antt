@@ -8,6 +8,8 @@ use lib.ListN.{drop}
 use lib.Dec.{ltb}
 use lib.IntN.{ℤ, pos, negsuc}
 use Rattle.adaptive.specs.Number.{Reading, accepted, rejected, signed, readAs, shortest}
+pub mod Laws
+pub mod Steps
 
 -- ---- two's complement in 32 bits
 abbrev pub wordOf : ℤ → ℕ

@@ -1,16 +1,18 @@
--- Document 01, "A sheet": what judging and reading a record answer, the memory lent for its content included. r is the sheet's
--- bytes from the record's place on, b the record's body, tb the bytes of the sheet's table, m the memory lent, as it was.
+-- Document 01, "A sheet": what judging and reading a record answer, the memory lent for its content included. r is the
+-- sheet's bytes from the record's place on, b the record's body, tb the bytes of the sheet's table, m the memory lent, as it
+-- was.
 -- Definitions only. Assumes nothing.
 use Prim.Native.Nat.{ℕ, zero, suc, _+_, _*_, _/_}
 use mathlib.Core.List.{List, [], _++_, map}
-use lib.ListN.{length, take, drop}
+use lib.ListN.{length, drop}
 use Rattle.bitstream.specs.Bits.{flat, bytesOf, wordsFor}
 use Rattle.row_format.specs.Row.{fresh, pixelsOf}
 use Rattle.row_format.specs.Reading.{Run, done, stop}
 use Rattle.sheet_format.specs.declared.SheetState.{SheetState}
 use Rattle.sheet_format.specs.declared.RecordRead.{RecordRead}
 use Rattle.sheet_format.specs.Line.{Line, numbers, faulty, wordOf}
-use Rattle.sheet_format.specs.Record.{lengthField, kindField, bodyOf, Kind, tableRecord, packedRecord, plainRecord, lineRecord, unknown, kindOf, rowNumber, pixelCount, rowContent, numberCount, lineContent, runOf, lineOf, bitsOfRun, Lent, nothing, lent, recordNumber}
+use Rattle.sheet_format.specs.Record.{lengthField, kindField, bodyOf, Kind, tableRecord, packedRecord, plainRecord, lineRecord, unknown, kindOf, rowNumber, pixelCount, rowContent, numberCount, runOf, lineOf, bitsOfRun, nothing, lent, recordNumber}
+pub mod Laws
 
 -- ---- the state of a sheet: a new sheet's, and the state after an accepted record
 abbrev pub newSheet : SheetState
@@ -55,7 +57,15 @@ bitsHeld plainRecord tb b = 0
 bitsHeld lineRecord tb b = 0
 bitsHeld unknown tb b = 0
 
--- the content as bytes: 2 a pixel, 4 a number; a table is the record's own bytes, and nothing is made of it
+-- the bytes of the content of so many pixels or numbers: 2 a pixel, 4 a number
+abbrev pub contentBytes : Kind → ℕ → ℕ
+contentBytes tableRecord n = 0
+contentBytes packedRecord n = 2 * n
+contentBytes plainRecord n = 2 * n
+contentBytes lineRecord n = 4 * n
+contentBytes unknown n = 0
+
+-- the content; a table is the record's own bytes, and nothing is made of it
 abbrev pub pixelBytes : ℕ → Run → List ℕ
 pixelBytes n (done is u) = bytesOf (2 * n) (flat 16 (pixelsOf fresh is))
 pixelBytes n (stop e at u) = []
@@ -81,8 +91,12 @@ held k code whole tb b st =
       bits = bitsHeld k tb b;
       words = wordsFor (bitsHeld k tb b);
       length = whole;
-      state = stateAfter k (rowNumber b) st
+      state = stateAfter k (rowNumber b) st;
     }
+
+-- the bytes that a record's content takes, by its answer
+abbrev pub answerBytes : RecordRead → ℕ
+answerBytes a = contentBytes (kindOf (a .kind)) (a .count)
 
 unfoldable pub recordHeld : List ℕ → List ℕ → SheetState → RecordRead
 recordHeld tb r st = held (kindOf (kindField r)) (kindField r) (4 + lengthField r) tb (bodyOf r) st
@@ -103,9 +117,16 @@ pub record ReadOutcome : Type 0 where
   pub answer : RecordRead
   pub memory : List ℕ
 
+-- done: the content c stands at the front of the lent memory, and what follows is as it was
+abbrev pub readDone : RecordRead → List ℕ → List ℕ → ReadOutcome
+readDone a c m = record { answer = a; memory = c ++ drop (length c) m }
+
+abbrev pub readRefused : ℕ → SheetState → List ℕ → ReadOutcome
+readRefused e st m = record { answer = refusedRecord e st; memory = m }
+
 abbrev pub readUnless : ℕ → SheetState → List ℕ → RecordRead → List ℕ → ReadOutcome
-readUnless zero st m a c = record { answer = a; memory = c ++ drop (length c) m }
-readUnless (suc e) st m a c = record { answer = refusedRecord (suc e) st; memory = m }
+readUnless zero st m a c = readDone a c m
+readUnless (suc e) st m a c = readRefused (suc e) st m
 
 -- a record judged: no memory is lent
 unfoldable pub recordJudged : List ℕ → List ℕ → SheetState → RecordRead

@@ -1,12 +1,12 @@
--- Document 01, "A sheet": the parts of a record, and the number that a record is refused with. r is the sheet's bytes from the
--- record's place on, b the record's body, tb the bytes of the sheet's table. Every definition is total.
+-- Document 01, "A sheet": the parts of a record, and the number that a record is refused with. r is the sheet's bytes from
+-- the record's place on, b the record's body, tb the bytes of the sheet's table. Every definition is total.
 -- Definitions only. Assumes nothing.
-use Prim.Native.Nat.{ℕ, zero, suc, _+_, _-_, _*_, _/_, _%_}
-use mathlib.Core.Bool.{Bool, true, false, not}
-use mathlib.Core.List.{List, [], _∷_, _++_}
+use Prim.Native.Nat.{ℕ, zero, suc, _+_, _-_, _*_, _%_}
+use mathlib.Core.Bool.{cond, not}
+use mathlib.Core.List.{List}
 use lib.ListN.{length, take, drop}
 use lib.Dec.{ltb, eqb}
-use Rattle.bitstream.specs.Bits.{digits, numberOf, bytesOf, halvesOf, wordsOf, stream, wordsFor}
+use Rattle.bitstream.specs.Bits.{numberOf, halvesOf, wordsOf, stream, wordsFor}
 use Rattle.answer.specs.Outcome.{_orElse_, refuseIf}
 use Rattle.row_format.specs.Lists.{any}
 use Rattle.row_format.specs.Table.{tableNumber}
@@ -14,6 +14,8 @@ use Rattle.row_format.specs.Reading.{Run, done, stop, readItems, stray}
 use Rattle.row_format.specs.Calls.{tooMany}
 use Rattle.sheet_format.specs.declared.SheetState.{SheetState}
 use Rattle.sheet_format.specs.Line.{Line, numbers, faulty, readLine}
+pub mod Laws
+pub mod Rows
 
 -- ---- the parts of a record: "a 4-byte little-endian length that counts what follows it, a two-byte little-endian kind, a
 -- body"
@@ -196,3 +198,8 @@ recordNumber m tb r st =
     lengthNumber r
     orElse kindNumber (kindOf (kindField r))
     orElse contentNumber (kindOf (kindField r)) m tb (bodyOf r) st
+
+-- for a reader that streams a sheet: the bytes that it has to hold to judge the record at r, whatever stands there. Four, and
+-- where the length that they say is within its limits as many more
+unfoldable pub recordSpan : List ℕ → ℕ
+recordSpan r = cond (ltb (lengthField r) 2) 4 (cond (ltb 32774 (lengthField r)) 4 (4 + lengthField r))

@@ -5,8 +5,9 @@ use mathlib.Core.List.{List, [], _∷_}
 use lib.ListN.{length, take, drop}
 use Rattle.sheet_format.specs.declared.SheetState.{SheetState}
 use Rattle.sheet_format.specs.declared.RecordRead.{RecordRead}
-use Rattle.sheet_format.specs.Record.{bodyOf, kindOf, kindField}
+use Rattle.sheet_format.specs.Record.{bodyOf, Kind, tableRecord, packedRecord, plainRecord, lineRecord, unknown, kindOf}
 use Rattle.sheet_format.specs.Reading.{newSheet, tableAfter, recordJudged}
+pub mod Laws
 
 -- an accepted record of a sheet: what it holds, and its bytes
 pub record SheetRecord : Type 0 where
@@ -45,3 +46,19 @@ recordsFrom (suc n) tb st r =
 unfoldable pub sheetRead : List ℕ → SheetRead
 sheetRead [] = endsWith 16
 sheetRead (x ∷ r) = recordsFrom (length (x ∷ r)) [] newSheet (x ∷ r)
+
+-- ---- of some records: their kinds, and their row numbers "over kinds 2 and 3"
+unfoldable pub recordKinds : List SheetRecord → List ℕ
+recordKinds [] = []
+recordKinds (x ∷ xs) = x .answer .kind ∷ recordKinds xs
+
+abbrev pub withRow : Kind → ℕ → List ℕ → List ℕ
+withRow tableRecord row rows = rows
+withRow packedRecord row rows = row ∷ rows
+withRow plainRecord row rows = row ∷ rows
+withRow lineRecord row rows = rows
+withRow unknown row rows = rows
+
+unfoldable pub rowNumbers : List SheetRecord → List ℕ
+rowNumbers [] = []
+rowNumbers (x ∷ xs) = withRow (kindOf (x .answer .kind)) (x .answer .row) (rowNumbers xs)

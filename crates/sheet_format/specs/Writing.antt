@@ -2,7 +2,7 @@
 -- table's bytes, a row's pixels as 2 bytes each, or a line's numbers as 4 bytes each; row is a row's number, at most 65535,
 -- and tb the bytes of the sheet's table.
 -- Definitions only. Assumes nothing.
-use Prim.Native.Nat.{ℕ, zero, suc, _+_, _*_, _/_}
+use Prim.Native.Nat.{ℕ, zero, suc, _+_, _*_}
 use mathlib.Core.List.{List, [], _++_, map}
 use lib.ListN.{length, take, drop}
 use lib.Dec.{ltb}
@@ -18,6 +18,7 @@ use Rattle.sheet_format.specs.declared.RecordWritten.{RecordWritten}
 use Rattle.sheet_format.specs.Line.{signedOf, lineBytes}
 use Rattle.sheet_format.specs.Record.{Kind, tableRecord, packedRecord, plainRecord, lineRecord, unknown, kindOf, kindNumber, placeNumber}
 use Rattle.sheet_format.specs.Reading.{stateAfter}
+pub mod Laws
 
 -- ---- the content given; an incomplete pixel or number at the end counts for nothing
 abbrev pub givenPixels : List ℕ → List ℕ
@@ -46,6 +47,10 @@ bodyFor unknown row tb c = []
 unfoldable pub recordBytes : ℕ → List ℕ → List ℕ
 recordBytes code b = fourBytes (2 + length b) ++ (twoBytes code ++ b)
 
+-- the record for what the writer is given
+abbrev pub recordFor : ℕ → ℕ → List ℕ → List ℕ → List ℕ
+recordFor code row tb c = recordBytes code (bodyFor (kindOf code) row tb c)
+
 -- ---- the number. "It refuses 15, 16, then 1, 2, 3 for the table written or packed under, then 11, 4, 5"
 abbrev pub tooHigh : List ℕ → ℕ
 tooHigh c = refuseIf (any (ltb 4095) (givenPixels c)) 4
@@ -62,7 +67,7 @@ writeNumber code row tb c st roomBytes =
     kindNumber (kindOf code)
     orElse placeNumber (kindOf code) row st
     orElse givenNumber (kindOf code) tb c
-    orElse refuseIf (ltb roomBytes (length (recordBytes code (bodyFor (kindOf code) row tb c)))) 5
+    orElse refuseIf (ltb roomBytes (length (recordFor code row tb c))) 5
 
 -- ---- the call: a refusal has 0 for the count, and leaves the state as given and the memory as found
 pub record WriteOutcome : Type 0 where
@@ -77,4 +82,4 @@ writtenUnless (suc e) st m st′ b = record { answer = record { number = suc e; 
 unfoldable pub recordWritten : ℕ → ℕ → List ℕ → List ℕ → SheetState → List ℕ → WriteOutcome
 recordWritten code row tb c st m =
     writtenUnless (writeNumber code row tb c st (length m)) st m (stateAfter (kindOf code) row st)
-    (recordBytes code (bodyFor (kindOf code) row tb c))
+    (recordFor code row tb c)

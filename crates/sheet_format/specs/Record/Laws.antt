@@ -1,0 +1,183 @@
+-- The laws of a record's number: it is 0 exactly where each of its parts is. Assumes nothing.
+use Prim.Native.Nat.{ℕ, zero, suc, _+_, _-_, _≤_, _<_}
+use native.Mathlib.Nat.{sub-zero, zero-sub, suc-sub-suc}
+use native.Mathlib.Decide.{decLt}
+use native.Mathlib.Omega.{arith}
+use mathlib.Core.Path.{_≡_, refl, sym, ap, _∙_}
+use mathlib.Core.Logic.{by-cases}
+use mathlib.Core.Bool.{Bool, false, not}
+use mathlib.Core.List.{List, [], _∷_}
+use lib.ListN.{length, take, drop}
+use lib.Seq.{take-nil}
+use lib.Dec.{ltb, eqb}
+use borrow.Author.Tests.{ltb-false, lt-ltb, le-ltb, eqb-true, eq-eqb, ne-eqb, not-false}
+use Rattle.answer.specs.Outcome.{_orElse_, refuseIf}
+use Rattle.row_format.specs.Lists.Laws.{cond-zero-test}
+use Rattle.row_format.specs.Calls.Laws.{orElse-zero-left, orElse-zero-right}
+use Rattle.sheet_format.specs.declared.SheetState.{SheetState}
+use Rattle.sheet_format.specs.Record.{lengthField, kindField, bodyOf, Kind, unknown, kindOf, rowNumber, lengthNumber, kindNumber, fixedNumber, placeNumber, Lent, bodyNumber, leftoverNumber, lastRoomNumber, contentNumber, recordNumber}
+
+-- ---- refusals in order
+-- after a refusal what follows is not looked at
+pub orElse-same : (a x y : ℕ) → (a ≡ 0 → x ≡ y) → a orElse x ≡ a orElse y
+orElse-same zero x y h = h refl
+orElse-same (suc a) x y h = refl
+
+-- ---- one refusal
+pub refuseIf-zero : (b : Bool) (e : ℕ) → refuseIf b (suc e) ≡ 0 → b ≡ false
+refuseIf-zero b e h = cond-zero-test b e 0 h
+
+pub lessNumber-zero : (a b e : ℕ) → refuseIf (ltb a b) (suc e) ≡ 0 → b ≤ a
+lessNumber-zero a b e h = ltb-false a b (refuseIf-zero (ltb a b) e h)
+
+pub unequalNumber-zero : (a b e : ℕ) → refuseIf (not (eqb a b)) (suc e) ≡ 0 → a ≡ b
+unequalNumber-zero a b e h = eqb-true a b (not-false (eqb a b) (refuseIf-zero (not (eqb a b)) e h))
+
+pub lessNumber-none : (a b e : ℕ) → b ≤ a → refuseIf (ltb a b) e ≡ 0
+lessNumber-none a b e h = rw (le-ltb a b h)
+
+pub lessNumber-given : (a b e : ℕ) → a < b → refuseIf (ltb a b) e ≡ e
+lessNumber-given a b e h = rw (lt-ltb a b h)
+
+pub unequalNumber-none : (a b e : ℕ) → a ≡ b → refuseIf (not (eqb a b)) e ≡ 0
+unequalNumber-none a b e h = rw (eq-eqb a b h)
+
+pub unequalNumber-given : (a b e : ℕ) → (a ≡ b → ⊥) → refuseIf (not (eqb a b)) e ≡ e
+unequalNumber-given a b e h = rw (ne-eqb a b h)
+
+-- ---- the length
+pub record RightLength (r : List ℕ) : Type 0 where
+  pub least : 2 ≤ lengthField r
+  pub most : lengthField r ≤ 32774
+  pub there : 4 + lengthField r ≤ length r
+
+pub lengthNumber-right : (r : List ℕ) → RightLength r → lengthNumber r ≡ 0
+unfolding lengthNumber
+lengthNumber-right r h =
+    rw (
+      le-ltb (length r) 4 (omega (arith, h .there)),
+      le-ltb (lengthField r) 2 (h .least),
+      le-ltb 32774 (lengthField r) (h .most),
+      le-ltb (length r) (4 + lengthField r) (h .there),
+    )
+
+pub right-length : (r : List ℕ) → lengthNumber r ≡ 0 → RightLength r
+unfolding lengthNumber
+right-length r e =
+    let four = refuseIf (ltb (length r) 4) 14 in
+    let small = refuseIf (ltb (lengthField r) 2) 14 in
+    let large = refuseIf (ltb 32774 (lengthField r)) 14 in
+    let past = refuseIf (ltb (length r) (4 + lengthField r)) 14 in
+    let e1 = orElse-zero-right four (small orElse large orElse past) e in
+    let e2 = orElse-zero-right small (large orElse past) e1 in
+    record {
+      least = lessNumber-zero (lengthField r) 2 13 (orElse-zero-left small (large orElse past) e1);
+      most = lessNumber-zero 32774 (lengthField r) 13 (orElse-zero-left large past e2);
+      there = lessNumber-zero (length r) (4 + lengthField r) 13 (orElse-zero-right large past e2);
+    }
+
+-- a length outside its limits is refused whatever follows
+pub lengthNumber-wrong : (r : List ℕ) → (2 ≤ lengthField r → 32774 < lengthField r) → lengthNumber r ≡ 14
+unfolding lengthNumber
+lengthNumber-wrong r h =
+    by-cases (decLt (length r) 4) (λ short. rw (lt-ltb (length r) 4 short))
+    (λ four. by-cases (decLt (lengthField r) 2)
+    (λ small. rw (le-ltb (length r) 4 (omega arith), lt-ltb (lengthField r) 2 small))
+    (λ large. rw (
+      le-ltb (length r) 4 (omega arith),
+      le-ltb (lengthField r) 2 (omega arith),
+      lt-ltb 32774 (lengthField r) (h (omega arith)),
+    )))
+
+-- ---- the body
+pub drop-take : (n k : ℕ) (l : List ℕ) → drop n (take k l) ≡ take (k - n) (drop n l)
+drop-take zero k l = rw (sub-zero k)
+drop-take (suc n) zero l = rw (zero-sub (suc n))
+drop-take (suc n) (suc k) [] = sym (take-nil (suc k - suc n))
+drop-take (suc n) (suc k) (x ∷ l) = drop-take n k l ∙ rw (suc-sub-suc k n)
+
+-- the record's bytes from place 6 on
+pub bodyOf-whole : (r : List ℕ) → drop 6 (take (4 + lengthField r) r) ≡ bodyOf r
+bodyOf-whole r =
+    let same : 4 + lengthField r - 6 ≡ lengthField r - 2 = omega arith in
+    drop-take 6 (4 + lengthField r) r ∙ ap (λ (k : ℕ). take k (drop 6 r)) same
+
+-- ---- the kind
+pub kindOf-known : (code : ℕ) → kindNumber (kindOf code) ≡ 0 → code ≤ 4
+unfolding kindNumber
+kindOf-known zero e = omega arith
+kindOf-known (suc zero) e = omega arith
+kindOf-known (suc (suc zero)) e = omega arith
+kindOf-known (suc (suc (suc zero))) e = omega arith
+kindOf-known (suc (suc (suc (suc zero)))) e = omega arith
+kindOf-known (suc (suc (suc (suc (suc k))))) e = absurd (omega arith)
+
+pub kindNumber-known : (code : ℕ) → 1 ≤ code → code ≤ 4 → kindNumber (kindOf code) ≡ 0
+unfolding kindNumber
+kindNumber-known zero h g = absurd (omega arith)
+kindNumber-known (suc zero) h g = refl
+kindNumber-known (suc (suc zero)) h g = refl
+kindNumber-known (suc (suc (suc zero))) h g = refl
+kindNumber-known (suc (suc (suc (suc zero)))) h g = refl
+kindNumber-known (suc (suc (suc (suc (suc k))))) h g = absurd (omega arith)
+
+pub kindOf-unknown : (code : ℕ) → 4 < code → kindOf code ≡ unknown
+kindOf-unknown zero h = absurd (omega arith)
+kindOf-unknown (suc zero) h = absurd (omega arith)
+kindOf-unknown (suc (suc zero)) h = absurd (omega arith)
+kindOf-unknown (suc (suc (suc zero))) h = absurd (omega arith)
+kindOf-unknown (suc (suc (suc (suc zero)))) h = absurd (omega arith)
+kindOf-unknown (suc (suc (suc (suc (suc k))))) h = refl
+
+-- ---- the parts after the kind
+pub record Passed (k : Kind) (m : Lent) (tb b : List ℕ) (st : SheetState) : Type 0 where
+  pub fixed : fixedNumber k b ≡ 0
+  pub place : placeNumber k (rowNumber b) st ≡ 0
+  pub body : bodyNumber k m tb b ≡ 0
+  pub leftover : leftoverNumber k tb b ≡ 0
+  pub room : lastRoomNumber k m b ≡ 0
+
+module _ (k : Kind) (m : Lent) (tb b : List ℕ) (st : SheetState) where
+  pub contentNumber-passed : Passed k m tb b st → contentNumber k m tb b st ≡ 0
+  unfolding contentNumber
+  contentNumber-passed p = rw (p .fixed, p .place, p .body, p .leftover, p .room)
+
+  pub passed : contentNumber k m tb b st ≡ 0 → Passed k m tb b st
+  unfolding contentNumber
+  passed e =
+      let e1 = orElse-zero-right (fixedNumber k b) _ e in
+      let e2 = orElse-zero-right (placeNumber k (rowNumber b) st) _ e1 in
+      let e3 = orElse-zero-right (bodyNumber k m tb b) _ e2 in
+      record {
+        fixed = orElse-zero-left (fixedNumber k b) _ e;
+        place = orElse-zero-left (placeNumber k (rowNumber b) st) _ e1;
+        body = orElse-zero-left (bodyNumber k m tb b) _ e2;
+        leftover = orElse-zero-left (leftoverNumber k tb b) _ e3;
+        room = orElse-zero-right (leftoverNumber k tb b) _ e3;
+      }
+
+-- ---- the whole record
+pub record Read (m : Lent) (tb r : List ℕ) (st : SheetState) : Type 0 where
+  pub size : RightLength r
+  pub kind : kindField r ≤ 4
+  pub known : kindNumber (kindOf (kindField r)) ≡ 0
+  pub parts : Passed (kindOf (kindField r)) m tb (bodyOf r) st
+
+pub recordNumber-read : (m : Lent) (tb r : List ℕ) (st : SheetState) → recordNumber m tb r st ≡ 0 → Read m tb r st
+unfolding recordNumber
+recordNumber-read m tb r st e =
+    let k = kindOf (kindField r) in
+    let e1 = orElse-zero-right (lengthNumber r) _ e in
+    let known = orElse-zero-left (kindNumber k) _ e1 in
+    record {
+      size = right-length r (orElse-zero-left (lengthNumber r) _ e);
+      kind = kindOf-known (kindField r) known;
+      known = known;
+      parts = passed k m tb (bodyOf r) st (orElse-zero-right (kindNumber k) _ e1);
+    }
+
+pub read-recordNumber : (m : Lent) (tb r : List ℕ) (st : SheetState) → Read m tb r st → recordNumber m tb r st ≡ 0
+unfolding recordNumber
+read-recordNumber m tb r st h =
+    rw (lengthNumber-right r (h .size), h .known)
+    (contentNumber-passed (kindOf (kindField r)) m tb (bodyOf r) st (h .parts))

@@ -1,0 +1,96 @@
+-- The ways out of judging a record's length and kind. Assumes nothing.
+use Prim.Native.Nat.{ℕ, zero, suc, _+_, _-_, _*_, _≤_, _<_}
+use native.Mathlib.Omega.{arith}
+use mathlib.Core.Path.{_≡_, refl, sym, ap, _∙_}
+use mathlib.Core.List.{List, [], _++_}
+use lib.ListN.{length, take, drop, length-take}
+use borrow.Author.Tests.{lt-ltb, le-ltb}
+use Rattle.answer.specs.Outcome.{_orElse_}
+use Rattle.row_format.specs.Calls.{tooMany}
+use Rattle.row_format.specs.Calls.Laws.{orElse-zero-left}
+use Rattle.sheet_format.specs.declared.SheetState.{SheetState}
+use Rattle.sheet_format.specs.declared.RecordRead.{RecordRead}
+use Rattle.sheet_format.specs.Record.{lengthField, kindField, bodyOf, Kind, tableRecord, packedRecord, plainRecord, lineRecord, unknown, kindOf, rowNumber, pixelCount, numberCount, lengthNumber, kindNumber, fixedNumber, placeNumber, nothing, lent, roomNumber, bodyNumber, leftoverNumber, lastRoomNumber, contentNumber, recordNumber}
+use Rattle.sheet_format.specs.Record.Laws.{orElse-same, lessNumber-zero, lessNumber-none, RightLength, lengthNumber-right, right-length, kindOf-unknown}
+use Rattle.sheet_format.specs.Theorems.Judged.{recordNumber-enough}
+use Rattle.sheet_format.specs.Reading.{refusedRecord, recordHeld, recordContent, recordJudged}
+use Rattle.sheet_reader.specs.Leaves.{Leaves, ContentLeaves, BodyLeaves, RecordLeaves, tableJudged}
+use Rattle.sheet_reader.specs.Leaves.Laws.{orElse-assoc, given-first, given-next, keptUnless-nothing, refuses}
+
+-- ---- the length
+pub length-missing : (r : List ℕ) → length r < 4 → 14 ≡ lengthNumber r
+unfolding lengthNumber
+length-missing r h = rw (lt-ltb (length r) 4 h)
+
+module _ (r : List ℕ) (four : 4 ≤ length r) (n : ℕ) (is : n ≡ lengthField r) where
+  pub length-small : n < 2 → 14 ≡ lengthNumber r
+  unfolding lengthNumber
+  length-small h = rw (le-ltb (length r) 4 four, ← is, lt-ltb n 2 h)
+
+  pub length-large : 2 ≤ n → 32774 < n → 14 ≡ lengthNumber r
+  unfolding lengthNumber
+  length-large low h = rw (le-ltb (length r) 4 four, ← is, le-ltb n 2 low, lt-ltb 32774 n h)
+
+  pub length-past : 2 ≤ n → n ≤ 32774 → length r < 4 + n → 14 ≡ lengthNumber r
+  unfolding lengthNumber
+  length-past low high h = rw (le-ltb (length r) 4 four, ← is, le-ltb n 2 low, le-ltb 32774 n high, lt-ltb (length r) (4 + n) h)
+
+  pub length-right : 2 ≤ n → n ≤ 32774 → 4 + n ≤ length r → 0 ≡ lengthNumber r
+  length-right low high h = sym (lengthNumber-right r (record { least = rw (← is) low; most = rw (← is) high; there = rw (← is) h }))
+
+pub number-right : (r : List ℕ) {n : ℕ} → n ≡ lengthNumber r → n ≡ 0 → RightLength r
+number-right r is none = right-length r (sym is ∙ none)
+
+pub body-short : (r : List ℕ) (size : ℕ) → size ≤ 32774 → length (take (4 + size - 6) (drop 6 r)) ≤ 32772
+body-short r size h = omega (arith, length-take (4 + size - 6) (drop 6 r))
+
+-- ---- a record, by its length, and by its body
+module _ {room : ℕ} {tb r : List ℕ} {st : SheetState} {m : List ℕ} {x : RecordRead} {n : ℕ} (is : n ≡ lengthNumber r) where
+  pub frame-refuses : x ≡ refusedRecord n st → (n ≡ 0 → ⊥) → RecordLeaves room tb r st m x m
+  unfolding recordNumber
+  frame-refuses refused some = record { leaves = refuses refused (given-first (lengthNumber r) _ is some) some }
+
+  pub frame-leaves : n ≡ 0 → {m′ : List ℕ} (size code : ℕ) → size ≡ lengthField r → code ≡ kindField r
+      → BodyLeaves room code (4 + size) tb (take (4 + size - 6) (drop 6 r)) st m x m′ → RecordLeaves room tb r st m x m′
+  unfolding recordNumber recordHeld recordContent
+  frame-leaves none size code size-is code-is l =
+      let right = right-length r (sym is ∙ none) in
+      let end : 4 + size - 6 ≡ lengthField r - 2 = omega arith in
+      let l′ = rw (end, size-is, code-is) at (l .leaves) in
+      record { leaves = rw (sym is ∙ none) l′ }
+
+-- ---- a body, by its kind
+unknown-code : (code : ℕ) → (code ≡ 1 → ⊥) → (code ≡ 2 → ⊥) → (code ≡ 3 → ⊥) → (code ≡ 4 → ⊥) → kindOf code ≡ unknown
+unknown-code zero a b c d = refl
+unknown-code (suc k) a b c d = kindOf-unknown (suc k) (omega arith)
+
+module _ {room : ℕ} {tb b : List ℕ} {st : SheetState} {m : List ℕ} {x : RecordRead} {code whole : ℕ} where
+  pub table-leaves : code ≡ 1 → x ≡ tableJudged whole b st → BodyLeaves room code whole tb b st m x m
+  unfolding kindNumber contentNumber bodyNumber leftoverNumber lastRoomNumber
+  table-leaves is judged = record { leaves = rw is (record { answer = judged; memory = λ enough. sym (keptUnless-nothing (contentNumber tableRecord (lent room) tb b st) m) }) }
+
+  pub packed-leaves : {m′ : List ℕ} → code ≡ 2 → ContentLeaves packedRecord room 2 whole tb b st m x m′
+      → BodyLeaves room code whole tb b st m x m′
+  unfolding kindNumber
+  packed-leaves is l = record { leaves = rw is (l .leaves) }
+
+  pub plain-leaves : {m′ : List ℕ} → code ≡ 3 → ContentLeaves plainRecord room 3 whole [] b st m x m′
+      → BodyLeaves room code whole tb b st m x m′
+  unfolding kindNumber contentNumber bodyNumber leftoverNumber
+  plain-leaves is l = record { leaves = rw is (l .leaves) }
+
+  pub line-leaves : {m′ : List ℕ} → code ≡ 4 → ContentLeaves lineRecord room 4 whole [] b st m x m′
+      → BodyLeaves room code whole tb b st m x m′
+  unfolding kindNumber contentNumber bodyNumber leftoverNumber
+  line-leaves is l = record { leaves = rw is (l .leaves) }
+
+  pub unknown-leaves : (code ≡ 1 → ⊥) → (code ≡ 2 → ⊥) → (code ≡ 3 → ⊥) → (code ≡ 4 → ⊥) → x ≡ refusedRecord 15 st
+      → BodyLeaves room code whole tb b st m x m
+  unfolding kindNumber
+  unknown-leaves a b c d is = record { leaves = rw (unknown-code code a b c d) (refuses is refl (λ e. omega arith)) }
+
+-- ---- a record that is only judged: the room of the longest content is never too small
+pub judged-leaves : {tb r : List ℕ} {st : SheetState} {m : List ℕ} {x : RecordRead} {m′ : List ℕ} → RecordLeaves 16384 tb r st m x m′
+    → x ≡ recordJudged tb r st
+unfolding recordJudged
+judged-leaves {tb} {r} {st} l = l .leaves .answer ∙ rw (recordNumber-enough 16384 (omega arith) tb r st)

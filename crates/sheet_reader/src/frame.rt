@@ -1,0 +1,65 @@
+// The frame of a record: its length and its kind.
+use crate::answers::refused;
+use crate::line::read_line;
+use crate::packed::read_packed;
+use crate::plain::read_plain;
+use crate::table::read_table;
+use bitstream::number::read_u16;
+use bitstream::number::read_u32;
+use sheet_format::RecordRead;
+use sheet_format::SheetState;
+ghost use mathlib.Core.Path.{_≡_};
+ghost use Prim.Native.Nat.{_≤_};
+ghost use lib.ListN.{length};
+ghost use Rattle.sheet_format.specs.Record.{lengthNumber};
+ghost use Rattle.sheet_reader.specs.Leaves.{RecordLeaves, BodyLeaves};
+
+// The record at the front of `sheet`, where so much room is asked of its content as if lent. The content is written where
+// `content` has that room; where it has less, the record is only judged.
+pub fn read(table: &[u8], sheet: &[u8], state: SheetState, room: usize, content: &mut [u8]) -> RecordRead
+    ensures { λ r. ⌜ RecordLeaves room (now (table .entry)) (now (sheet .entry)) state (now (content .entry)) r (now (content .exit)) ⌝ }
+{
+    let number = length_number(sheet);
+    if number != 0 {
+        return refused(number, state);
+    }
+    let whole = 4 + read_u32(sheet, 0);
+    let kind = read_u16(sheet, 4);
+    let end = whole as usize;
+    let body = &sheet[6..end];
+    read_body(kind, table, body, whole, state, room, content)
+}
+
+// 14 where the length is wrong, else 0.
+fn length_number(sheet: &[u8]) -> u32
+    ensures { λ r. ⌜ r ≡ lengthNumber (now (sheet .entry)) ⌝ }
+{
+    if sheet.len() < 4 {
+        return 14;
+    }
+    let length = read_u32(sheet, 0) as usize;
+    if length < 2 {
+        return 14;
+    }
+    if 32774 < length {
+        return 14;
+    }
+    if sheet.len() < 4 + length {
+        return 14;
+    }
+    0
+}
+
+// The one place where kinds are told apart.
+fn read_body(kind: u32, table: &[u8], body: &[u8], whole: u32, state: SheetState, room: usize, content: &mut [u8]) -> RecordRead
+    requires { ⌜ length (now body) ≤ 32772 ⌝ }
+    ensures { λ r. ⌜ BodyLeaves room kind whole (now (table .entry)) (now (body .entry)) state (now (content .entry)) r (now (content .exit)) ⌝ }
+{
+    match kind {
+        1 => read_table(body, whole, state),
+        2 => read_packed(table, body, whole, state, room, content),
+        3 => read_plain(body, whole, state, room, content),
+        4 => read_line(body, whole, state, room, content),
+        _ => refused(15, state),
+    }
+}

@@ -1,0 +1,76 @@
+// A packed row in a record.
+use crate::answers::held;
+use crate::answers::refused;
+use crate::keep::keep;
+use crate::row::after_row;
+use crate::row::row_fields;
+use answer::Answer;
+use row_unpacker::unpack::unpack;
+use sheet_format::RecordRead;
+use sheet_format::SheetState;
+ghost use mathlib.Core.Path.{_≡_};
+ghost use Prim.Native.Nat.{_≤_, min};
+ghost use lib.ListN.{length};
+ghost use Rattle.sheet_format.specs.Record.{packedRecord, pixelCount};
+ghost use Rattle.sheet_reader.specs.Leaves.{ContentLeaves};
+ghost use Rattle.sheet_reader.specs.Packed.{RowRead};
+
+// The bytes of 4096 pixels.
+const MOST_ROW_BYTES: usize = 8192;
+
+// A row's pixels are unpacked before a leftover word is known, and a refusal leaves `content` as it was: so they go to
+// memory of this call first.
+pub fn read_packed(table: &[u8], body: &[u8], whole: u32, state: SheetState, room: usize, content: &mut [u8]) -> RecordRead
+    ensures { λ r. ⌜ ContentLeaves packedRecord room 2 whole (now (table .entry)) (now (body .entry)) state (now (content .entry)) r (now (content .exit)) ⌝ }
+{
+    if body.len() % 4 != 0 {
+        return refused(14, state);
+    }
+    let fields = row_fields(body, state);
+    let wrong = fields.number;
+    if wrong != 0 {
+        return refused(wrong, state);
+    }
+    let row = fields.row;
+    let count = fields.count;
+    let mut pixels = [0u8; 8192];
+    let unpacked = unpack_row(table, body, count, room, &mut pixels);
+    let number = unpacked.number;
+    if number != 0 {
+        return refused(number, state);
+    }
+    keep(&pixels, 2 * count as usize, room, content);
+    held(2, row, count, unpacked.count, whole, after_row(row, state))
+}
+
+// The row's bits, and its pixels to the front of `pixels`; 14 where a word is left after the last used one. Lent no more
+// than the room, unpacking itself gives 5 in its turn.
+fn unpack_row(table: &[u8], body: &[u8], count: u32, room: usize, pixels: &mut [u8]) -> Answer
+    requires { ⌜ 4 ≤ length (now body) ⌝ }
+    requires { ⌜ count ≡ pixelCount (now body) ⌝ }
+    requires { ⌜ length (now pixels) ≡ 8192 ⌝ }
+    ensures { λ r. ⌜ RowRead room (now (table .entry)) (now (body .entry)) r (now (pixels .exit)) ⌝ }
+{
+    let words = &body[4..];
+    let lent = smaller(room, MOST_ROW_BYTES);
+    let unpacked = unpack(table, words, count as u64, &mut pixels[..lent]);
+    let number = unpacked.number;
+    if number != 0 {
+        return Answer { number, count: 0 };
+    }
+    let bits = unpacked.count;
+    let used = (bits as usize + 31) / 32;
+    if 4 * used < words.len() {
+        return Answer {
+            number: 14,
+            count: 0,
+        };
+    }
+    Answer { number: 0, count: bits }
+}
+
+fn smaller(a: usize, b: usize) -> usize
+    ensures { λ r. ⌜ r ≡ min a b ⌝ }
+{
+    if a < b { a } else { b }
+}

@@ -1,0 +1,76 @@
+// A plain row in a record: two bytes a pixel, unpacked.
+use crate::answers::held;
+use crate::answers::refused;
+use crate::keep::keep;
+use crate::row::after_row;
+use crate::row::row_fields;
+use bitstream::number::read_u16;
+use sheet_format::RecordRead;
+use sheet_format::SheetState;
+ghost use mathlib.Core.Path.{_≡_};
+ghost use mathlib.Core.List.{[]};
+ghost use Prim.Native.Nat.{_≤_};
+ghost use lib.ListN.{length};
+ghost use lib.Dec.{ltb};
+ghost use Rattle.bitstream.specs.Bits.{halvesOf};
+ghost use Rattle.answer.specs.Outcome.{_orElse_};
+ghost use Rattle.row_format.specs.Lists.{any};
+ghost use Rattle.sheet_format.specs.Record.{plainRecord, pixelCount, lent, plainNumber, lastRoomNumber};
+ghost use Rattle.sheet_reader.specs.Leaves.{ContentLeaves};
+
+pub fn read_plain(body: &[u8], whole: u32, state: SheetState, room: usize, content: &mut [u8]) -> RecordRead
+    ensures { λ r. ⌜ ContentLeaves plainRecord room 3 whole [] (now (body .entry)) state (now (content .entry)) r (now (content .exit)) ⌝ }
+{
+    let fields = row_fields(body, state);
+    let wrong = fields.number;
+    if wrong != 0 {
+        return refused(wrong, state);
+    }
+    let row = fields.row;
+    let count = fields.count;
+    let number = pixels_number(body, count, room);
+    if number != 0 {
+        return refused(number, state);
+    }
+    let pixels = &body[4..];
+    keep(pixels, 2 * count as usize, room, content);
+    held(3, row, count, 0, whole, after_row(row, state))
+}
+
+// "Kind 3: 11, 14 unless the bytes are twice the count, 4", and 5 last.
+fn pixels_number(body: &[u8], count: u32, room: usize) -> u32
+    requires { ⌜ 4 ≤ length (now body) ⌝ }
+    requires { ⌜ count ≡ pixelCount (now body) ⌝ }
+    ensures { λ r. ⌜ r ≡ plainNumber (now (body .entry)) orElse lastRoomNumber plainRecord (lent room) (now (body .entry)) ⌝ }
+{
+    if 4096 < count {
+        return 11;
+    }
+    let pixels = &body[4..];
+    let bytes = 2 * count as usize;
+    if pixels.len() != bytes {
+        return 14;
+    }
+    if any_above(pixels) {
+        return 4;
+    }
+    if room < bytes {
+        return 5;
+    }
+    0
+}
+
+// Whether some pixel is above 4095.
+fn any_above(pixels: &[u8]) -> bool
+    ensures { λ r. ⌜ r ≡ any (ltb 4095) (halvesOf (now (pixels .entry))) ⌝ }
+{
+    let n = pixels.len() / 2;
+    let mut i = 0;
+    while i < n {
+        if 4095 < read_u16(pixels, 2 * i) {
+            return true;
+        }
+        i += 1;
+    }
+    false
+}

@@ -43,6 +43,13 @@ module _ (l m : List ℕ) where
       let memory : m′ ≡ l ++ drop (length l) m = p .memory ∙ ap (λ (k : ℕ). l ++ drop k m) (zero-add (length l)) in
       rw (le-ltb (length m) (length l) h, next, memory)
 
+  -- a line that is given is within the memory lent
+  pub given-count : {g : Answer} {m′ : List ℕ} → outcome g m′ ≡ lineGiven l m → g .count ≤ length m
+  unfolding lineGiven
+  given-count {g} {m′} e = by-test (ltb (length m) (length l))
+      (λ t. omega (arith, ap (λ (o : Outcome). o .answer .count) (rw t at e)))
+      (λ t. omega (arith, ap (λ (o : Outcome). o .answer .count) (rw t at e), ltb-false (length m) (length l) t))
+
 -- what was given of a line, as what was listed
 module _ (l : List ℕ) (a : RecordRead) (st : SheetState) (m : List ℕ) {g : Answer} {m′ : List ℕ} (given : outcome g m′ ≡ lineGiven l m) where
   pub listed-line : g .number ≡ 0 → left (record { read = a; count = g .count }) m′ ≡ lineListed l a st m

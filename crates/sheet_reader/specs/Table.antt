@@ -1,12 +1,12 @@
 -- The ways out of reading a table in a record. Assumes nothing.
 use Prim.Native.Nat.{ℕ, _%_}
-use mathlib.Core.Path.{_≡_, sym, _∙_}
+use mathlib.Core.Path.{_≡_, sym, ap, _∙_}
 use mathlib.Core.List.{List, []}
 use lib.ListN.{length}
 use Rattle.answer.specs.declared.Answer.{Answer}
 use Rattle.row_format.specs.Table.{tableNumber}
 use Rattle.row_format.specs.Calls.{checked}
-use Rattle.row_unpacker.specs.Unpack.Laws.{checked-number}
+use Rattle.row_format.specs.Calls.Laws.{checked-number}
 use Rattle.sheet_format.specs.declared.SheetState.{SheetState}
 use Rattle.sheet_format.specs.declared.RecordRead.{RecordRead}
 use Rattle.sheet_format.specs.Record.{tableRecord, nothing, fixedNumber, placeNumber, bodyNumber, leftoverNumber, lastRoomNumber, contentNumber}
@@ -31,7 +31,7 @@ module _ (b : List ℕ) (whole : ℕ) (st : SheetState) where
       unfolding contentNumber fixedNumber placeNumber bodyNumber leftoverNumber lastRoomNumber
       own =
           rw (unequalNumber-none (length b % 4) 0 14 words, unequalNumber-none (st .tables) 0 16 first)
-          (checked-number b a told ∙ sym (orElse-none (tableNumber b)))
+          (ap (λ (y : Answer). y .number) told ∙ checked-number b ∙ sym (orElse-none (tableNumber b)))
 
       pub table-refused : {x : RecordRead} → (a .number ≡ 0 → ⊥) → x ≡ refusedRecord (a .number) st → x ≡ tableJudged whole b st
       table-refused some is = answer-refused _ is own some

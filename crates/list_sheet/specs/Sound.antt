@@ -1,0 +1,18 @@
+-- What holds from record to record, so that no index and no sum runs over. Assumes nothing.
+use Prim.Native.Nat.{ℕ, _+_, _≤_}
+use mathlib.Core.Path.{_≡_}
+use mathlib.Core.List.{List}
+use lib.ListN.{length}
+use Rattle.sheet_listing.specs.declared.Listed.{Listed}
+use Rattle.list_sheet.specs.declared.turn.Progress.{Progress}
+
+-- what is carried on is within the memory, and there are no more rows than records
+pub record Sound (p : Progress) (index : ℕ) (table block : List ℕ) : Type 0 where
+  pub kept : p .kept ≤ length table
+  pub filled : p .filled ≤ length block
+  pub rows : p .rows ≤ index
+
+-- a listed record: its line is within the block, and its bytes are there
+pub record Here (r : List ℕ) (filled : ℕ) (block : List ℕ) (x : Listed) : Type 0 where
+  pub line : filled + x .count ≤ length block
+  pub bytes : x .read .number ≡ 0 → (6 ≤ x .read .length) × (x .read .length ≤ 32778) × (x .read .length ≤ length r)

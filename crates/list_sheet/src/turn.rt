@@ -1,0 +1,163 @@
+// One turn: a record is read, judged and listed.
+use crate::input::fill;
+use crate::output::make_room;
+use sheet_format::RecordRead;
+use sheet_format::SheetState;
+use sheet_listing::Listed;
+use sheet_listing::list_record;
+use text::put::put_bytes;
+ghost use mathlib.Core.Path.{_≡_};
+ghost use Prim.Native.Nat.{_+_, _≤_, _<_};
+ghost use lib.ListN.{length};
+ghost use Rattle.list_sheet.specs.Sound.{Sound, Here};
+
+// What is carried from record to record.
+// state    what the sheet holds so far
+// kept     the bytes of its table
+// filled   the bytes of the block that are not written yet
+// rows     the rows listed so far
+pub struct Progress {
+    pub state: SheetState,
+    pub kept: usize,
+    pub filled: usize,
+    pub rows: u64,
+}
+
+// ended    whether the sheet has ended here
+// failed   whether reading or writing failed, so that there is no last line
+// number   the last line's number, 0 where the sheet is accepted
+// next     what is carried on
+pub struct Turn {
+    pub ended: bool,
+    pub failed: bool,
+    pub number: u32,
+    pub next: Progress,
+}
+
+pub fn begin() -> Progress
+    ensures { λ r. ⌜ (r .kept ≡ 0) × (r .filled ≡ 0) × (r .rows ≡ 0) ⌝ }
+{
+    Progress {
+        state: SheetState {
+            tables: 0,
+            least: 0,
+        },
+        kept: 0,
+        filled: 0,
+        rows: 0,
+    }
+}
+
+pub fn take_turn(bytes: &mut [u8], table: &mut [u8], block: &mut [u8], at: Progress, index: u64) -> Turn
+    requires { ⌜ 32778 ≤ length (now bytes) ⌝ }
+    requires { ⌜ 32772 ≤ length (now table) ⌝ }
+    requires { ⌜ index < 18446744073709551615 ⌝ }
+    requires { ⌜ Sound at index (now table) (now block) ⌝ }
+    ensures { λ r. ⌜ Sound (r .next) (index + 1) (now (table .exit)) (now (block .exit)) ⌝ }
+{
+    let room = make_room(block, at.filled);
+    let state = at.state;
+    let start = Progress {
+        state,
+        kept: at.kept,
+        filled: room.filled,
+        rows: at.rows,
+    };
+    if room.failed {
+        return last(0, true, start);
+    }
+    let got = fill(bytes);
+    if got.failed {
+        return last(0, true, start);
+    }
+    let count = got.count;
+    if count == 0 {
+        return last(number_at_end(index), false, start);
+    }
+    list_one(&bytes[..count], table, block, start)
+}
+
+// "A sheet with no records is refused 16".
+fn number_at_end(index: u64) -> u32 {
+    if index == 0 { 16 } else { 0 }
+}
+
+fn last(number: u32, failed: bool, at: Progress) -> Turn
+    ensures { λ r. ⌜ r .next ≡ at ⌝ }
+{
+    Turn {
+        ended: true,
+        failed,
+        number,
+        next: at,
+    }
+}
+
+// The record's line goes to the block, and a table to `table`.
+fn list_one(bytes: &[u8], table: &mut [u8], block: &mut [u8], at: Progress) -> Turn
+    requires { ⌜ 32772 ≤ length (now table) ⌝ }
+    requires { ⌜ at .rows < 18446744073709551615 ⌝ }
+    requires { ⌜ Sound at (at .rows) (now table) (now block) ⌝ }
+    ensures { λ r. ⌜ Sound (r .next) (at .rows + 1) (now (table .exit)) (now (block .exit)) ⌝ }
+{
+    let listed = put_line(bytes, table, block, at);
+    let read = listed.read;
+    let number = read.number;
+    if number != 0 {
+        return last(number, false, at);
+    }
+    let kept = keep_table(read, bytes, table, at.kept);
+    let filled = at.filled + listed.count as usize;
+    let rows = rows_after(read.kind, at.rows);
+    let state = read.state;
+    Turn {
+        ended: false,
+        failed: false,
+        number: 0,
+        next: Progress {
+            state,
+            kept,
+            filled,
+            rows,
+        },
+    }
+}
+
+fn put_line(bytes: &[u8], table: &[u8], block: &mut [u8], at: Progress) -> Listed
+    requires { ⌜ at .kept ≤ length (now table) ⌝ }
+    requires { ⌜ at .filled ≤ length (now block) ⌝ }
+    ensures { λ r. ⌜ Here (now (bytes .entry)) (at .filled) (now (block .entry)) r ⌝ }
+{
+    let kept = at.kept;
+    let filled = at.filled;
+    let state = at.state;
+    list_record(&table[..kept], bytes, state, &mut block[filled..])
+}
+
+// A table is kept for the rows that follow. The answer is its bytes, or those kept before.
+fn keep_table(read: RecordRead, bytes: &[u8], table: &mut [u8], kept: usize) -> usize
+    requires { ⌜ 32772 ≤ length (now table) ⌝ }
+    requires { ⌜ kept ≤ length (now table) ⌝ }
+    requires { ⌜ (6 ≤ read .length) × (read .length ≤ 32778) × (read .length ≤ length (now bytes)) ⌝ }
+    ensures { λ r. ⌜ r ≤ length (now (table .entry)) ⌝ }
+{
+    if read.kind != 1 {
+        return kept;
+    }
+    let end = read.length as usize;
+    put_bytes(table, 0, &bytes[6..end])
+}
+
+// Kinds 2 and 3 are rows.
+fn rows_after(kind: u32, rows: u64) -> u64
+    requires { ⌜ rows < 18446744073709551615 ⌝ }
+    ensures { λ r. ⌜ r ≤ rows + 1 ⌝ }
+{
+    if kind == 2 {
+        return rows + 1;
+    }
+    if kind == 3 {
+        return rows + 1;
+    }
+    rows
+}

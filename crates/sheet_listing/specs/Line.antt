@@ -1,0 +1,36 @@
+-- Document 01: what the sheet lister prints of an accepted record, and its last line. Definitions only; their laws are in
+-- Line/Laws.antt. Assumes nothing.
+use Prim.Native.Nat.{ℕ, zero, suc}
+use mathlib.Core.List.{List, []}
+use lib.ListN.{drop}
+use Rattle.bitstream.specs.Bits.{wordsOf}
+use Rattle.row_format.specs.Table.{tableId, lowLimit, tableSize, maxItemBits}
+use Rattle.sheet_format.specs.declared.RecordRead.{RecordRead}
+use Rattle.sheet_format.specs.Record.{Kind, tableRecord, packedRecord, plainRecord, lineRecord, unknown, kindOf}
+use Rattle.sheet_format.specs.Sheet.{SheetRecord}
+use Rattle.text.specs.Lines.{tableLine, packedLine, plainLine, contourLine, doneLine, refusedAtLine}
+pub mod Laws
+
+-- `table ID low L size S worst M`, of a table's words
+abbrev pub tableText : List ℕ → List ℕ
+tableText t = tableLine (tableId t) (lowLimit t) (tableSize t) (maxItemBits t)
+
+-- the line of a record that was answered so and has the body b
+unfoldable pub lineFor : Kind → RecordRead → List ℕ → List ℕ
+lineFor tableRecord a b = tableText (wordsOf b)
+lineFor packedRecord a b = packedLine (a .row) (a .count) (a .bits) (a .words)
+lineFor plainRecord a b = plainLine (a .row) (a .count)
+lineFor lineRecord a b = contourLine (a .count)
+lineFor unknown a b = []
+
+abbrev pub answerLine : RecordRead → List ℕ → List ℕ
+answerLine a b = lineFor (kindOf (a .kind)) a b
+
+-- the line of a record; its body stands after four bytes of length and two of kind
+abbrev pub recordLine : SheetRecord → List ℕ
+recordLine x = answerLine (x .answer) (drop 6 (x .bytes))
+
+-- the last line: "done rows N", or "refused N at record K"
+unfoldable pub lastLine : ℕ → ℕ → ℕ → List ℕ
+lastLine zero index rows = doneLine rows
+lastLine (suc e) index rows = refusedAtLine (suc e) index

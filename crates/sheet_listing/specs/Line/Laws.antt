@@ -1,0 +1,76 @@
+-- The laws of the lister's lines. Assumes nothing.
+use Prim.Native.Nat.{ℕ, zero, suc, _/_, _≤_}
+use native.Mathlib.Omega.{arith}
+use mathlib.Core.Path.{_≡_, refl, sym, ap, _∙_}
+use mathlib.Core.Bool.{false, cond}
+use mathlib.Core.List.{List, []}
+use lib.ListN.{length}
+use Rattle.bitstream.specs.Bits.{wordsOf}
+use Rattle.answer.specs.declared.Answer.{Answer}
+use Rattle.answer.specs.Outcome.{countUnless}
+use Rattle.row_format.specs.Lists.Laws.{cond-zero-test}
+use Rattle.row_format.specs.Table.{wrongSize, wrongCodeword, clash, codewords, verdict, tableNumber, maxItemBits}
+use Rattle.row_format.specs.Table.Laws.{tableNumber-whole, tableNumber-verdict}
+use Rattle.row_format.specs.Calls.{checked}
+use Rattle.code_table.specs.Check.{WholeTable}
+use Rattle.code_table.specs.Check.Laws.{whole-table-words}
+use Rattle.sheet_format.specs.declared.RecordRead.{RecordRead}
+use Rattle.sheet_format.specs.Record.{unknown, kindOf}
+use Rattle.text.specs.Lines.{packedLine, plainLine, contourLine, doneLine, refusedAtLine}
+use Rattle.sheet_listing.specs.Line.{tableText, lineFor, answerLine, lastLine}
+
+-- ---- an accepted table
+right-size : (t : List ℕ) → verdict t ≡ 0 → wrongSize t ≡ false
+unfolding verdict
+right-size t e = cond-zero-test (wrongSize t) 0 (cond (wrongCodeword t) 2 (cond (clash (codewords t)) 3 0)) e
+
+module _ (b : List ℕ) (ok : tableNumber b ≡ 0) where
+  whole : WholeTable b
+  whole = record { whole = tableNumber-whole b ok; size = right-size (wordsOf b) (tableNumber-verdict b ok) }
+
+  pub header-there : 6 ≤ length b / 4
+  header-there = omega (arith, whole-table-words b whole)
+
+  pub checked-most : checked b .count ≡ maxItemBits (wordsOf b)
+  unfolding checked
+  checked-most = rw ok
+
+-- ---- the line by the record's kind
+kindOf-other : (k : ℕ) → (k ≡ 1 → ⊥) → (k ≡ 2 → ⊥) → (k ≡ 3 → ⊥) → (k ≡ 4 → ⊥) → kindOf k ≡ unknown
+kindOf-other zero n1 n2 n3 n4 = refl
+kindOf-other (suc zero) n1 n2 n3 n4 = absurd (n1 refl)
+kindOf-other (suc (suc zero)) n1 n2 n3 n4 = absurd (n2 refl)
+kindOf-other (suc (suc (suc zero))) n1 n2 n3 n4 = absurd (n3 refl)
+kindOf-other (suc (suc (suc (suc zero)))) n1 n2 n3 n4 = absurd (n4 refl)
+kindOf-other (suc (suc (suc (suc (suc k))))) n1 n2 n3 n4 = refl
+
+module _ (a : RecordRead) (b : List ℕ) where
+  pub line-table : a .kind ≡ 1 → tableText (wordsOf b) ≡ answerLine a b
+  unfolding lineFor
+  line-table e = rw e
+
+  pub line-packed : a .kind ≡ 2 → packedLine (a .row) (a .count) (a .bits) (a .words) ≡ answerLine a b
+  unfolding lineFor
+  line-packed e = rw e
+
+  pub line-plain : a .kind ≡ 3 → plainLine (a .row) (a .count) ≡ answerLine a b
+  unfolding lineFor
+  line-plain e = rw e
+
+  pub line-contour : a .kind ≡ 4 → contourLine (a .count) ≡ answerLine a b
+  unfolding lineFor
+  line-contour e = rw e
+
+  pub line-other : (a .kind ≡ 1 → ⊥) → (a .kind ≡ 2 → ⊥) → (a .kind ≡ 3 → ⊥) → (a .kind ≡ 4 → ⊥) → [] ≡ answerLine a b
+  unfolding lineFor
+  line-other n1 n2 n3 n4 = rw (kindOf-other (a .kind) n1 n2 n3 n4)
+
+-- ---- the last line
+pub last-done : (index rows : ℕ) → doneLine rows ≡ lastLine 0 index rows
+unfolding lastLine
+last-done index rows = refl
+
+pub last-refused : (e index rows : ℕ) → (e ≡ 0 → ⊥) → refusedAtLine e index ≡ lastLine e index rows
+unfolding lastLine
+last-refused zero index rows h = absurd (h refl)
+last-refused (suc e) index rows h = refl

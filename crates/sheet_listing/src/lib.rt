@@ -1,0 +1,84 @@
+// The listing of a sheet, a record a call: the record is judged, and its line stands at the front of lent memory. The
+// definitions are in specs/Line.antt, specs/Listed.antt and, of a whole sheet, specs/Listing.antt.
+mod give;
+mod line;
+
+use answer::Answer;
+use give::give;
+use line::put_last_line;
+use line::put_record_line;
+use sheet_format::RecordRead;
+use sheet_format::SheetState;
+use sheet_reader::judge_record;
+ghost use mathlib.Core.Path.{_≡_};
+ghost use Rattle.answer.specs.Outcome.{outcome};
+ghost use Rattle.row_format.specs.Table.{tableNumber};
+ghost use Rattle.sheet_format.specs.Reading.{refusedRecord};
+ghost use Rattle.sheet_listing.specs.Line.{answerLine, lastLine};
+ghost use Rattle.sheet_listing.specs.Listed.{lineGiven, left, lineListed, recordListed};
+
+// What listing a record answers: what judging it answers, and the bytes of its line. A refusal, 5 among them, has no line.
+pub struct Listed {
+    pub read: RecordRead,
+    pub count: u32,
+}
+
+// The record at the front of `sheet` is judged, and its line put at the front of `out`; 5 where it does not fit. `table` is
+// the bytes of the sheet's table, `state` what the sheet holds so far. A line has at most 128 bytes.
+pub fn list_record(table: &[u8], sheet: &[u8], state: SheetState, out: &mut [u8]) -> Listed
+    ensures { λ r. ⌜ left r (now (out .exit)) ≡ recordListed (now (table .entry)) (now (sheet .entry)) state (now (out .entry)) ⌝ }
+{
+    let read = judge_record(table, sheet, state);
+    let number = read.number;
+    if number != 0 {
+        return Listed { read, count: 0 };
+    }
+    let end = read.length as usize;
+    let body = &sheet[6..end];
+    list_accepted(read, body, state, out)
+}
+
+// The same of a record that is accepted.
+fn list_accepted(read: RecordRead, body: &[u8], state: SheetState, out: &mut [u8]) -> Listed
+    requires { ⌜ (read .kind ≡ 1 → tableNumber (now body) ≡ 0) ⌝ }
+    ensures { λ r. ⌜ left r (now (out .exit)) ≡ lineListed (answerLine read (now (body .entry))) read state (now (out .entry)) ⌝ }
+{
+    let mut text = [0u8; 128];
+    let n = put_record_line(&mut text, read, body);
+    let given = give(&text[..n], out);
+    let number = given.number;
+    let count = given.count;
+    if number != 0 {
+        return Listed {
+            read: refused(number, state),
+            count,
+        };
+    }
+    Listed { read, count }
+}
+
+// "Every refusal returns 0 for all counts and values"; the state is as given.
+fn refused(number: u32, state: SheetState) -> RecordRead
+    ensures { λ r. ⌜ r ≡ refusedRecord number state ⌝ }
+{
+    RecordRead {
+        number,
+        kind: 0,
+        row: 0,
+        count: 0,
+        bits: 0,
+        words: 0,
+        length: 0,
+        state,
+    }
+}
+
+// The last line of a listing: `done rows N` where the number is 0, else `refused N at record K`, where K is the index. It is
+// put at the front of `out`; 5 where it does not fit.
+pub fn list_end(number: u32, index: u64, rows: u64, out: &mut [u8]) -> Answer
+    ensures { λ r. ⌜ outcome r (now (out .exit)) ≡ lineGiven (lastLine number index rows) (now (out .entry)) ⌝ }
+{
+    let mut text = [0u8; 128];
+    let n = put_last_line(&mut text, number, index, rows);
+    give(&text[..n], out)
+}

@@ -151,6 +151,63 @@ struct tahliruz_answer tahliruz_unpack(const uint8_t *table, size_t table_len,
  */
 struct tahliruz_answer tahliruz_room(const uint8_t *table, size_t table_len, uint64_t n);
 
+/* ---- Items of a row, one a call ---- */
+
+/*
+ * Where a reader of items stands: a value that the caller keeps between calls.
+ * tahliruz_open gives the first one, each tahliruz_next the one after its item.
+ */
+struct tahliruz_place {
+    uint64_t at;            /* the bit place of the next item */
+    uint32_t count;         /* the items given so far */
+    uint32_t previous;      /* the previous height, 0 before there is one */
+    uint32_t begun;         /* 0 until a pixel of this row has become previous */
+    uint32_t opening;       /* the number that opening came to: 0, 1, 2 or 3 */
+};
+
+enum tahliruz_item_kind {
+    TAHLIRUZ_ITEM_STEP = 1,         /* a difference that the table has */
+    TAHLIRUZ_ITEM_BAD_PIXEL = 2,    /* the pixel 4095 */
+    TAHLIRUZ_ITEM_BAD_BIAS = 3,     /* the pixel 4094 */
+    TAHLIRUZ_ITEM_RAW = 4           /* the escape and a height in 12 bits */
+};
+
+/* An item. A refusal has 0 for every value and the place as it was given. */
+struct tahliruz_item {
+    uint32_t number;
+    uint32_t kind;          /* 1 to 4 */
+    int32_t step;           /* kind 1: the difference, -4093 to 4093; else 0 */
+    uint32_t pixel;         /* the pixel that the item stands for */
+    struct tahliruz_place place;    /* after the item */
+};
+
+/*
+ * Opens a reader of the items packed under a table: checks the table, and gives
+ * the place of a row's first item. Its opening is the check's number, 0 to 3.
+ */
+struct tahliruz_place tahliruz_open(const uint8_t *table, size_t table_len);
+
+/*
+ * Gives the item at a place.
+ *
+ *   table   the table that the reader was opened with; it is not checked again
+ *   words   the packed row: words_len / 4 words
+ *   place   from tahliruz_open, or from the answer before
+ *
+ * Numbers, in this order:
+ *   place.opening  where it is not 0: 1, 2, 3 as the table was refused
+ *   11          4096 items are given, or at is above 4096 * 27
+ *   6, 7, 8, 9  the item is faulty, as in tahliruz_unpack
+ *   0           done
+ *
+ * Where n items are given, tahliruz_unpack of n pixels with room for them gives
+ * the same pixels, or refuses 10; where an item is refused 6 to 9, it gives that
+ * number for every n that reaches the item. Writes nothing.
+ */
+struct tahliruz_item tahliruz_next(const uint8_t *table, size_t table_len,
+                                   const uint8_t *words, size_t words_len,
+                                   struct tahliruz_place place);
+
 /* ---- Adaptive-precision numbers ---- */
 
 /* What reading a number answers. A refusal has the value 0 and used 0. */

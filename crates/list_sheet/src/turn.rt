@@ -48,7 +48,13 @@ pub fn begin() -> Progress
     }
 }
 
-pub fn take_turn(bytes: &mut [u8], table: &mut [u8], block: &mut [u8], at: Progress, index: u64) -> Turn
+pub fn take_turn(
+    bytes: &mut [u8],
+    table: &mut [u8],
+    block: &mut [u8],
+    at: Progress,
+    index: u64,
+) -> Turn
     requires { ⌜ 32778 ≤ length (now bytes) ⌝ }
     requires { ⌜ 32772 ≤ length (now table) ⌝ }
     requires { ⌜ index < 18446744073709551615 ⌝ }

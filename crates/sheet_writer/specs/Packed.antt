@@ -55,16 +55,16 @@ room-alike : (room w start : ℕ) → start ≡ min 10 room
     → refuseIf (ltb room (10 + 4 * w)) 5 ≡ refuseIf (ltb ((room - start) / 4) w) 5 orElse refuseIf (ltb start 10) 5
 room-alike room w start is = by-cases (decLt room 10)
     (λ short.
-      let none : refuseIf (ltb start 10) 5 ≡ 5 = lessNumber-given start 10 5 (omega arith) in
-      lessNumber-given room (10 + 4 * w) 5 (omega arith)
-      ∙ rw none (by-cases (decLt ((room - start) / 4) w)
-      (λ h. rw (lt-ltb ((room - start) / 4) w h))
-      (λ h. rw (le-ltb ((room - start) / 4) w (omega arith)))))
+    let none : refuseIf (ltb start 10) 5 ≡ 5 = lessNumber-given start 10 5 (omega arith) in
+    lessNumber-given room (10 + 4 * w) 5 (omega arith)
+    ∙ rw none (by-cases (decLt ((room - start) / 4) w)
+    (λ h. rw (lt-ltb ((room - start) / 4) w h))
+    (λ h. rw (le-ltb ((room - start) / 4) w (omega arith)))))
     (λ enough.
-      let there : refuseIf (ltb start 10) 5 ≡ 0 = lessNumber-none start 10 5 (omega arith) in
-      rw there (by-cases (decLt room (10 + 4 * w))
-      (λ h. rw (lt-ltb room (10 + 4 * w) h, lt-ltb ((room - start) / 4) w (omega arith)))
-      (λ h. rw (le-ltb room (10 + 4 * w) (omega arith), le-ltb ((room - start) / 4) w (omega arith)))))
+    let there : refuseIf (ltb start 10) 5 ≡ 0 = lessNumber-none start 10 5 (omega arith) in
+    rw there (by-cases (decLt room (10 + 4 * w))
+    (λ h. rw (lt-ltb room (10 + 4 * w) h, lt-ltb ((room - start) / 4) w (omega arith)))
+    (λ h. rw (le-ltb room (10 + 4 * w) (omega arith), le-ltb ((room - start) / 4) w (omega arith)))))
 
 module _ (row : ℕ) (tb c : List ℕ) (st : SheetState) (m : List ℕ) (placed : placeNumber packedRecord row st ≡ 0)
     (start : ℕ) (is : start ≡ min 10 (length m)) where

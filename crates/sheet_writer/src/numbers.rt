@@ -1,8 +1,8 @@
 // The two passes over a line's numbers: how many bytes they take, and then the bytes themselves. A refusal has to leave the
 // memory as found, so nothing is written before all are measured.
-use adaptive::write_signed;
 use crate::number::number_at;
 use crate::number::number_bytes;
+use adaptive::write_signed;
 ghost use mathlib.Core.Path.{_≡_};
 ghost use mathlib.Core.List.{_++_};
 ghost use Prim.Native.Nat.{_/_, _≤_};

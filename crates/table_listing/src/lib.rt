@@ -39,7 +39,13 @@ pub fn list_table(table: &[u8], first: usize, out: &mut [u8]) -> Listed
 }
 
 // The same of an accepted table; the places of its strings are arranged in `list`.
-fn list_strings(table: &[u8], list: &mut [u16], scratch: &mut [u16], first: usize, out: &mut [u8]) -> Listed
+fn list_strings(
+    table: &[u8],
+    list: &mut [u16],
+    scratch: &mut [u16],
+    first: usize,
+    out: &mut [u8],
+) -> Listed
     requires { ⌜ tableNumber (now table) ≡ 0 ⌝ }
     requires { ⌜ 8190 ≤ length (now list) ⌝ }
     requires { ⌜ 8190 ≤ length (now scratch) ⌝ }

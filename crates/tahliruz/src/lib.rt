@@ -124,7 +124,12 @@ pub extern "C" fn tahliruz_judge_record(table: &[u8], sheet: &[u8], state: Sheet
 }
 
 #[no_mangle]
-pub extern "C" fn tahliruz_read_record(table: &[u8], sheet: &[u8], state: SheetState, content: &mut [u8]) -> RecordRead
+pub extern "C" fn tahliruz_read_record(
+    table: &[u8],
+    sheet: &[u8],
+    state: SheetState,
+    content: &mut [u8],
+) -> RecordRead
     ensures { λ r. ⌜ readOutcome r (now (content .exit)) ≡ recordRead (now (table .entry)) (now (sheet .entry)) state (now (content .entry)) ⌝ }
 {
     sheet_reader::read_record(table, sheet, state, content)

@@ -14,7 +14,14 @@ pub fn put_table_line(out: &mut [u8], at: usize, id: u32, low: u32, size: u32, w
     ensures most { λ r. ⌜ r ≤ at + 128 ⌝ }
 {
     let after_low = put_fields(out, at, b"table ", id as u64, b" low ", low as u64);
-    let after_worst = put_fields(out, after_low, b" size ", size as u64, b" worst ", worst as u64);
+    let after_worst = put_fields(
+        out,
+        after_low,
+        b" size ",
+        size as u64,
+        b" worst ",
+        worst as u64,
+    );
     put_bytes(out, after_worst, b"\n")
 }
 
@@ -32,7 +39,14 @@ pub fn put_packed_line(
     ensures most { λ r. ⌜ r ≤ at + 128 ⌝ }
 {
     let after_pixels = put_fields(out, at, b"row ", row as u64, b" pixels ", pixels as u64);
-    let after_words = put_fields(out, after_pixels, b" bits ", bits as u64, b" words ", words as u64);
+    let after_words = put_fields(
+        out,
+        after_pixels,
+        b" bits ",
+        bits as u64,
+        b" words ",
+        words as u64,
+    );
     put_bytes(out, after_words, b"\n")
 }
 

@@ -48,7 +48,7 @@ write-all-requires c κs = search needs
 
 -- src/main.rt:73:9
 returns : tie.Need-returns
-returns c = 
+returns c =
     let start = c .before .before .before .before .before .before .before .before in
     answer-lines (start .args .table .now) (start .args .first) (c .before .before .before .before .before .before .large-buffer .result) (c .before .before .before .before .list-table .ensures) (start .pre)
 

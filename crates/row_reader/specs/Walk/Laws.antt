@@ -125,7 +125,7 @@ module _ (tb wb : List ℕ) where
             used = u + a .used;
             read = run-suc n ∙ ap (prepend i u) (a .read);
             pixels = ap (row.pixelOf s i ∷_) (a .pixels);
-            place = a .place ∙ add-assoc (pl .at) u (a .used)
+            place = a .place ∙ add-assoc (pl .at) u (a .used);
           }
       onto-agrees n (ended x k) a = go
         where

@@ -27,7 +27,7 @@ same-length c = search needs
 
 -- src/lib.rt:33:9
 returns : tie.Need-returns
-returns c = 
+returns c =
     let answer = c .before .before .before .before .before .check in
     let start = c .before .before .before .before .before .before .before .before in
     c .before .before .list-refusal .ensures ∙ refused-block (start .args .table .now) (answer .result .number) (start .args .first) (start .args .out .now) (ap (λ (r : Answer). r .number) (answer .ensures) ∙ checked-number (start .args .table .now)) (c .before .before .before .before .if1 .taken)
@@ -42,7 +42,7 @@ slice-aggregate-list-strings-2 c = search needs
 
 -- src/lib.rt:38:5
 list-strings-requires : tie.Need-list-strings-requires
-list-strings-requires c κs = 
+list-strings-requires c κs =
     let answer = c .before .before .before .before .check in
     let ok = sym (ap (λ (r : Answer). r .number) (answer .ensures) ∙ checked-number (c .before .before .before .before .before .before .before .args .table .now)) ∙ c .before .before .before .if1 .left in
     (ok, (lit≤ tt, lit≤ tt))

@@ -90,7 +90,7 @@ module _ {ls : List (List ℕ)} {m m′ : List ℕ} {k at : ℕ} (f : Filling ls
           size = size;
           room = omega (arith, p .next);
           put = rw (add-one k, take-suc ls k [] h, joined-snoc (take k ls) (getD ls k []), ← is) (put-put (omega arith) (f .put) p);
-          fit = f .fit ∙ rw (rest, fitting-more (length m - at) l (drop (suc k) ls) (omega arith), left-over, add-one k) (omega arith)
+          fit = f .fit ∙ rw (rest, fitting-more (length m - at) l (drop (suc k) ls) (omega arith), left-over, add-one k) (omega arith);
         }
 
 -- ---- one turn: the next line is put where it fits

@@ -80,7 +80,7 @@ unfolding line codewordAt
 line-most t p small =
     let w = getD t (3 + p) 0 in
     let parts : length (name t p ++ ascii " " ++ map digit (codeword w) ++ ascii "\n") ≡ length (name t p) + 1 + length (map digit (codeword w)) + 1 =
-        length-append (name t p ++ ascii " " ++ map digit (codeword w)) (ascii "\n")
-        ∙ ap (_+ 1) (length-append (name t p ++ ascii " ") (map digit (codeword w))
-        ∙ ap (_+ length (map digit (codeword w))) (length-append (name t p) (ascii " "))) in
+    length-append (name t p ++ ascii " " ++ map digit (codeword w)) (ascii "\n")
+    ∙ ap (_+ 1) (length-append (name t p ++ ascii " ") (map digit (codeword w))
+    ∙ ap (_+ length (map digit (codeword w))) (length-append (name t p) (ascii " "))) in
     omega (arith, name-most t p small, length-bits w)

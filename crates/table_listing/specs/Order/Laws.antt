@@ -4,9 +4,20 @@ use native.Mathlib.Omega.{arith}
 use mathlib.Core.Path.{_≡_, refl, sym, ap, _∙_}
 use mathlib.Core.Bool.{Bool, true, false, cond}
 use mathlib.Core.List.{
-  List, [], _∷_, _++_, append-nil,
-  List·Permᴰ, List·Permᴰ·nil, List·Permᴰ·cons, List·Permᴰ·swap, List·Permᴰ·trans,
-  Permᴰ·refl, Permᴰ·append-right, Permᴰ·append-left, Permᴰ·middle,
+  List,
+  [],
+  _∷_,
+  _++_,
+  append-nil,
+  List·Permᴰ,
+  List·Permᴰ·nil,
+  List·Permᴰ·cons,
+  List·Permᴰ·swap,
+  List·Permᴰ·trans,
+  Permᴰ·refl,
+  Permᴰ·append-right,
+  Permᴰ·append-left,
+  Permᴰ·middle,
 }
 use lib.ListN.{length, take, drop, getD, length-append, take-append-drop}
 use lib.Dec.{leb, ltb, eqb}
@@ -52,9 +63,9 @@ module _ (s : ℕ → List ℕ) (d k : ℕ) where
   pub picked-take : (i : ℕ) (ps : List ℕ) → length (picked s d k (take i ps)) ≤ length (picked s d k ps)
   picked-take i ps =
       let whole : length (picked s d k ps) ≡ length (picked s d k (take i ps)) + length (picked s d k (drop i ps)) =
-          ap (λ (l : List ℕ). length (picked s d k l)) (sym (take-append-drop i ps))
-          ∙ ap length (picked-append (take i ps) (drop i ps))
-          ∙ length-append (picked s d k (take i ps)) (picked s d k (drop i ps)) in
+      ap (λ (l : List ℕ). length (picked s d k l)) (sym (take-append-drop i ps))
+      ∙ ap length (picked-append (take i ps) (drop i ps))
+      ∙ length-append (picked s d k (take i ps)) (picked s d k (drop i ps)) in
       omega arith
 
   pub picked-below : (n : ℕ) (ps : List ℕ) → Below n ps → Below n (picked s d k ps)

@@ -27,7 +27,7 @@ copying-more {l} {m} {i} x h e c =
     record {
       within = omega arith;
       size = length-set m i x ∙ c .size;
-      same = rw (add-one i, take-suc l i 0 h, ← e, take-suc-set m i x (omega (arith, c .size)), c .same)
+      same = rw (add-one i, take-suc l i 0 h, ← e, take-suc-set m i x (omega (arith, c .size)), c .same);
     }
 
 pub copying-all : {l m : List ℕ} {i : ℕ} → length l ≤ i → Copying l i m → m ≡ l
@@ -58,7 +58,7 @@ module _ {s : ℕ → List ℕ} {d k : ℕ} {ps m : List ℕ} {at : ℕ} where
         record {
           within = omega arith;
           size = length-set m′ r (getD ps i 0) ∙ c .size;
-          put = rw (picked-next e) (put-more (getD ps i 0) (picking-room e room) (c .size) (c .put))
+          put = rw (picked-next e) (put-more (getD ps i 0) (picking-room e room) (c .size) (c .put));
         }
 
     pub picking-other : (way d (s (getD ps i 0)) ≡ k → ⊥) → Picking s d k ps m at (i + 1) r m′
@@ -86,7 +86,7 @@ module _ (s : ℕ → List ℕ) (bits : (p : ℕ) → Below 2 (s p)) (d : ℕ) (
       record {
         ends = p .next ∙ zero-add (length (picked s d 0 ps));
         zeros = omega (arith, p .next, q .next);
-        memory = all .memory ∙ whole m (picked s d 0 ps ++ picked s d 1 ps ++ picked s d 2 ps) (perm-length (parted-perm s bits d ps) ∙ e)
+        memory = all .memory ∙ whole m (picked s d 0 ps ++ picked s d 1 ps ++ picked s d 2 ps) (perm-length (parted-perm s bits d ps) ∙ e);
       }
 
 pub record Bounds (r : Parts) (m′ : List ℕ) : Type 0 where
@@ -96,9 +96,9 @@ pub record Bounds (r : Parts) (m′ : List ℕ) : Type 0 where
 pub parted-bounds : {s : ℕ → List ℕ} {d : ℕ} {ps : List ℕ} {r : Parts} {m′ : List ℕ} → Parted s d ps r m′ → Bounds r m′
 parted-bounds {s} {d} {ps} {r} {m′} p =
     let size : length m′ ≡ length (picked s d 0 ps) + length (picked s d 1 ps) + length (picked s d 2 ps) =
-        ap length (p .memory)
-        ∙ length-append (picked s d 0 ps ++ picked s d 1 ps) (picked s d 2 ps)
-        ∙ ap (_+ length (picked s d 2 ps)) (length-append (picked s d 0 ps) (picked s d 1 ps)) in
+    ap length (p .memory)
+    ∙ length-append (picked s d 0 ps ++ picked s d 1 ps) (picked s d 2 ps)
+    ∙ ap (_+ length (picked s d 2 ps)) (length-append (picked s d 0 ps) (picked s d 1 ps)) in
     record { ends-most = omega (arith, p .ends, p .zeros); zeros-most = omega (arith, p .zeros) }
 
 -- ---- two parts of a list of three put in order one after the other: b becomes x, and c becomes y

@@ -52,7 +52,7 @@ add-end c = search needs
 
 -- src/output.rt:53:5
 write-block-requires-2 : tie.Need-write-block-requires-2
-write-block-requires-2 c κs = 
+write-block-requires-2 c κs =
     let start = c .before .before .before .before .before .before .before .before .before in
     let ended = c .before .before .before .before .list-end in
     let block = start .args .block .now in

@@ -37,7 +37,7 @@ same-length c = search needs
 
 -- src/turn.rt:126:1
 returns : tie.Need-returns
-returns c = 
+returns c =
     let start = c .before .before .before .before .before .before .before .before .before in
     let kept = take (start .args .at .kept) (start .args .table .now) in
     let left = length (start .args .block .now) - start .args .at .filled in

@@ -94,7 +94,7 @@ same-length-8 c = search needs
 
 -- src/turn.rt:51:1
 returns-4 : tie.Need-returns-4
-returns-4 c = 
+returns-4 c =
     let listed = c .before .before .before .before .list-one .ensures in
     record { kept = listed .kept; filled = listed .filled; rows = omega (arith, listed .rows, c .before .before .before .before .before .before .before .before .before .before .before .before .before .before .before .before .before .before .before .before .before .pre .1 .1 .1 .rows) }
 

@@ -46,7 +46,7 @@ loop-less c = search needs
 
 -- src/arrange.rt:24:5
 loop-again : tie.Need-loop-again Inv-loop μ-loop
-loop-again c = 
+loop-again c =
     let n = length (c .before .before .args .list .now) in
     let i = c .before .loop .i in
     let inside : i < length (places n) = omega (arith, length-places n) in

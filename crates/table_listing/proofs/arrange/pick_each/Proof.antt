@@ -13,21 +13,21 @@ use Rattle.table_listing.proofs.arrange.pick.Reads as pick-reads
 
 -- src/arrange.rt:70:9
 pick-requires : tie.Need-pick-requires
-pick-requires c κs = 
+pick-requires c κs =
     let start = c .before .before .before .before in
     let t = wordsOf (start .args .table .now) in
     (start .pre .0, omega (arith, picked-length (codewordAt t) (codewordAt-bits t) (start .args .d) (start .args .from .now), start .pre .1))
 
 -- src/arrange.rt:71:9
 pick-requires-2 : tie.Need-pick-requires-2
-pick-requires-2 c κs = 
+pick-requires-2 c κs =
     let start = c .before .before .before .before .before .before .before .before in
     let t = wordsOf (start .args .table .now) in
     (start .pre .0, omega (arith, picked-length (codewordAt t) (codewordAt-bits t) (start .args .d) (start .args .from .now), start .pre .1, c .before .before .before .pick .ensures .next, c .before .before .before .pick .kept .1 .1 .1 .1 .0))
 
 -- src/arrange.rt:72:5
 pick-requires-3 : tie.Need-pick-requires-3
-pick-requires-3 c κs = 
+pick-requires-3 c κs =
     let start = c .before .before .before .before .before .before .before .before .before .before .before .before in
     let t = wordsOf (start .args .table .now) in
     (start .pre .0, omega (arith, picked-length (codewordAt t) (codewordAt-bits t) (start .args .d) (start .args .from .now), start .pre .1, c .before .before .before .before .before .before .before .pick .ensures .next, c .before .before .before .before .before .before .before .pick .kept .1 .1 .1 .1 .0, c .before .before .before .pick2 .ensures .next, c .before .before .before .pick2 .kept .1 .1 .1 .1 .0))
@@ -38,7 +38,7 @@ same-length c = search needs
 
 -- src/arrange.rt:65:1
 returns : tie.Need-returns
-returns c = 
+returns c =
     let start = c .before .before .before .before .before .before .before .before .before .before .before .before .before .before .before in
     let t = wordsOf (start .args .table .now) in
     parted-all (codewordAt t) (codewordAt-bits t) (start .args .d) (start .args .from .now) (start .pre .1) (c .before .before .before .before .before .before .before .before .before .before .pick .ensures) (c .before .before .before .before .before .before .pick2 .ensures) (c .before .before .pick3 .ensures)

@@ -52,7 +52,7 @@ same-length c = search needs
 
 -- src/block.rt:30:13
 returns : tie.Need-returns Inv-loop μ-loop
-returns c = 
+returns c =
     let start = c .before .before .before .before .before .before .before .before .before .before .before in
     let t = wordsOf (start .args .table .now) in
     let list = start .args .list .now in
@@ -74,7 +74,7 @@ loop-less c = search needs
 
 -- src/block.rt:27:5
 loop-again : tie.Need-loop-again Inv-loop μ-loop
-loop-again c = 
+loop-again c =
     let start = c .before .before .before .before .before .before .before .before .before .before .before in
     let t = wordsOf (start .args .table .now) in
     let list = start .args .list .now in
@@ -97,7 +97,7 @@ same-length-2 c = search needs
 
 -- src/block.rt:20:1
 returns-2 : tie.Need-returns-2 Inv-loop μ-loop
-returns-2 c = 
+returns-2 c =
     let start = c .before .before .before .before .before in
     let t = wordsOf (start .args .table .now) in
     filling-all (c .before .loop .inv .1) (omega (arith, length-lines t (start .args .list .now) (start .args .first)))

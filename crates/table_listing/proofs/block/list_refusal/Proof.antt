@@ -22,7 +22,7 @@ same-length c = search needs
 
 -- src/block.rt:53:9
 returns-2 : tie.Need-returns-2
-returns-2 c = 
+returns-2 c =
     let start = c .before .before .before .before .before .before .before in
     let l = refusedLine (start .args .number) in
     alone-stays l (start .args .out .now) (start .args .first) (refused-some (start .args .number)) (c .before .before .before .before .before .if1 .left) (c .before .before .before .append-refused .ensures) (c .if2 .taken)
@@ -33,7 +33,7 @@ same-length-2 c = search needs
 
 -- src/block.rt:45:1
 returns-3 : tie.Need-returns-3
-returns-3 c = 
+returns-3 c =
     let start = c .before .before .before .before .before .before .before in
     let l = refusedLine (start .args .number) in
     alone-fits l (start .args .out .now) (start .args .first) (refused-some (start .args .number)) (c .before .before .before .before .before .if1 .left) (c .before .before .before .append-refused .ensures) (c .before .before .before .append-refused .kept .0) (c .if2 .left)

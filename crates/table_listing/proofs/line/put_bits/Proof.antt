@@ -63,7 +63,7 @@ loop-less c = search needs
 
 -- src/line.rt:58:5
 loop-again : tie.Need-loop-again Inv-loop μ-loop
-loop-again c = 
+loop-again c =
     let start = c .before .before in
     let w = start .args .w in
     let i = c .before .loop .i in

@@ -46,14 +46,16 @@ same-length c = search needs
 
 -- src/line.rt:17:1
 returns : tie.Need-returns
-returns c = 
+returns c =
     let at-end = c .before .before in
     let at-bits = at-end .before .before .before .before .before in
     let at-space = at-bits .before .before .before .before .before in
     let at-name = at-space .before .before .before .before .before in
-    let start = at-name .before .before .before .before in
-    (put-parts (wordsOf (start .args .table .now)) (start .args .place) (at-bits .before .string-word .result) (omega arith) (at-bits .before .string-word .ensures)
-    (at-name .put-name .ensures .0) (at-space .put-bytes .ensures) (at-bits .put-bits .ensures .0) (at-end .put-bytes2 .ensures), search needs)
+    let start = at-name .before .before .before .before in (
+      put-parts (wordsOf (start .args .table .now)) (start .args .place) (at-bits .before .string-word .result) (omega arith) (at-bits .before .string-word .ensures)
+          (at-name .put-name .ensures .0) (at-space .put-bytes .ensures) (at-bits .put-bits .ensures .0) (at-end .put-bytes2 .ensures),
+      search needs,
+    )
 
 pub put-line-spec : {M : Type 1} → statement M
 put-line-spec =

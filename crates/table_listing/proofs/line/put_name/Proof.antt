@@ -79,7 +79,7 @@ same-length-4 c = search needs
 
 -- src/line.rt:31:1
 returns-4 : tie.Need-returns-4
-returns-4 c = 
+returns-4 c =
     let start = c .before .before .before .before .before .before .before .before .before .before in
     let step = c .before .before .before .difference-of in
     (rw (toZ-ofZ {w = w32} (record { sfits = step .ok }), step .ensures, name-entry (wordsOf (start .args .table .now)) (start .args .place) (omega arith)) at (c .before .before .put-integer .ensures .0), search needs)

@@ -4,12 +4,16 @@ use Rattle.text.specs.Put.Laws.{put-put}
 use borrow.Author.Needs.{needs}
 use Rattle.text.proofs.number.put_fields.Statement.{statement}
 use Rattle.text.proofs.number.put_fields.Tie as tie
+
 put-field-requires : tie.Need-put-field-requires
 put-field-requires c κs = search needs
+
 put-field-requires-2 : tie.Need-put-field-requires-2
 put-field-requires-2 c κs = search needs
+
 same-length : tie.Need-same-length
 same-length c = search needs
+
 returns : tie.Need-returns
 returns c =
     let second = c .before .before in

@@ -1,0 +1,126 @@
+/*
+ * Reads rows an item a call and holds them against unpacking the whole row: the same pixels where items are given, the same
+ * number where one is refused, and a place that a refusal does not move. It prints the items of one row, and the sums of many;
+ * worked_items.expected is what it must print.
+ */
+#include <stdint.h>
+#include <stdio.h>
+#include <stdlib.h>
+#include <string.h>
+
+#include "tahliruz.h"
+
+#define MOST 4096
+
+static uint8_t plain[2072];
+static uint32_t noise_state = 7;
+static unsigned long items_given, ends[12];
+
+static uint32_t noise(uint32_t limit)
+{
+    noise_state = noise_state * 1664525u + 1013904223u;
+    return (uint32_t)(((uint64_t)(noise_state >> 8) * limit) >> 24);
+}
+
+static void fail(const char *what)
+{
+    printf("differs: %s\n", what);
+    exit(1);
+}
+
+static void put_pixel(uint8_t *at, uint32_t pixel)
+{
+    at[0] = (uint8_t)pixel;
+    at[1] = (uint8_t)(pixel >> 8);
+}
+
+/* Reads on until a refusal or n items; the words may be anyone's. */
+static void compare(const uint8_t *words, size_t words_len, uint32_t n)
+{
+    static uint8_t pixels[2 * MOST], items[2 * MOST];
+    struct tahliruz_place place = tahliruz_open(plain, sizeof plain);
+    uint32_t number = 0, given = 0;
+    while (given < n && number == 0) {
+        struct tahliruz_item item = tahliruz_next(plain, sizeof plain, words, words_len, place);
+        number = item.number;
+        if (number != 0) {
+            if (item.kind != 0 || item.step != 0 || item.pixel != 0 || memcmp(&item.place, &place, sizeof place) != 0)
+                fail("a refusal moved or has a value");
+            break;
+        }
+        if (item.place.count != given + 1 || item.place.at <= place.at)
+            fail("the place after an item");
+        put_pixel(items + 2 * given++, item.pixel);
+        place = item.place;
+    }
+    items_given += given;
+    ends[number]++;
+    struct tahliruz_answer whole = tahliruz_unpack(plain, sizeof plain, words, words_len, n, pixels, sizeof pixels);
+    if (number != 0 && whole.number != number)
+        fail("the number of a row with a refused item");
+    if (number == 0 && whole.number != 0 && whole.number != 10)
+        fail("the number of a row whose items are all given");
+    if (number == 0 && whole.number == 0 && (whole.count != place.at || memcmp(pixels, items, 2 * n) != 0))
+        fail("the pixels or the bits of a row");
+    if (number == 0 && n == MOST && tahliruz_next(plain, sizeof plain, words, words_len, place).number != 11)
+        fail("a 4097th item");
+}
+
+/* A row as a scanner gives it, with some jumps and bad spots, packed; one bit in some rows is turned over. */
+static void compare_row(uint32_t n)
+{
+    static uint8_t pixels[2 * MOST], words[4 * 3456];
+    uint32_t height = noise(4094);
+    for (uint32_t i = 0; i < n; i++) {
+        uint32_t way = noise(40);
+        if (way == 0)
+            height = noise(4094);
+        else if (height > 20 && height < 4070)
+            height = height + noise(19) - 9;
+        put_pixel(pixels + 2 * i, way == 1 ? 4095 : way == 2 ? 4094 : height);
+    }
+    struct tahliruz_answer packed = tahliruz_pack(plain, sizeof plain, pixels, 2 * n, words, sizeof words);
+    if (packed.number != 0)
+        fail("packing");
+    size_t used = 4 * ((packed.count + 31) / 32);
+    if (noise(2) == 0 && packed.count > 0) {
+        uint32_t bit = noise(packed.count);
+        words[bit / 8] ^= (uint8_t)(1 << (bit % 8));
+    }
+    compare(words, used, n);
+}
+
+static void print_items(void)
+{
+    static const uint16_t row[] = { 766, 767, 4095, 4094, 3000, 3001, 766 };
+    uint8_t pixels[sizeof row], words[64];
+    for (size_t i = 0; i < sizeof row / 2; i++)
+        put_pixel(pixels + 2 * i, row[i]);
+    struct tahliruz_answer packed = tahliruz_pack(plain, sizeof plain, pixels, sizeof pixels, words, sizeof words);
+    struct tahliruz_place place = tahliruz_open(plain, sizeof plain);
+    for (size_t i = 0; i <= sizeof row / 2; i++) {
+        struct tahliruz_item item = tahliruz_next(plain, sizeof plain, words, 4 * ((packed.count + 31) / 32), place);
+        printf("item: number %u kind %u step %d pixel %u at %lu previous %u\n", item.number, item.kind, item.step, item.pixel,
+               (unsigned long)item.place.at, item.place.previous);
+        place = item.place;
+    }
+}
+
+int main(void)
+{
+    tahliruz_plain_table(plain, sizeof plain);
+    print_items();
+    struct tahliruz_place refused = tahliruz_open(plain, 2071);
+    printf("opening with a table cut short: %u; an item then: %u\n", refused.opening,
+           tahliruz_next(plain, sizeof plain, plain, sizeof plain, refused).number);
+    for (int i = 0; i < 1500; i++)
+        compare_row(noise(60));
+    compare_row(MOST);
+    compare_row(MOST);
+    printf("1502 rows: %lu items, ended", items_given);
+    for (int number = 0; number < 12; number++)
+        if (ends[number] != 0)
+            printf(" %d: %lu", number, ends[number]);
+    printf("\n");
+    return 0;
+}

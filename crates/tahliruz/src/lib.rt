@@ -146,5 +146,5 @@ pub extern "C" fn tahliruz_write_record(
 ) -> RecordWritten
     ensures { λ r. ⌜ recordOutcome r (now (out .exit)) ≡ recordWritten kind row (now (table .entry)) (now (content .entry)) state (now (out .entry)) ⌝ }
 {
-    sheet_writer::record::write_record(kind, row, content, table, state, out)
+    sheet_writer::write_record(kind, row, content, table, state, out)
 }

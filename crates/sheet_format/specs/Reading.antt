@@ -1,5 +1,6 @@
--- Document 01, "A sheet": what judging and reading a record answer, the memory lent for its content included. r is the sheet's
--- bytes from the record's place on, b the record's body, tb the bytes of the sheet's table, m the memory lent, as it was.
+-- Document 01, "A sheet": what judging and reading a record answer, the memory lent for its content included. r is the
+-- sheet's bytes from the record's place on, b the record's body, tb the bytes of the sheet's table, m the memory lent, as it
+-- was.
 -- Definitions only. Assumes nothing.
 use Prim.Native.Nat.{ℕ, zero, suc, _+_, _*_, _/_}
 use mathlib.Core.List.{List, [], _++_, map}
@@ -116,9 +117,16 @@ pub record ReadOutcome : Type 0 where
   pub answer : RecordRead
   pub memory : List ℕ
 
+-- done: the content c stands at the front of the lent memory, and what follows is as it was
+abbrev pub readDone : RecordRead → List ℕ → List ℕ → ReadOutcome
+readDone a c m = record { answer = a; memory = c ++ drop (length c) m }
+
+abbrev pub readRefused : ℕ → SheetState → List ℕ → ReadOutcome
+readRefused e st m = record { answer = refusedRecord e st; memory = m }
+
 abbrev pub readUnless : ℕ → SheetState → List ℕ → RecordRead → List ℕ → ReadOutcome
-readUnless zero st m a c = record { answer = a; memory = c ++ drop (length c) m }
-readUnless (suc e) st m a c = record { answer = refusedRecord (suc e) st; memory = m }
+readUnless zero st m a c = readDone a c m
+readUnless (suc e) st m a c = readRefused (suc e) st m
 
 -- a record judged: no memory is lent
 unfoldable pub recordJudged : List ℕ → List ℕ → SheetState → RecordRead

@@ -1,5 +1,5 @@
--- Document 01, "A sheet": the parts of a record, and the number that a record is refused with. r is the sheet's bytes from the
--- record's place on, b the record's body, tb the bytes of the sheet's table. Every definition is total.
+-- Document 01, "A sheet": the parts of a record, and the number that a record is refused with. r is the sheet's bytes from
+-- the record's place on, b the record's body, tb the bytes of the sheet's table. Every definition is total.
 -- Definitions only. Assumes nothing.
 use Prim.Native.Nat.{ℕ, zero, suc, _+_, _-_, _*_, _%_}
 use mathlib.Core.Bool.{cond, not}
@@ -69,7 +69,7 @@ runOf tb b = readItems (wordsOf tb) (pixelCount b) (stream (rowContent b))
 abbrev pub lineOf : List ℕ → Line
 lineOf b = readLine (numberCount b) (lineContent b)
 
--- ---- which records are refused, and by which number. "For a record:
+-- ---- which records are refused, and by which number, in document 01's order
 -- "length (fewer than four bytes for it, outside its limits, or more than the bytes left; all 14)"; "2 to 32,774"
 unfoldable pub lengthNumber : List ℕ → ℕ
 lengthNumber r =

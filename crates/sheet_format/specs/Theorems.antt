@@ -11,16 +11,17 @@ use lib.ListN.{length, take, drop, getD}
 use lib.Dec.{ltb, eqb}
 use Rattle.bitstream.specs.Bits.Laws.{Below}
 use Rattle.row_format.specs.Lists.{any}
+use Rattle.row_format.specs.Table.{tableNumber}
 use Rattle.sheet_format.specs.declared.SheetState.{SheetState}
 use Rattle.sheet_format.specs.declared.RecordRead.{RecordRead}
 use Rattle.sheet_format.specs.Record.{lengthField, kindOf, lengthNumber, nothing, lent, recordSpan}
 use Rattle.sheet_format.specs.Record.Laws.{lessNumber-none, lessNumber-given, right-length}
-use Rattle.sheet_format.specs.Reading.{newSheet, answerBytes, refusedRecord, recordContent, recordJudged, recordRead}
+use Rattle.sheet_format.specs.Reading.{newSheet, answerBytes, recordContent, recordJudged, recordRead, readDone}
 use Rattle.sheet_format.specs.Reading.Laws.{recordJudged-number, recordRead-number}
-use Rattle.sheet_format.specs.Writing.{bodyFor, recordBytes, recordWritten}
-use Rattle.sheet_format.specs.Writing.Laws.{recordWritten-number, recordWritten-front, recordWritten-answer, Writable, writable, writeNumber-writable}
+use Rattle.sheet_format.specs.Writing.{recordWritten, recordFor}
+use Rattle.sheet_format.specs.Writing.Laws.{recordWritten-number, recordWritten-front, recordWritten-answer, recordBytes-table, Writable, writable, writeNumber-writable}
 use Rattle.sheet_format.specs.Sheet.{endsWith, putFirst, sheetRead, recordKinds, rowNumbers}
-use Rattle.sheet_format.specs.Sheet.Laws.{judged-length, records, records-end, records-refused, records-more, recordHere, tableNext, restNext}
+use Rattle.sheet_format.specs.Sheet.Laws.{judged-length, records, records-end, records-refused, records-more, recordHere, recordsNext}
 use Given.{contentGiven, recordGiven, Write, AllDone, sheetBytes, sheetGiven}
 use ReadBack.{recordRead-back, recordJudged-back}
 use Memory.{Within, WriteKept, recordWritten-kept, recordWritten-within, recordJudged-refused, recordRead-refused}
@@ -28,7 +29,7 @@ use Locality.{alike, recordRead-alike, recordJudged-alike, span-same, recordRead
 use Judged.{recordRead-judged}
 use Room.{recordRead-granted, recordRead-full, recordRead-within}
 use Rising.{sheetRead-rising}
-use TableFirst.{sheetRead-table-first}
+use TableFirst.{table-accepted, sheetRead-table-first}
 use Sheets.{sheetRead-written}
 use Numbers.{refuseIf-in, recordNumber-in, writeNumber-in}
 pub mod Given
@@ -50,9 +51,8 @@ module _ (code row : ℕ) (tb c : List ℕ) (st : SheetState) (m : List ℕ) (sm
     (done : recordWritten code row tb c st m .answer .number ≡ 0) where
   pub written-read : (rest m′ : List ℕ) → length (contentGiven (kindOf code) c) ≤ length m′
       → let w = recordWritten code row tb c st m in
-      let given = contentGiven (kindOf code) c in
       recordRead tb (take (w .answer .count) (w .memory) ++ rest) st m′
-      ≡ record { answer = recordGiven code row tb c (w .answer); memory = given ++ drop (length given) m′ }
+      ≡ readDone (recordGiven code row tb c (w .answer)) (contentGiven (kindOf code) c) m′
   written-read rest m′ room =
       let e = sym (recordWritten-number code row tb c st m) ∙ done in
       rw (recordWritten-front code row tb c st m e, recordWritten-answer code row tb c st m e)
@@ -66,6 +66,12 @@ module _ (code row : ℕ) (tb c : List ℕ) (st : SheetState) (m : List ℕ) (sm
       let e = sym (recordWritten-number code row tb c st m) ∙ done in
       rw (recordWritten-front code row tb c st m e, recordWritten-answer code row tb c st m e)
       (recordJudged-back code row tb c st small bytes (writable code row tb c st (length m) e) rest)
+
+  -- a table's bytes are the record's from place 6 on
+  pub written-table : code ≡ 1 → let w = recordWritten code row tb c st m in drop 6 (take (w .answer .count) (w .memory)) ≡ c
+  written-table one =
+      let e = sym (recordWritten-number code row tb c st m) ∙ done in
+      rw (recordWritten-front code row tb c st m e) (recordBytes-table code row tb c one)
 
   -- it is 6 to 32778 bytes
   pub written-length :
@@ -94,8 +100,7 @@ pub sheet-refused : (tb : List ℕ) (st : SheetState) (x : ℕ) (r : List ℕ) �
 sheet-refused = records-refused
 
 pub sheet-more : (tb : List ℕ) (st : SheetState) (x : ℕ) (r : List ℕ) → recordJudged tb (x ∷ r) st .number ≡ 0
-    → records tb st (x ∷ r)
-    ≡ putFirst (recordHere tb (x ∷ r) st) (records (tableNext tb (x ∷ r) st) (recordJudged tb (x ∷ r) st .state) (restNext tb (x ∷ r) st))
+    → records tb st (x ∷ r) ≡ putFirst (recordHere tb (x ∷ r) st) (recordsNext tb (x ∷ r) st)
 sheet-more = records-more
 
 -- "Row numbers rise strictly over kinds 2 and 3": in every sheet, a refused one's records before the refused one included
@@ -107,6 +112,11 @@ row-numbers-rise = sheetRead-rising
 pub table-first : (s : List ℕ) (i : ℕ) → i < length (recordKinds (sheetRead s .records))
     → (getD (recordKinds (sheetRead s .records)) i 0 ≡ 1) ↔ (i ≡ 0)
 table-first = sheetRead-table-first
+
+-- the table that a sheet keeps, the bytes of its record from place 6 on, is accepted
+pub kept-table : (tb r : List ℕ) (st : SheetState) → recordJudged tb r st .number ≡ 0 → recordJudged tb r st .kind ≡ 1
+    → tableNumber (drop 6 (take (recordJudged tb r st .length) r)) ≡ 0
+kept-table = table-accepted
 
 -- ---- a record alone
 -- "a 4-byte .. length"; "2 to 32,774": an accepted record is 6 to 32778 bytes, and they are there
@@ -133,14 +143,15 @@ record-span tb r st =
 
 -- ---- judging and reading
 -- With 16384 bytes lent they answer the same, whatever stands there.
-pub read-judged : (tb r : List ℕ) (st : SheetState) (m : List ℕ) → 16384 ≤ length m → recordRead tb r st m .answer ≡ recordJudged tb r st
+pub read-judged : (tb r : List ℕ) (st : SheetState) (m : List ℕ) → 16384 ≤ length m
+    → recordRead tb r st m .answer ≡ recordJudged tb r st
 read-judged = recordRead-judged
 
--- "lent room smaller than this call's output": of a record that judging accepts, reading is refused 5 exactly when fewer bytes
--- are lent than 2 for each pixel or 4 for each number; else it gives the same answer and the content.
+-- "lent room smaller than this call's output": of a record that judging accepts, reading is refused 5 exactly when fewer
+-- bytes are lent than 2 for each pixel or 4 for each number; else it gives the same answer and the content.
 module _ (tb r : List ℕ) (st : SheetState) (m : List ℕ) (ok : recordJudged tb r st .number ≡ 0) where
   pub read-granted : answerBytes (recordJudged tb r st) ≤ length m
-      → recordRead tb r st m ≡ record { answer = recordJudged tb r st; memory = recordContent tb r ++ drop (length (recordContent tb r)) m }
+      → recordRead tb r st m ≡ readDone (recordJudged tb r st) (recordContent tb r) m
   read-granted = recordRead-granted tb r st m ok
 
   pub read-refused-room : length m < answerBytes (recordJudged tb r st) → recordRead tb r st m .answer .number ≡ 5
@@ -148,34 +159,40 @@ module _ (tb r : List ℕ) (st : SheetState) (m : List ℕ) (ok : recordJudged t
 
 -- Writing, where no other refusal is given, is refused 5 exactly when fewer bytes are lent than the whole record's.
 module _ (code row : ℕ) (tb c : List ℕ) (st : SheetState) (m : List ℕ) (ok : Writable code row tb c st) where
-  pub written-granted : length (recordBytes code (bodyFor (kindOf code) row tb c)) ≤ length m → recordWritten code row tb c st m .answer .number ≡ 0
+  pub written-granted : length (recordFor code row tb c) ≤ length m → recordWritten code row tb c st m .answer .number ≡ 0
   written-granted h =
-      recordWritten-number code row tb c st m ∙ writeNumber-writable code row tb c st (length m) ok ∙ lessNumber-none (length m) _ 5 h
+      recordWritten-number code row tb c st m
+      ∙ writeNumber-writable code row tb c st (length m) ok
+      ∙ lessNumber-none (length m) (length (recordFor code row tb c)) 5 h
 
-  pub written-refused-room : length m < length (recordBytes code (bodyFor (kindOf code) row tb c)) → recordWritten code row tb c st m .answer .number ≡ 5
+  pub written-refused-room : length m < length (recordFor code row tb c)
+      → recordWritten code row tb c st m .answer .number ≡ 5
   written-refused-room h =
-      recordWritten-number code row tb c st m ∙ writeNumber-writable code row tb c st (length m) ok ∙ lessNumber-given (length m) _ 5 h
+      recordWritten-number code row tb c st m
+      ∙ writeNumber-writable code row tb c st (length m) ok
+      ∙ lessNumber-given (length m) (length (recordFor code row tb c)) 5 h
 
 -- ---- demand 1
--- "each call .. answers with a number from document 01", and its order lists which: judging never gives 5
-pub judged-numbers : (tb r : List ℕ) (st : SheetState)
-    → any (eqb (recordJudged tb r st .number))
-    (0 ∷ 14 ∷ 15 ∷ 16 ∷ 1 ∷ 2 ∷ 3 ∷ 11 ∷ 6 ∷ 7 ∷ 8 ∷ 9 ∷ 10 ∷ 4 ∷ 12 ∷ 13 ∷ []) ≡ true
+-- "each call .. answers with a number from document 01", and its order lists which; judging never gives 5
+abbrev pub judgedNumbers : List ℕ
+judgedNumbers = 0 ∷ 14 ∷ 15 ∷ 16 ∷ 1 ∷ 2 ∷ 3 ∷ 11 ∷ 6 ∷ 7 ∷ 8 ∷ 9 ∷ 10 ∷ 4 ∷ 12 ∷ 13 ∷ []
+
+pub judged-numbers : (tb r : List ℕ) (st : SheetState) → any (eqb (recordJudged tb r st .number)) judgedNumbers ≡ true
 unfolding any
 judged-numbers tb r st =
-    let known : ℕ → Type 0 = λ e. any (eqb e) (0 ∷ 14 ∷ 15 ∷ 16 ∷ 1 ∷ 2 ∷ 3 ∷ 11 ∷ 6 ∷ 7 ∷ 8 ∷ 9 ∷ 10 ∷ 4 ∷ 12 ∷ 13 ∷ []) ≡ true in
+    let known : ℕ → Type 0 = λ e. any (eqb e) judgedNumbers ≡ true in
     rw (recordJudged-number tb r st)
-    (recordNumber-in known refl refl refl refl refl refl refl refl refl refl refl refl refl refl refl refl nothing (λ n. refl) tb r st)
+    (recordNumber-in known refl refl refl refl refl refl refl refl refl refl refl refl refl refl refl refl
+    nothing (λ n. refl) tb r st)
 
 pub read-numbers : (tb r : List ℕ) (st : SheetState) (m : List ℕ)
-    → any (eqb (recordRead tb r st m .answer .number))
-    (0 ∷ 14 ∷ 15 ∷ 16 ∷ 1 ∷ 2 ∷ 3 ∷ 11 ∷ 5 ∷ 6 ∷ 7 ∷ 8 ∷ 9 ∷ 10 ∷ 4 ∷ 12 ∷ 13 ∷ []) ≡ true
+    → any (eqb (recordRead tb r st m .answer .number)) (5 ∷ judgedNumbers) ≡ true
 unfolding any
 read-numbers tb r st m =
-    let known : ℕ → Type 0 = λ e. any (eqb e) (0 ∷ 14 ∷ 15 ∷ 16 ∷ 1 ∷ 2 ∷ 3 ∷ 11 ∷ 5 ∷ 6 ∷ 7 ∷ 8 ∷ 9 ∷ 10 ∷ 4 ∷ 12 ∷ 13 ∷ []) ≡ true in
+    let known : ℕ → Type 0 = λ e. any (eqb e) (5 ∷ judgedNumbers) ≡ true in
     rw (recordRead-number tb r st m)
-    (recordNumber-in known refl refl refl refl refl refl refl refl refl refl refl refl refl refl refl refl (lent (length m))
-    (λ n. refuseIf-in known refl (ltb (length m) n) 5 refl) tb r st)
+    (recordNumber-in known refl refl refl refl refl refl refl refl refl refl refl refl refl refl refl refl
+    (lent (length m)) (λ n. refuseIf-in known refl (ltb (length m) n) 5 refl) tb r st)
 
 pub written-numbers : (code row : ℕ) (tb c : List ℕ) (st : SheetState) (m : List ℕ)
     → any (eqb (recordWritten code row tb c st m .answer .number)) (0 ∷ 15 ∷ 16 ∷ 1 ∷ 2 ∷ 3 ∷ 11 ∷ 4 ∷ 5 ∷ []) ≡ true
@@ -187,11 +204,34 @@ written-numbers code row tb c st m =
 
 -- "A refused call gives its number, zero for every count and value, and leaves the lent memory as found"; the state too
 pub judged-refused-keeps : (tb r : List ℕ) (st : SheetState) → (recordJudged tb r st .number ≡ 0 → ⊥)
-    → recordJudged tb r st ≡ refusedRecord (recordJudged tb r st .number) st
+    → recordJudged tb r st
+    ≡ record {
+      number = recordJudged tb r st .number;
+      kind = 0;
+      row = 0;
+      count = 0;
+      bits = 0;
+      words = 0;
+      length = 0;
+      state = st;
+    }
 judged-refused-keeps = recordJudged-refused
 
 pub read-refused-keeps : (tb r : List ℕ) (st : SheetState) (m : List ℕ) → (recordRead tb r st m .answer .number ≡ 0 → ⊥)
-    → recordRead tb r st m ≡ record { answer = refusedRecord (recordRead tb r st m .answer .number) st; memory = m }
+    → recordRead tb r st m
+    ≡ record {
+      answer = record {
+        number = recordRead tb r st m .answer .number;
+        kind = 0;
+        row = 0;
+        count = 0;
+        bits = 0;
+        words = 0;
+        length = 0;
+        state = st;
+      };
+      memory = m;
+    }
 read-refused-keeps = recordRead-refused
 
 pub written-refused-keeps : (code row : ℕ) (tb c : List ℕ) (st : SheetState) (m : List ℕ)

@@ -28,7 +28,9 @@ high-word : (w : ℕ) → 2147483648 ≤ w → signedOf w ≡ negsuc (4294967295
 high-word w h = rw (le-ltb w 2147483648 h)
 
 pub wordOf-signedOf : (w : ℕ) → w < 4294967296 → wordOf (signedOf w) ≡ w
-wordOf-signedOf w h = by-cases (decLt w 2147483648) (λ low. rw (low-word w low)) (λ high. rw (high-word w (omega arith)) (omega arith))
+wordOf-signedOf w h = by-cases (decLt w 2147483648)
+    (λ low. rw (low-word w low))
+    (λ high. rw (high-word w (omega arith)) (omega arith))
 
 pub signedOf-range : (w : ℕ) → w < 4294967296 → signed .inRange (signedOf w) ≡ true
 signedOf-range w h = signed-range (signedOf w) ∙ by-cases (decLt w 2147483648)
@@ -99,7 +101,8 @@ abbrev pub Gives : ℕ → List ℕ → Line → Type 0
 Gives n s (numbers vs u) = Numbers n s vs u
 Gives n s (faulty e) = 0 < e
 
-prepend-gives : (n : ℕ) (s : List ℕ) (v : ℤ) (u : ℕ) (x : Line) → u ≤ length s → Gives n (drop u s) x → Gives (suc n) s (prepend v u x)
+prepend-gives : (n : ℕ) (s : List ℕ) (v : ℤ) (u : ℕ) (x : Line) → u ≤ length s → Gives n (drop u s) x
+    → Gives (suc n) s (prepend v u x)
 prepend-gives n s v u (numbers vs w) h g =
     record { count = ap suc (g .count); there = omega (arith, g .there, length-drop u s) }
 prepend-gives n s v u (faulty e) h g = g

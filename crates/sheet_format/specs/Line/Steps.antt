@@ -38,11 +38,13 @@ unfolding readLine
 readLine-none n s (accepted v u) e wrong = absurd (wrong refl)
 readLine-none n s (rejected k) e wrong = rw e
 
-pub readLine-fault : (n : ℕ) (s : List ℕ) → (signedRead s .number ≡ 0 → ⊥) → readLine (suc n) s ≡ faulty (signedRead s .number)
+pub readLine-fault : (n : ℕ) (s : List ℕ) → (signedRead s .number ≡ 0 → ⊥)
+    → readLine (suc n) s ≡ faulty (signedRead s .number)
 unfolding signedRead
 readLine-fault n s wrong = readLine-none n s (readAs signed s) refl wrong
 
-after-prepend : (vs : List ℤ) (u : ℕ) (v : ℤ) (w : ℕ) (x : Line) → after vs u (prepend v w x) ≡ after (vs ++ (v ∷ [])) (u + w) x
+after-prepend : (vs : List ℤ) (u : ℕ) (v : ℤ) (w : ℕ) (x : Line)
+    → after vs u (prepend v w x) ≡ after (vs ++ (v ∷ [])) (u + w) x
 after-prepend vs u v w (numbers ws k) = ap₂ numbers (sym (append-assoc vs (v ∷ []) ws)) (sym (add-assoc u w k))
 after-prepend vs u v w (faulty e) = refl
 
@@ -70,7 +72,8 @@ module _ {n : ℕ} {s : List ℕ} {vs : List ℤ} {u : ℕ} where
             ∙ ap (λ (l : List ℕ). after (vs ++ (a .value ∷ [])) (u + a .used) (readLine k l)) (drop-drop (a .used) u s);
       }
 
-  pub line-fault : {k : ℕ} → LineSoFar n s vs u (suc k) → (signedRead (drop u s) .number ≡ 0 → ⊥) → readLine n s ≡ faulty (signedRead (drop u s) .number)
+  pub line-fault : {k : ℕ} → LineSoFar n s vs u (suc k) → (signedRead (drop u s) .number ≡ 0 → ⊥)
+      → readLine n s ≡ faulty (signedRead (drop u s) .number)
   line-fault {k} h wrong = h .line ∙ ap (after vs u) (readLine-fault k (drop u s) wrong)
 
   pub line-all : LineSoFar n s vs u 0 → readLine n s ≡ numbers vs u
@@ -95,7 +98,8 @@ bytesOf-more vs v =
 pub lineBytes-append : (vs ws : List ℤ) → lineBytes (vs ++ ws) ≡ lineBytes vs ++ lineBytes ws
 unfolding lineBytes
 lineBytes-append [] ws = refl
-lineBytes-append (v ∷ vs) ws = rw (lineBytes-append vs ws) (sym (append-assoc (shortest signed v) (lineBytes vs) (lineBytes ws)))
+lineBytes-append (v ∷ vs) ws =
+    rw (lineBytes-append vs ws) (sym (append-assoc (shortest signed v) (lineBytes vs) (lineBytes ws)))
 
 pub lineBytes-more : (vs : List ℤ) (v : ℤ) → lineBytes (vs ++ (v ∷ [])) ≡ lineBytes vs ++ shortest signed v
 unfolding lineBytes

@@ -1,12 +1,14 @@
 -- The laws of a record's number: it is 0 exactly where each of its parts is. Assumes nothing.
-use Prim.Native.Nat.{ℕ, zero, suc, _+_, _≤_, _<_}
+use Prim.Native.Nat.{ℕ, zero, suc, _+_, _-_, _≤_, _<_}
+use native.Mathlib.Nat.{sub-zero, zero-sub, suc-sub-suc}
 use native.Mathlib.Decide.{decLt}
 use native.Mathlib.Omega.{arith}
-use mathlib.Core.Path.{_≡_, refl}
+use mathlib.Core.Path.{_≡_, refl, sym, ap, _∙_}
 use mathlib.Core.Logic.{by-cases}
-use mathlib.Core.Bool.{Bool, false, not}
-use mathlib.Core.List.{List}
-use lib.ListN.{length}
+use mathlib.Core.Bool.{Bool, true, false, not}
+use mathlib.Core.List.{List, [], _∷_}
+use lib.ListN.{length, take, drop}
+use lib.Seq.{take-nil}
 use lib.Dec.{ltb, eqb}
 use borrow.Author.Tests.{ltb-false, lt-ltb, le-ltb, eqb-true, eq-eqb, ne-eqb, not-false}
 use Rattle.answer.specs.Outcome.{_orElse_, refuseIf}
@@ -74,6 +76,24 @@ right-length r e =
       there = lessNumber-zero (length r) (4 + lengthField r) 13 (orElse-zero-right large past e2);
     }
 
+-- fewer than four bytes for it, or more than the bytes left
+pub lengthNumber-short : (r : List ℕ) → length r < 4 → lengthNumber r ≡ 14
+unfolding lengthNumber
+lengthNumber-short r h = rw (lt-ltb (length r) 4 h)
+
+orElse-both : (e : ℕ) (b : Bool) → refuseIf b (suc e) orElse suc e ≡ suc e
+orElse-both e true = refl
+orElse-both e false = refl
+
+pub lengthNumber-past : (r : List ℕ) → length r < 4 + lengthField r → lengthNumber r ≡ 14
+unfolding lengthNumber
+lengthNumber-past r h =
+    rw (
+      lt-ltb (length r) (4 + lengthField r) h,
+      orElse-both 13 (ltb 32774 (lengthField r)),
+      orElse-both 13 (ltb (lengthField r) 2),
+    ) (orElse-both 13 (ltb (length r) 4))
+
 -- a length outside its limits is refused whatever follows
 pub lengthNumber-wrong : (r : List ℕ) → (2 ≤ lengthField r → 32774 < lengthField r) → lengthNumber r ≡ 14
 unfolding lengthNumber
@@ -81,7 +101,24 @@ lengthNumber-wrong r h =
     by-cases (decLt (length r) 4) (λ short. rw (lt-ltb (length r) 4 short))
     (λ four. by-cases (decLt (lengthField r) 2)
     (λ small. rw (le-ltb (length r) 4 (omega arith), lt-ltb (lengthField r) 2 small))
-    (λ large. rw (le-ltb (length r) 4 (omega arith), le-ltb (lengthField r) 2 (omega arith), lt-ltb 32774 (lengthField r) (h (omega arith)))))
+    (λ large. rw (
+      le-ltb (length r) 4 (omega arith),
+      le-ltb (lengthField r) 2 (omega arith),
+      lt-ltb 32774 (lengthField r) (h (omega arith)),
+    )))
+
+-- ---- the body
+pub drop-take : (n k : ℕ) (l : List ℕ) → drop n (take k l) ≡ take (k - n) (drop n l)
+drop-take zero k l = rw (sub-zero k)
+drop-take (suc n) zero l = rw (zero-sub (suc n))
+drop-take (suc n) (suc k) [] = sym (take-nil (suc k - suc n))
+drop-take (suc n) (suc k) (x ∷ l) = drop-take n k l ∙ rw (suc-sub-suc k n)
+
+-- the record's bytes from place 6 on
+pub bodyOf-whole : (r : List ℕ) → drop 6 (take (4 + lengthField r) r) ≡ bodyOf r
+bodyOf-whole r =
+    let same : 4 + lengthField r - 6 ≡ lengthField r - 2 = omega arith in
+    drop-take 6 (4 + lengthField r) r ∙ ap (λ (k : ℕ). take k (drop 6 r)) same
 
 -- ---- the kind
 pub kindOf-known : (code : ℕ) → kindNumber (kindOf code) ≡ 0 → code ≤ 4
@@ -92,6 +129,15 @@ kindOf-known (suc (suc zero)) e = omega arith
 kindOf-known (suc (suc (suc zero))) e = omega arith
 kindOf-known (suc (suc (suc (suc zero)))) e = omega arith
 kindOf-known (suc (suc (suc (suc (suc k))))) e = absurd (omega arith)
+
+pub kindNumber-known : (code : ℕ) → 1 ≤ code → code ≤ 4 → kindNumber (kindOf code) ≡ 0
+unfolding kindNumber
+kindNumber-known zero h g = absurd (omega arith)
+kindNumber-known (suc zero) h g = refl
+kindNumber-known (suc (suc zero)) h g = refl
+kindNumber-known (suc (suc (suc zero))) h g = refl
+kindNumber-known (suc (suc (suc (suc zero)))) h g = refl
+kindNumber-known (suc (suc (suc (suc (suc k))))) h g = absurd (omega arith)
 
 pub kindOf-unknown : (code : ℕ) → 4 < code → kindOf code ≡ unknown
 kindOf-unknown zero h = absurd (omega arith)

@@ -39,7 +39,8 @@ unless-orElse (suc a) b m o = refl
 -- the row call on a record's words is refused by packedNumber, or done with the row's bits and pixels
 pub unpacked-record : (tb b m : List ℕ)
     → unpacked tb (rowContent b) (pixelCount b) m
-    ≡ unless (packedNumber (lent (length m)) tb b) m (wrote (bitsOfRun (runOf tb b)) (pixelBytes (pixelCount b) (runOf tb b)) m)
+    ≡ unless (packedNumber (lent (length m)) tb b) m
+    (wrote (bitsOfRun (runOf tb b)) (pixelBytes (pixelCount b) (runOf tb b)) m)
 unfolding unpacked unpackNumber
 unpacked-record tb b m =
     let n = pixelCount b in
@@ -71,7 +72,8 @@ unless-wrote : (e c : ℕ) (b m : List ℕ) → unless e m (wrote c b m) .answer
 unless-wrote zero c b m = refl
 unless-wrote (suc e) c b m = refl
 
-pub unpacked-record-number : (tb b m : List ℕ) → unpacked tb (rowContent b) (pixelCount b) m .answer .number ≡ packedNumber (lent (length m)) tb b
+pub unpacked-record-number : (tb b m : List ℕ) → unpacked tb (rowContent b) (pixelCount b) m .answer .number
+    ≡ packedNumber (lent (length m)) tb b
 unpacked-record-number tb b m =
     rw (unpacked-record tb b m)
     (unless-wrote (packedNumber (lent (length m)) tb b) (bitsOfRun (runOf tb b)) (pixelBytes (pixelCount b) (runOf tb b)) m)

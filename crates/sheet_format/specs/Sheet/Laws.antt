@@ -22,21 +22,25 @@ judged-length tb r st ok =
 
 -- at the end, refused, or accepted
 pub fromRecord-cases : (P : SheetRead → Type 0) (r : List ℕ) (e : ℕ) (x : SheetRecord) (rest : SheetRead)
-    → P (endsWith 0) → ((k : ℕ) → e ≡ suc k → P (endsWith (suc k))) → (e ≡ 0 → P (putFirst x rest)) → P (fromRecord r e x rest)
+    → P (endsWith 0) → ((k : ℕ) → e ≡ suc k → P (endsWith (suc k))) → (e ≡ 0 → P (putFirst x rest))
+    → P (fromRecord r e x rest)
 fromRecord-cases P [] e x rest ended refused accepted = ended
 fromRecord-cases P (y ∷ r) zero x rest ended refused accepted = accepted refl
 fromRecord-cases P (y ∷ r) (suc e) x rest ended refused accepted = refused e refl
 
-fromRecord-same : (r : List ℕ) (e : ℕ) (x : SheetRecord) (s t : SheetRead) → (e ≡ 0 → s ≡ t) → fromRecord r e x s ≡ fromRecord r e x t
+fromRecord-same : (r : List ℕ) (e : ℕ) (x : SheetRecord) (s t : SheetRead) → (e ≡ 0 → s ≡ t)
+    → fromRecord r e x s ≡ fromRecord r e x t
 fromRecord-same [] e x s t h = refl
 fromRecord-same (y ∷ r) zero x s t h = rw (h refl)
 fromRecord-same (y ∷ r) (suc e) x s t h = refl
 
-fromRecord-accepted : (y : ℕ) (r : List ℕ) (e : ℕ) (x : SheetRecord) (rest : SheetRead) → e ≡ 0 → fromRecord (y ∷ r) e x rest ≡ putFirst x rest
+fromRecord-accepted : (y : ℕ) (r : List ℕ) (e : ℕ) (x : SheetRecord) (rest : SheetRead) → e ≡ 0
+    → fromRecord (y ∷ r) e x rest ≡ putFirst x rest
 fromRecord-accepted y r zero x rest h = refl
 fromRecord-accepted y r (suc e) x rest h = absurd (omega arith)
 
-fromRecord-refused : (y : ℕ) (r : List ℕ) (e : ℕ) (x : SheetRecord) (rest : SheetRead) → (e ≡ 0 → ⊥) → fromRecord (y ∷ r) e x rest ≡ endsWith e
+fromRecord-refused : (y : ℕ) (r : List ℕ) (e : ℕ) (x : SheetRecord) (rest : SheetRead) → (e ≡ 0 → ⊥)
+    → fromRecord (y ∷ r) e x rest ≡ endsWith e
 fromRecord-refused y r zero x rest h = absurd (h refl)
 fromRecord-refused y r (suc e) x rest h = refl
 
@@ -69,11 +73,16 @@ recordsFrom-bound (suc n) (suc k) tb st r h g =
     let ih = recordsFrom-bound n k (tableNext tb r st) (recordJudged tb r st .state) (restNext tb r st) in
     fromRecord-same r (recordJudged tb r st .number) (recordHere tb r st) _ _
     (λ ok. let size = judged-length tb r st ok in
-    ih (omega (arith, length-drop (recordJudged tb r st .length) r)) (omega (arith, length-drop (recordJudged tb r st .length) r)))
+    let left = length-drop (recordJudged tb r st .length) r in
+    ih (omega arith) (omega arith))
 
 -- ---- the records of the bytes r
 abbrev pub records : List ℕ → SheetState → List ℕ → SheetRead
 records tb st r = recordsFrom (length r) tb st r
+
+-- those after the record at r
+abbrev pub recordsNext : List ℕ → List ℕ → SheetState → SheetRead
+recordsNext tb r st = records (tableNext tb r st) (recordJudged tb r st .state) (restNext tb r st)
 
 pub records-end : (tb : List ℕ) (st : SheetState) → records tb st [] ≡ endsWith 0
 records-end tb st = recordsFrom-nil 0 tb st
@@ -84,7 +93,7 @@ unfolding recordsFrom
 records-refused tb st x r h = fromRecord-refused x r (recordJudged tb (x ∷ r) st .number) (recordHere tb (x ∷ r) st) _ h
 
 pub records-more : (tb : List ℕ) (st : SheetState) (x : ℕ) (r : List ℕ) → recordJudged tb (x ∷ r) st .number ≡ 0
-    → records tb st (x ∷ r) ≡ putFirst (recordHere tb (x ∷ r) st) (records (tableNext tb (x ∷ r) st) (recordJudged tb (x ∷ r) st .state) (restNext tb (x ∷ r) st))
+    → records tb st (x ∷ r) ≡ putFirst (recordHere tb (x ∷ r) st) (recordsNext tb (x ∷ r) st)
 unfolding recordsFrom
 records-more tb st x r h =
     let size = judged-length tb (x ∷ r) st h in
@@ -92,4 +101,5 @@ records-more tb st x r h =
     let left : length rest ≤ length r = omega (arith, length-drop (recordJudged tb (x ∷ r) st .length) (x ∷ r)) in
     fromRecord-accepted x r (recordJudged tb (x ∷ r) st .number) (recordHere tb (x ∷ r) st) _ h
     ∙ ap (putFirst (recordHere tb (x ∷ r) st))
-    (recordsFrom-bound (length r) (length rest) (tableNext tb (x ∷ r) st) (recordJudged tb (x ∷ r) st .state) rest left (omega arith))
+    (recordsFrom-bound (length r) (length rest) (tableNext tb (x ∷ r) st) (recordJudged tb (x ∷ r) st .state) rest
+    left (omega arith))

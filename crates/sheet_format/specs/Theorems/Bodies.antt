@@ -1,7 +1,7 @@
 -- A body that was written is read back, kind by kind: no refusal but for room, and the content that was given.
 -- Assumes nothing.
 use Prim.Native.Nat.{ℕ, _+_, _*_, _/_, _%_, _≤_, _<_}
-use native.Mathlib.Nat.{mul-le-mul-left}
+use native.Mathlib.Nat.{le-refl, mul-le-mul-left}
 use native.Mathlib.Omega.{arith}
 use mathlib.Core.Path.{_≡_, refl, sym, ap, _∙_}
 use mathlib.Core.Bool.{false}
@@ -34,7 +34,8 @@ use Rattle.sheet_format.specs.Theorems.Given.{rowGiven, countGiven, bits
 
 -- what reading the body b finds, where it was written for the content c
 pub record Back (k : Kind) (row : ℕ) (tb c b : List ℕ) : Type 0 where
-  pub passes : (m : Lent) (st : SheetState) → placeNumber k row st ≡ 0 → roomNumber m (length (contentGiven k c)) ≡ 0 → Passed k m tb b st
+  pub passes : (m : Lent) (st : SheetState) → placeNumber k row st ≡ 0 → roomNumber m (length (contentGiven k c)) ≡ 0
+      → Passed k m tb b st
   pub held : rowHeld k b ≡ rowGiven k row
   pub count : countHeld k b ≡ countGiven k c
   pub bits : bitsHeld k tb b ≡ bitsGiven k tb c
@@ -61,7 +62,8 @@ table-back row tb c ok = record {
   short = table-most c ok;
 }
   where
-    passes : (m : Lent) (st : SheetState) → placeNumber tableRecord row st ≡ 0 → roomNumber m 0 ≡ 0 → Passed tableRecord m tb c st
+    passes : (m : Lent) (st : SheetState) → placeNumber tableRecord row st ≡ 0 → roomNumber m 0 ≡ 0
+        → Passed tableRecord m tb c st
     passes m st place room = record {
       fixed = rw (eq-eqb (length c % 4) 0 (tableNumber-whole c ok));
       place = place;
@@ -94,7 +96,8 @@ record RowRun (t ps w : List ℕ) : Type 0 where
   pub run : readItems t (length ps) (stream w) ≡ done (itemsFor t fresh ps) (length (rowBits t ps))
   pub clean : stray (length (rowBits t ps)) (stream w) ≡ false
 
-row-run : (tb ps : List ℕ) → tableNumber tb ≡ 0 → any (ltb 4095) ps ≡ false → RowRun (wordsOf tb) ps (rowBytes (wordsOf tb) ps)
+row-run : (tb ps : List ℕ) → tableNumber tb ≡ 0 → any (ltb 4095) ps ≡ false
+    → RowRun (wordsOf tb) ps (rowBytes (wordsOf tb) ps)
 row-run tb ps ok low =
     let t = wordsOf tb in
     let b = rowBits t ps in
@@ -119,7 +122,8 @@ module _ (row : ℕ) (tb c : List ℕ) (small : row < 65536) (bytes : Below 256 
   pixels-size = length-take-le (2 * length (givenPixels c)) c (omega (arith, length-cut 16 (length c / 2) (bitsOf c)))
 
   module _ (ok : tableNumber tb ≡ 0) where
-    packed-body : (b : List ℕ) → RowFields b row (length (givenPixels c)) (rowBytes (wordsOf tb) (givenPixels c)) → Back packedRecord row tb c b
+    packed-body : (b : List ℕ) → RowFields b row (length (givenPixels c)) (rowBytes (wordsOf tb) (givenPixels c))
+        → Back packedRecord row tb c b
     unfolding fixedNumber placeNumber bodyNumber leftoverNumber lastRoomNumber
     packed-body b f = record {
       passes = passes;
@@ -151,8 +155,17 @@ module _ (row : ℕ) (tb c : List ℕ) (small : row < 65536) (bytes : Below 256 
         passes m st place room = record {
           fixed = rw (lessNumber-none (length b) 4 14 (omega (arith, f .size)), unequalNumber-none (length b % 4) 0 14 whole);
           place = rw (f .number) place;
-          body = rw (runs, ok, f .count, lessNumber-none 4096 (length ps) 11 few, sym pixels-size, room, f .content, row-run tb ps ok low .clean);
-          leftover = rw (runs, size) (lessNumber-none (4 * wordsFor (length (rowBits t ps))) (4 * wordsFor (length (rowBits t ps))) 14 (omega arith));
+          body = rw (
+            runs,
+            ok,
+            f .count,
+            lessNumber-none 4096 (length ps) 11 few,
+            sym pixels-size,
+            room,
+            f .content,
+            row-run tb ps ok low .clean,
+          );
+          leftover = rw (runs, size) (lessNumber-none _ _ 14 (le-refl (4 * wordsFor (length (rowBits t ps)))));
           room = refl;
         }
 
@@ -164,9 +177,11 @@ module _ (row : ℕ) (tb c : List ℕ) (small : row < 65536) (bytes : Below 256 
   halves-same : halvesOf (take (2 * length (givenPixels c)) c) ≡ givenPixels c
   halves-same =
       ap halvesOf (sym (bytesOf-halvesOf c bytes))
-      ∙ halvesOf-bytesOf (length (givenPixels c)) (givenPixels c) refl (below-cut 16 (length c / 2) (bitsOf c) (below-flat 8 c))
+      ∙ halvesOf-bytesOf (length (givenPixels c)) (givenPixels c) refl
+      (below-cut 16 (length c / 2) (bitsOf c) (below-flat 8 c))
 
-  plain-body : (b : List ℕ) → RowFields b row (length (givenPixels c)) (take (2 * length (givenPixels c)) c) → Back plainRecord row tb c b
+  plain-body : (b : List ℕ) → RowFields b row (length (givenPixels c)) (take (2 * length (givenPixels c)) c)
+      → Back plainRecord row tb c b
   unfolding fixedNumber placeNumber bodyNumber leftoverNumber lastRoomNumber
   plain-body b f = record {
     passes = passes;
@@ -183,7 +198,14 @@ module _ (row : ℕ) (tb c : List ℕ) (small : row < 65536) (bytes : Below 256 
       passes m st place room = record {
         fixed = lessNumber-none (length b) 4 14 (omega (arith, f .size));
         place = rw (f .number) place;
-        body = rw (f .count, f .content, lessNumber-none 4096 (length (givenPixels c)) 11 few, unequalNumber-none (length (take (2 * length (givenPixels c)) c)) (2 * length (givenPixels c)) 14 pixels-size, halves-same, low);
+        body = rw (
+          f .count,
+          f .content,
+          lessNumber-none 4096 (length (givenPixels c)) 11 few,
+          unequalNumber-none (length (take (2 * length (givenPixels c)) c)) (2 * length (givenPixels c)) 14 pixels-size,
+          halves-same,
+          low,
+        );
         leftover = refl;
         room = rw (f .count, sym pixels-size) room;
       }
@@ -211,7 +233,8 @@ module _ (row : ℕ) (tb c : List ℕ) (bytes : Below 256 c) (few : length (give
   given-count = length-map (wordsOf c) _
 
   numbers-size : length (take (4 * length (givenNumbers c)) c) ≡ 4 * length (givenNumbers c)
-  numbers-size = length-take-le (4 * length (givenNumbers c)) c (omega (arith, given-count, length-cut 32 (length c / 4) (bitsOf c)))
+  numbers-size = length-take-le (4 * length (givenNumbers c)) c
+      (omega (arith, given-count, length-cut 32 (length c / 4) (bitsOf c)))
 
   words-low : Below 4294967296 (wordsOf c)
   words-low = below-cut 32 (length c / 4) (bitsOf c) (below-flat 8 c)
@@ -240,10 +263,11 @@ module _ (row : ℕ) (tb c : List ℕ) (bytes : Below 256 c) (few : length (give
         fixed = lessNumber-none (length b) 2 14 (omega (arith, f .size));
         place = place;
         body = rw (reads, f .count, lessNumber-none 4096 (length (givenNumbers c)) 11 few);
-        leftover = rw (reads, f .content) (lessNumber-none (length (lineBytes (givenNumbers c))) (length (lineBytes (givenNumbers c))) 14 (omega arith));
+        leftover = rw (reads, f .content) (lessNumber-none _ _ 14 (le-refl (length (lineBytes (givenNumbers c)))));
         room = rw (f .count, sym numbers-size) room;
       }
 
   pub line-back : Back lineRecord row tb c (bodyFor lineRecord row tb c)
   unfolding bodyFor
-  line-back = line-body (bodyFor lineRecord row tb c) (line-fields (length (givenNumbers c)) (lineBytes (givenNumbers c)) (omega arith))
+  line-back = line-body (bodyFor lineRecord row tb c)
+      (line-fields (length (givenNumbers c)) (lineBytes (givenNumbers c)) (omega arith))

@@ -91,8 +91,14 @@ unfoldable pub sheetBytes : List ℕ → SheetState → List Write → List ℕ
 sheetBytes tb st [] = []
 sheetBytes tb st (w ∷ ws) = bytesWritten tb st w ++ sheetBytes (tableGiven tb w) (writtenBy tb st w .answer .state) ws
 
+-- the record that is to be read
+abbrev pub givenBy : List ℕ → SheetState → Write → SheetRecord
+givenBy tb st w = record {
+  answer = recordGiven (w .kind) (w .row) tb (w .content) (writtenBy tb st w .answer);
+  bytes = bytesWritten tb st w;
+}
+
 unfoldable pub sheetGiven : List ℕ → SheetState → List Write → List SheetRecord
 sheetGiven tb st [] = []
 sheetGiven tb st (w ∷ ws) =
-    record { answer = recordGiven (w .kind) (w .row) tb (w .content) (writtenBy tb st w .answer); bytes = bytesWritten tb st w }
-    ∷ sheetGiven (tableGiven tb w) (writtenBy tb st w .answer .state) ws
+    givenBy tb st w ∷ sheetGiven (tableGiven tb w) (writtenBy tb st w .answer .state) ws

@@ -1,6 +1,6 @@
 -- Judging a record and reading it: they agree wherever the lent memory is long enough, and what is read fills the bytes of
 -- its count. Assumes nothing.
-use Prim.Native.Nat.{ℕ, _*_, _≤_}
+use Prim.Native.Nat.{ℕ, _*_, _≤_, _<_}
 use native.Mathlib.Nat.{mul-le-mul}
 use native.Mathlib.Omega.{arith}
 use mathlib.Core.Path.{_≡_, refl, ap, _∙_}
@@ -31,9 +31,9 @@ use Rattle.sheet_format.specs.Reading.Laws.{recordRead-answer}
 few : (n e : ℕ) → tooMany n orElse e ≡ 0 → n ≤ 4096
 few n e h = lessNumber-zero 4096 n 10 (orElse-zero-left (tooMany n) e h)
 
-run-content : (n : ℕ) (r : List ℕ) (x : Run) → StopIn (λ e. e ≡ 0 → ⊥) x → runNumber r x ≡ 0 → length (pixelBytes n x) ≡ 2 * n
+run-content : (n : ℕ) (r : List ℕ) (x : Run) → StopIn (λ e. 0 < e) x → runNumber r x ≡ 0 → length (pixelBytes n x) ≡ 2 * n
 run-content n r (done is u) h e = length-cut 8 (2 * n) (flat 16 (pixelsOf fresh is))
-run-content n r (stop k at u) h e = absurd (h e)
+run-content n r (stop k at u) h e = absurd (omega arith)
 
 line-content : (n : ℕ) (s : List ℕ) (x : Line) → Gives n s x → faultNumber x ≡ 0 → length (numberBytes x) ≡ 4 * n
 line-content n s (numbers vs u) g e = length-cut 8 (4 * length vs) (flat 32 (map wordOf vs)) ∙ ap (4 *_) (g .count)
@@ -56,8 +56,9 @@ module _ (m : Lent) (tb b : List ℕ) (st : SheetState) where
       let run = runNumber (stream (rowContent b)) (runOf tb b) in
       let e1 = orElse-zero-right (tableNumber tb) (tooMany n orElse roomNumber m (2 * n) orElse run) e in
       let e2 = orElse-zero-right (tooMany n) (roomNumber m (2 * n) orElse run) e1 in
-      let stops : StopIn (λ e. e ≡ 0 → ⊥) (runOf tb b) =
-      readItems-in (λ e. e ≡ 0 → ⊥) (λ h. absurd (omega arith)) (λ h. absurd (omega arith)) (λ h. absurd (omega arith)) (λ h. absurd (omega arith)) (wordsOf tb) n (stream (rowContent b)) in
+      let stops : StopIn (λ e. 0 < e) (runOf tb b) =
+      readItems-in (λ e. 0 < e) (omega arith) (omega arith) (omega arith) (omega arith)
+      (wordsOf tb) n (stream (rowContent b)) in
       let fewer = few n (roomNumber m (2 * n) orElse run) e1 in
       record {
         size = run-content n (stream (rowContent b)) (runOf tb b) stops (orElse-zero-right (roomNumber m (2 * n)) run e2);
@@ -84,7 +85,9 @@ module _ (m : Lent) (tb b : List ℕ) (st : SheetState) where
       let fault = faultNumber (lineOf b) in
       let fewer = few n fault e in
       record {
-        size = line-content n (lineContent b) (lineOf b) (readLine-gives n (lineContent b)) (orElse-zero-right (tooMany n) fault e);
+        size =
+            line-content n (lineContent b) (lineOf b) (readLine-gives n (lineContent b))
+            (orElse-zero-right (tooMany n) fault e);
         most = omega arith;
         room = room;
       }
@@ -111,7 +114,8 @@ module _ (m m′ : Lent) (tb b : List ℕ) (st : SheetState) where
         room,
       ) (orElse-zero-right (roomNumber m (2 * n)) run e2)
 
-  pub passed-other : (k : Kind) → Passed k m tb b st → roomNumber m′ (contentBytes k (countHeld k b)) ≡ 0 → Passed k m′ tb b st
+  pub passed-other : (k : Kind) → Passed k m tb b st → roomNumber m′ (contentBytes k (countHeld k b)) ≡ 0
+      → Passed k m′ tb b st
   unfolding bodyNumber lastRoomNumber
   passed-other tableRecord p room =
       record { fixed = p .fixed; place = p .place; body = p .body; leftover = p .leftover; room = refl }
@@ -155,11 +159,13 @@ module _ (n : ℕ) (enough : 16384 ≤ n) (tb b : List ℕ) where
       (orElse-same (fixedNumber k b) _ _ (λ e1. orElse-same (placeNumber k (rowNumber b) st) _ _
       (λ e2. orElse-same (bodyNumber k nothing tb b) _ _ (λ e3. ap (leftoverNumber k tb b orElse_) (room-enough k e3)))))
 
-pub recordNumber-enough : (n : ℕ) → 16384 ≤ n → (tb r : List ℕ) (st : SheetState) → recordNumber (lent n) tb r st ≡ recordNumber nothing tb r st
+pub recordNumber-enough : (n : ℕ) → 16384 ≤ n → (tb r : List ℕ) (st : SheetState)
+    → recordNumber (lent n) tb r st ≡ recordNumber nothing tb r st
 unfolding recordNumber
 recordNumber-enough n enough tb r st = rw (contentNumber-enough n enough tb (bodyOf r) (kindOf (kindField r)) st)
 
 -- with 16384 bytes lent, judging and reading answer the same
-pub recordRead-judged : (tb r : List ℕ) (st : SheetState) (m : List ℕ) → 16384 ≤ length m → recordRead tb r st m .answer ≡ recordJudged tb r st
+pub recordRead-judged : (tb r : List ℕ) (st : SheetState) (m : List ℕ) → 16384 ≤ length m
+    → recordRead tb r st m .answer ≡ recordJudged tb r st
 unfolding recordJudged
 recordRead-judged tb r st m enough = rw (recordRead-answer tb r st m, recordNumber-enough (length m) enough tb r st)

@@ -1,25 +1,22 @@
 -- Reading a record looks at no byte after it. Assumes nothing.
-use Prim.Native.Nat.{ℕ, zero, suc, _+_, _-_, _≤_, _<_}
+use Prim.Native.Nat.{ℕ, _+_, _-_, _≤_, _<_}
 use native.Mathlib.Decide.{decLt}
 use native.Mathlib.Omega.{arith}
 use mathlib.Core.Path.{_≡_, refl, sym, ap, _∙_}
 use mathlib.Core.Logic.{by-cases}
-use mathlib.Core.List.{List, [], _∷_, _++_, append-nil}
+use mathlib.Core.List.{List, [], _++_, append-nil}
 use lib.ListN.{length, take, drop, length-append, length-drop}
 use lib.Seq.{take-append-le, drop-append-le, take-take, length-take-le, take-all}
 use borrow.Author.Tests.{le-ltb, lt-ltb}
 use Rattle.bitstream.specs.Bits.{numberOf}
 use Rattle.sheet_format.specs.declared.SheetState.{SheetState}
 use Rattle.sheet_format.specs.Record.{lengthField, kindField, bodyOf, Lent, nothing, lent, lengthNumber, recordNumber, recordSpan}
-use Rattle.sheet_format.specs.Record.Laws.{RightLength, lengthNumber-right, lengthNumber-wrong}
-use Rattle.sheet_format.specs.Reading.{recordHeld, recordContent, refusedRecord, recordJudged, recordRead}
+use Rattle.sheet_format.specs.Record.Laws.{drop-take, RightLength, lengthNumber-right, lengthNumber-wrong}
+use Rattle.sheet_format.specs.Reading.{recordHeld, recordContent, refusedRecord, recordJudged, recordRead, readRefused}
 
 -- a field that lies in front
 field-take : (at n k : ℕ) (l : List ℕ) → at + n ≤ k → take n (drop at (take k l)) ≡ take n (drop at l)
-field-take zero n k l h = take-take n k l (omega arith)
-field-take (suc at) n zero l h = absurd (omega arith)
-field-take (suc at) n (suc k) [] h = refl
-field-take (suc at) n (suc k) (x ∷ l) h = field-take at n k l (omega arith)
+field-take at n k l h = rw (drop-take at k l) (take-take n (k - at) (drop at l) (omega arith))
 
 pub field-front : (at n k : ℕ) (l rest : List ℕ) → at + n ≤ k → k ≤ length l
     → take n (drop at (take k l ++ rest)) ≡ take n (drop at l)
@@ -66,13 +63,15 @@ module _ (r rest : List ℕ) (h : RightLength r) where
   same-kind = ap numberOf (field-front 4 2 (4 + lengthField r) r rest (omega (arith, h .least)) (h .there))
 
   same-body : bodyOf (take (4 + lengthField r) r ++ rest) ≡ bodyOf r
-  same-body = rw same-length (field-front 6 (lengthField r - 2) (4 + lengthField r) r rest (omega (arith, h .least)) (h .there))
+  same-body =
+      rw same-length (field-front 6 (lengthField r - 2) (4 + lengthField r) r rest (omega (arith, h .least)) (h .there))
 
   same-right : RightLength (take (4 + lengthField r) r ++ rest)
   same-right = record {
     least = rw same-length (h .least);
     most = rw same-length (h .most);
-    there = rw same-length (omega (arith, length-append (take (4 + lengthField r) r) rest, length-take-le (4 + lengthField r) r (h .there)));
+    there = rw same-length
+        (omega (arith, length-append (take (4 + lengthField r) r) rest, length-take-le (4 + lengthField r) r (h .there)));
   }
 
   pub alike : Alike r (take (4 + lengthField r) r ++ rest)
@@ -89,7 +88,7 @@ pub data Same (r s : List ℕ) : Type 0 where
   unfit : lengthNumber r ≡ 14 → lengthNumber s ≡ 14 → Same r s
 
 module _ (tb : List ℕ) (st : SheetState) where
-  refused-read : (s : List ℕ) (m : List ℕ) → lengthNumber s ≡ 14 → recordRead tb s st m ≡ record { answer = refusedRecord 14 st; memory = m }
+  refused-read : (s : List ℕ) (m : List ℕ) → lengthNumber s ≡ 14 → recordRead tb s st m ≡ readRefused 14 st m
   unfolding recordRead recordNumber
   refused-read s m e = rw e
 
@@ -132,5 +131,7 @@ module _ (r : List ℕ) where
   span-same =
       by-cases (decLt (recordSpan r) (length r))
       (λ h. by-cases (decLt (lengthField r) 2) (λ small. outside (λ g. absurd (omega arith)))
-      (λ least. by-cases (decLt 32774 (lengthField r)) (λ large. outside (λ g. large)) (λ most. inside (omega arith) (omega arith) h)))
-      (λ h. rw (take-all (recordSpan r) r (omega arith)) (fields (record { size = refl; whole = refl; kind = refl; body = refl })))
+      (λ least. by-cases (decLt 32774 (lengthField r)) (λ large. outside (λ g. large))
+      (λ most. inside (omega arith) (omega arith) h)))
+      (λ h. rw (take-all (recordSpan r) r (omega arith))
+      (fields (record { size = refl; whole = refl; kind = refl; body = refl })))

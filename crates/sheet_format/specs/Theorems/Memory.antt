@@ -8,8 +8,8 @@ use lib.Seq.{drop-append-seam}
 use Rattle.sheet_format.specs.declared.SheetState.{SheetState}
 use Rattle.sheet_format.specs.declared.RecordRead.{RecordRead}
 use Rattle.sheet_format.specs.Record.{kindOf, nothing, lent, recordNumber}
-use Rattle.sheet_format.specs.Reading.{stateAfter, refusedRecord, heldUnless, readUnless, recordHeld, recordContent, recordJudged, recordRead}
-use Rattle.sheet_format.specs.Writing.{bodyFor, recordBytes, writeNumber, WriteOutcome, writtenUnless, recordWritten}
+use Rattle.sheet_format.specs.Reading.{stateAfter, refusedRecord, heldUnless, readUnless, recordHeld, recordContent, recordJudged, recordRead, readRefused}
+use Rattle.sheet_format.specs.Writing.{writeNumber, WriteOutcome, writtenUnless, recordWritten, recordFor}
 use Rattle.sheet_format.specs.Writing.Laws.{writeNumber-room, recordWritten-done, recordWritten-refused}
 
 -- memory that keeps its length and, past its first k bytes, its bytes
@@ -35,20 +35,22 @@ writtenUnless-kept zero st m st′ b h = absurd (h refl)
 writtenUnless-kept (suc e) st m st′ b h = record { count = refl; state = refl; memory = refl }
 
 module _ (code row : ℕ) (tb c : List ℕ) (st : SheetState) (m : List ℕ) where
-  pub recordWritten-kept : (recordWritten code row tb c st m .answer .number ≡ 0 → ⊥) → WriteKept st m (recordWritten code row tb c st m)
+  pub recordWritten-kept : (recordWritten code row tb c st m .answer .number ≡ 0 → ⊥)
+      → WriteKept st m (recordWritten code row tb c st m)
   unfolding recordWritten
   recordWritten-kept =
       writtenUnless-kept (writeNumber code row tb c st (length m)) st m (stateAfter (kindOf code) row st)
-      (recordBytes code (bodyFor (kindOf code) row tb c))
+      (recordFor code row tb c)
 
-  pub recordWritten-within : Within (recordWritten code row tb c st m .answer .count) m (recordWritten code row tb c st m .memory)
+  pub recordWritten-within :
+      Within (recordWritten code row tb c st m .answer .count) m (recordWritten code row tb c st m .memory)
   recordWritten-within = by-number (writeNumber code row tb c st (length m)) refl
     where
       by-number : (e : ℕ) → writeNumber code row tb c st (length m) ≡ e
           → Within (recordWritten code row tb c st m .answer .count) m (recordWritten code row tb c st m .memory)
       by-number zero e =
           rw (recordWritten-done code row tb c st m e)
-          (within-front (recordBytes code (bodyFor (kindOf code) row tb c)) m (writeNumber-room code row tb c st (length m) e))
+          (within-front (recordFor code row tb c) m (writeNumber-room code row tb c st (length m) e))
       by-number (suc k) e = rw (recordWritten-refused code row tb c st m k e) (record { size = refl; rest = refl })
 
 -- ---- judging and reading
@@ -64,12 +66,12 @@ recordJudged-refused tb r st = heldUnless-refused (recordNumber nothing tb r st)
 
 readUnless-refused : (e : ℕ) (st : SheetState) (m : List ℕ) (a : RecordRead) (c : List ℕ) → a .number ≡ 0
     → (readUnless e st m a c .answer .number ≡ 0 → ⊥)
-    → readUnless e st m a c ≡ record { answer = refusedRecord (readUnless e st m a c .answer .number) st; memory = m }
+    → readUnless e st m a c ≡ readRefused (readUnless e st m a c .answer .number) st m
 readUnless-refused zero st m a c done h = absurd (h done)
 readUnless-refused (suc e) st m a c done h = refl
 
 pub recordRead-refused : (tb r : List ℕ) (st : SheetState) (m : List ℕ) → (recordRead tb r st m .answer .number ≡ 0 → ⊥)
-    → recordRead tb r st m ≡ record { answer = refusedRecord (recordRead tb r st m .answer .number) st; memory = m }
+    → recordRead tb r st m ≡ readRefused (recordRead tb r st m .answer .number) st m
 unfolding recordRead recordHeld
 recordRead-refused tb r st m =
     readUnless-refused (recordNumber (lent (length m)) tb r st) st m (recordHeld tb r st) (recordContent tb r) refl

@@ -71,7 +71,8 @@ module _ (P : ℕ → Type 0) (p0 : P 0) where
     givenNumber-in lineRecord tb c = refuseIf-in (ltb 4096 (length (givenNumbers c))) 11 p11
     givenNumber-in unknown tb c = p0
 
-    pub writeNumber-in : (code row : ℕ) (tb c : List ℕ) (st : SheetState) (roomBytes : ℕ) → P (writeNumber code row tb c st roomBytes)
+    pub writeNumber-in : (code row : ℕ) (tb c : List ℕ) (st : SheetState) (roomBytes : ℕ)
+        → P (writeNumber code row tb c st roomBytes)
     unfolding writeNumber
     writeNumber-in code row tb c st roomBytes =
         let k = kindOf code in
@@ -114,7 +115,8 @@ module _ (P : ℕ → Type 0) (p0 : P 0) where
     prepend-in v u (numbers vs w) h = p0
     prepend-in v u (faulty e) h = h
 
-    follow-in : (x : Reading ℤ) (f : ℕ → Line) → RejectedIn x → ((u : ℕ) → P (faultNumber (f u))) → P (faultNumber (follow x f))
+    follow-in : (x : Reading ℤ) (f : ℕ → Line) → RejectedIn x → ((u : ℕ) → P (faultNumber (f u)))
+        → P (faultNumber (follow x f))
     follow-in (accepted v u) f h rest = prepend-in v u (f u) (rest u)
     follow-in (rejected e) f h rest = h
 
@@ -138,7 +140,8 @@ module _ (P : ℕ → Type 0) (p0 : P 0) where
     unfolding fixedNumber
     fixedNumber-in tableRecord b = refuseIf-in (not (eqb (length b % 4) 0)) 14 p14
     fixedNumber-in packedRecord b =
-        orElse-in (shorterThan 4 b) _ (refuseIf-in (ltb (length b) 4) 14 p14) (refuseIf-in (not (eqb (length b % 4) 0)) 14 p14)
+        orElse-in (shorterThan 4 b) _ (refuseIf-in (ltb (length b) 4) 14 p14)
+        (refuseIf-in (not (eqb (length b % 4) 0)) 14 p14)
     fixedNumber-in plainRecord b = refuseIf-in (ltb (length b) 4) 14 p14
     fixedNumber-in lineRecord b = refuseIf-in (ltb (length b) 2) 14 p14
     fixedNumber-in unknown b = p0
@@ -157,20 +160,23 @@ module _ (P : ℕ → Type 0) (p0 : P 0) where
         orElse-in (tableNumber tb) _ (tableNumber-in tb p1 p2 p3)
         (orElse-in (tooMany (pixelCount b)) _ (tooMany-in (pixelCount b))
         (orElse-in (roomNumber m (2 * pixelCount b)) _ (room (2 * pixelCount b))
-        (runNumber-in (stream (rowContent b)) (runOf tb b) (readItems-in P p6 p7 p8 p9 (wordsOf tb) (pixelCount b) (stream (rowContent b))))))
+        (runNumber-in (stream (rowContent b)) (runOf tb b)
+        (readItems-in P p6 p7 p8 p9 (wordsOf tb) (pixelCount b) (stream (rowContent b))))))
     bodyNumber-in plainRecord tb b =
         orElse-in (tooMany (pixelCount b)) _ (tooMany-in (pixelCount b))
         (orElse-in (refuseIf (not (eqb (length (rowContent b)) (2 * pixelCount b))) 14) _
         (refuseIf-in (not (eqb (length (rowContent b)) (2 * pixelCount b))) 14 p14)
         (refuseIf-in (any (ltb 4095) (halvesOf (rowContent b))) 4 p4))
     bodyNumber-in lineRecord tb b =
-        orElse-in (tooMany (numberCount b)) _ (tooMany-in (numberCount b)) (readLine-in p12 p13 (numberCount b) (lineContent b))
+        orElse-in (tooMany (numberCount b)) _ (tooMany-in (numberCount b))
+        (readLine-in p12 p13 (numberCount b) (lineContent b))
     bodyNumber-in unknown tb b = p0
 
     leftoverNumber-in : (k : Kind) (tb b : List ℕ) → P (leftoverNumber k tb b)
     unfolding leftoverNumber
     leftoverNumber-in tableRecord tb b = p0
-    leftoverNumber-in packedRecord tb b = refuseIf-in (ltb (4 * wordsFor (bitsOfRun (runOf tb b))) (length (rowContent b))) 14 p14
+    leftoverNumber-in packedRecord tb b =
+        refuseIf-in (ltb (4 * wordsFor (bitsOfRun (runOf tb b))) (length (rowContent b))) 14 p14
     leftoverNumber-in plainRecord tb b = p0
     leftoverNumber-in lineRecord tb b = refuseIf-in (ltb (bytesOfLine (lineOf b)) (length (lineContent b))) 14 p14
     leftoverNumber-in unknown tb b = p0

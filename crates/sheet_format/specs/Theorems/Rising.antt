@@ -6,6 +6,7 @@ use native.Mathlib.Omega.{arith}
 use mathlib.Core.Path.{_≡_, sym, _∙_}
 use mathlib.Core.List.{List, [], _∷_}
 use lib.ListN.{length, getD}
+use Rattle.answer.specs.Outcome.{_orElse_}
 use Rattle.row_format.specs.Calls.Laws.{orElse-zero-right}
 use Rattle.sheet_format.specs.declared.SheetState.{SheetState}
 use Rattle.sheet_format.specs.Record.{bodyOf, Kind, tableRecord, packedRecord, plainRecord, lineRecord, unknown, kindOf, kindField, rowNumber, noTable, notRisen, placeNumber, nothing}
@@ -32,14 +33,17 @@ rising-pairs low (x ∷ xs) h zero (suc j) order less = rising-least (suc x) xs 
 rising-pairs low (x ∷ xs) h (suc i) (suc j) order less = rising-pairs (suc x) xs (h .1) i j (omega arith) (omega arith)
 
 -- ---- one record
+risen : (row : ℕ) (st : SheetState) → noTable st orElse notRisen row st ≡ 0 → st .least ≤ row
+risen row st e = lessNumber-zero row (st .least) 15 (orElse-zero-right (noTable st) (notRisen row st) e)
+
 row-rises : (k : Kind) (b : List ℕ) (st : SheetState) (rows : List ℕ) → placeNumber k (rowNumber b) st ≡ 0
     → Rising (stateAfter k (rowNumber b) st .least) rows → Rising (st .least) (withRow k (rowHeld k b) rows)
 unfolding placeNumber
 row-rises tableRecord b st rows e h = h
 row-rises packedRecord b st rows e h =
-    (lessNumber-zero (rowNumber b) (st .least) 15 (orElse-zero-right (noTable st) (notRisen (rowNumber b) st) e), rw (add-one (rowNumber b)) at h)
+    (risen (rowNumber b) st e, rw (add-one (rowNumber b)) at h)
 row-rises plainRecord b st rows e h =
-    (lessNumber-zero (rowNumber b) (st .least) 15 (orElse-zero-right (noTable st) (notRisen (rowNumber b) st) e), rw (add-one (rowNumber b)) at h)
+    (risen (rowNumber b) st e, rw (add-one (rowNumber b)) at h)
 row-rises lineRecord b st rows e h = h
 row-rises unknown b st rows e h = h
 
@@ -56,17 +60,21 @@ module _ (tb r : List ℕ) (st : SheetState) (ok : recordJudged tb r st .number 
   record-rises rows = rw held (row-rises (kindOf (kindField r)) (bodyOf r) st rows placed)
 
 -- ---- all records
-recordsFrom-rising : (n : ℕ) (tb : List ℕ) (st : SheetState) (r : List ℕ) → Rising (st .least) (rowNumbers (recordsFrom n tb st r .records))
+recordsFrom-rising : (n : ℕ) (tb : List ℕ) (st : SheetState) (r : List ℕ)
+    → Rising (st .least) (rowNumbers (recordsFrom n tb st r .records))
 unfolding recordsFrom rowNumbers
 recordsFrom-rising zero tb st r = tt
 recordsFrom-rising (suc n) tb st r =
     let rest = recordsFrom n (tableNext tb r st) (recordJudged tb r st .state) (restNext tb r st) in
     let ih = recordsFrom-rising n (tableNext tb r st) (recordJudged tb r st .state) (restNext tb r st) in
-    fromRecord-cases (λ s. Rising (st .least) (rowNumbers (s .records))) r (recordJudged tb r st .number) (recordHere tb r st) rest
-    tt (λ k e. tt) (λ ok. record-rises tb r st ok (rowNumbers (rest .records)) ih)
+    fromRecord-cases (λ s. Rising (st .least) (rowNumbers (s .records)))
+    r (recordJudged tb r st .number) (recordHere tb r st) rest tt (λ k e. tt)
+    (λ ok. record-rises tb r st ok (rowNumbers (rest .records)) ih)
 
 pub sheetRead-rising : (s : List ℕ) (i j : ℕ) → i < j → j < length (rowNumbers (sheetRead s .records))
     → getD (rowNumbers (sheetRead s .records)) i 0 < getD (rowNumbers (sheetRead s .records)) j 0
 unfolding sheetRead rowNumbers
 sheetRead-rising [] = rising-pairs 0 [] tt
-sheetRead-rising (x ∷ s) = rising-pairs 0 (rowNumbers (recordsFrom (length (x ∷ s)) [] newSheet (x ∷ s) .records)) (recordsFrom-rising (length (x ∷ s)) [] newSheet (x ∷ s))
+sheetRead-rising (x ∷ s) =
+    let all = recordsFrom (length (x ∷ s)) [] newSheet (x ∷ s) in
+    rising-pairs 0 (rowNumbers (all .records)) (recordsFrom-rising (length (x ∷ s)) [] newSheet (x ∷ s))

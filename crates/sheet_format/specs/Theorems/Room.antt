@@ -2,8 +2,8 @@
 use Prim.Native.Nat.{ℕ, zero, suc, _*_, _≤_, _<_}
 use native.Mathlib.Omega.{arith}
 use mathlib.Core.Path.{_≡_, refl, sym, _∙_}
-use mathlib.Core.List.{List, _++_}
-use lib.ListN.{length, drop}
+use mathlib.Core.List.{List}
+use lib.ListN.{length}
 use Rattle.bitstream.specs.Bits.{stream}
 use Rattle.answer.specs.Outcome.{_orElse_}
 use Rattle.row_format.specs.Table.{tableNumber}
@@ -12,7 +12,7 @@ use Rattle.row_format.specs.Calls.Laws.{orElse-zero-left, orElse-zero-right}
 use Rattle.sheet_format.specs.declared.SheetState.{SheetState}
 use Rattle.sheet_format.specs.Record.{kindField, bodyOf, Kind, tableRecord, packedRecord, plainRecord, lineRecord, unknown, kindOf, pixelCount, rowContent, runOf, nothing, lent, runNumber, packedNumber, bodyNumber, lastRoomNumber, contentNumber, recordNumber}
 use Rattle.sheet_format.specs.Record.Laws.{lessNumber-zero, lessNumber-none, lessNumber-given, lengthNumber-right, Passed, Read, recordNumber-read, read-recordNumber}
-use Rattle.sheet_format.specs.Reading.{countHeld, contentBytes, answerBytes, recordHeld, recordContent, recordJudged, recordRead}
+use Rattle.sheet_format.specs.Reading.{countHeld, contentBytes, answerBytes, recordHeld, recordContent, recordJudged, recordRead, readDone}
 use Rattle.sheet_format.specs.Theorems.Memory.{Within, within-front, recordRead-refused}
 use Rattle.sheet_format.specs.Theorems.Judged.{passed-content, passed-other}
 use Rattle.sheet_format.specs.Reading.Laws.{recordJudged-number, recordJudged-done, recordRead-number, recordRead-done}
@@ -46,7 +46,8 @@ module _ (tb r : List ℕ) (st : SheetState) (m : List ℕ) (ok : recordJudged t
   same : recordJudged tb r st ≡ recordHeld tb r st
   same = recordJudged-done tb r st (sym (recordJudged-number tb r st) ∙ ok)
 
-  need : answerBytes (recordJudged tb r st) ≡ contentBytes (kindOf (kindField r)) (countHeld (kindOf (kindField r)) (bodyOf r))
+  need : answerBytes (recordJudged tb r st)
+      ≡ contentBytes (kindOf (kindField r)) (countHeld (kindOf (kindField r)) (bodyOf r))
   unfolding recordHeld
   need = rw same
 
@@ -69,7 +70,7 @@ module _ (tb r : List ℕ) (st : SheetState) (m : List ℕ) (ok : recordJudged t
       (contentNumber-full k (length m) tb (bodyOf r) st (judged .parts) (rw need at h))
 
   pub recordRead-granted : answerBytes (recordJudged tb r st) ≤ length m
-      → recordRead tb r st m ≡ record { answer = recordJudged tb r st; memory = recordContent tb r ++ drop (length (recordContent tb r)) m }
+      → recordRead tb r st m ≡ readDone (recordJudged tb r st) (recordContent tb r) m
   recordRead-granted h = rw same (recordRead-done tb r st m (number-granted h))
 
   pub recordRead-full : length m < answerBytes (recordJudged tb r st) → recordRead tb r st m .answer .number ≡ 5

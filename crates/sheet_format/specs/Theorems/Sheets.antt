@@ -9,11 +9,11 @@ use Rattle.sheet_format.specs.declared.SheetState.{SheetState}
 use Rattle.sheet_format.specs.declared.RecordRead.{RecordRead}
 use Rattle.sheet_format.specs.Record.{bodyOf, Kind, tableRecord, packedRecord, plainRecord, lineRecord, unknown, kindOf}
 use Rattle.sheet_format.specs.Reading.{newSheet, tableAfter, recordJudged}
-use Rattle.sheet_format.specs.Writing.{bodyFor, recordBytes, writeNumber}
+use Rattle.sheet_format.specs.Writing.{bodyFor, writeNumber, recordFor}
 use Rattle.sheet_format.specs.Writing.Laws.{length-recordBytes, Writable, writable, recordWritten-number, recordWritten-answer, recordWritten-front, doneAnswer}
-use Rattle.sheet_format.specs.Sheet.{SheetRecord, SheetRead, putFirst, sheetRead}
-use Rattle.sheet_format.specs.Sheet.Laws.{tableNext, restNext, recordHere, records, records-end, records-more}
-use Rattle.sheet_format.specs.Theorems.Given.{recordGiven, Write, writtenBy, tableGiven, bytesWritten, Done, AllDone, sheetBytes, sheetGiven}
+use Rattle.sheet_format.specs.Sheet.{SheetRead, putFirst, sheetRead}
+use Rattle.sheet_format.specs.Sheet.Laws.{recordHere, records, recordsNext, records-end, records-more}
+use Rattle.sheet_format.specs.Theorems.Given.{recordGiven, givenBy, Write, writtenBy, tableGiven, bytesWritten, Done, AllDone, sheetBytes, sheetGiven}
 use Rattle.sheet_format.specs.Theorems.ReadBack.{recordJudged-back, bodyOf-back}
 
 table-same : (k : Kind) (row : ℕ) (tb c : List ℕ) → tableAfter k tb (bodyFor k row tb c) ≡ tableAfter k tb c
@@ -26,7 +26,7 @@ table-same unknown row tb c = refl
 
 -- the same of bytes that are not written out as a first byte and the rest
 records-accepted : (tb : List ℕ) (st : SheetState) (r : List ℕ) → 0 < length r → recordJudged tb r st .number ≡ 0
-    → records tb st r ≡ putFirst (recordHere tb r st) (records (tableNext tb r st) (recordJudged tb r st .state) (restNext tb r st))
+    → records tb st r ≡ putFirst (recordHere tb r st) (recordsNext tb r st)
 records-accepted tb st [] some ok = absurd (omega arith)
 records-accepted tb st (x ∷ r) some ok = records-more tb st x r ok
 
@@ -36,18 +36,14 @@ fromHere tb r a =
     putFirst (record { answer = a; bytes = take (a .length) r })
     (records (tableAfter (kindOf (a .kind)) tb (bodyOf r)) (a .state) (drop (a .length) r))
 
--- the record as it is to be read
-abbrev written : List ℕ → SheetState → Write → SheetRecord
-written tb st w =
-    record { answer = recordGiven (w .kind) (w .row) tb (w .content) (writtenBy tb st w .answer); bytes = bytesWritten tb st w }
-
 -- the bytes of the record that is written
 abbrev whole : List ℕ → Write → List ℕ
-whole tb w = recordBytes (w .kind) (bodyFor (kindOf (w .kind)) (w .row) tb (w .content))
+whole tb w = recordFor (w .kind) (w .row) tb (w .content)
 
 whole-some : (tb : List ℕ) (w : Write) (rest : List ℕ) → 0 < length (whole tb w ++ rest)
 whole-some tb w rest =
-    omega (arith, length-append (whole tb w) rest, length-recordBytes (w .kind) (bodyFor (kindOf (w .kind)) (w .row) tb (w .content)))
+    let size = length-recordBytes (w .kind) (bodyFor (kindOf (w .kind)) (w .row) tb (w .content)) in
+    omega (arith, length-append (whole tb w) rest)
 
 module _ (tb : List ℕ) (st : SheetState) (w : Write) (d : Done tb st w) where
   number : writeNumber (w .kind) (w .row) tb (w .content) st (length (w .memory)) ≡ 0
@@ -63,7 +59,8 @@ module _ (tb : List ℕ) (st : SheetState) (w : Write) (d : Done tb st w) where
   answer-written = recordWritten-answer (w .kind) (w .row) tb (w .content) st (w .memory) number
 
   module _ (rest : List ℕ) where
-    back : recordJudged tb (whole tb w ++ rest) st ≡ recordGiven (w .kind) (w .row) tb (w .content) (writtenBy tb st w .answer)
+    back : recordJudged tb (whole tb w ++ rest) st
+        ≡ recordGiven (w .kind) (w .row) tb (w .content) (writtenBy tb st w .answer)
     back = rw answer-written (recordJudged-back (w .kind) (w .row) tb (w .content) st (d .small) (d .bytes) can rest)
 
     size : writtenBy tb st w .answer .count ≡ length (whole tb w)
@@ -74,7 +71,8 @@ module _ (tb : List ℕ) (st : SheetState) (w : Write) (d : Done tb st w) where
         rw (bodyOf-back (w .kind) (w .row) tb (w .content) st (d .small) (d .bytes) can rest)
         (table-same (kindOf (w .kind)) (w .row) tb (w .content))
 
-    written-first : records tb st (whole tb w ++ rest) ≡ putFirst (written tb st w) (records (tableGiven tb w) (writtenBy tb st w .answer .state) rest)
+    written-first : records tb st (whole tb w ++ rest)
+        ≡ putFirst (givenBy tb st w) (records (tableGiven tb w) (writtenBy tb st w .answer .state) rest)
     written-first =
         records-accepted tb st (whole tb w ++ rest) (whole-some tb w rest) (ap (λ (a : RecordRead). a .number) back)
         ∙ ap (fromHere tb (whole tb w ++ rest)) back
@@ -89,7 +87,7 @@ records-written tb st (w ∷ ws) d =
     let rest = sheetBytes (tableGiven tb w) st′ ws in
     ap (λ (b : List ℕ). records tb st (b ++ rest)) (bytes-written tb st w (d .0))
     ∙ written-first tb st w (d .0) rest
-    ∙ ap (putFirst (written tb st w)) (records-written (tableGiven tb w) st′ ws (d .1))
+    ∙ ap (putFirst (givenBy tb st w)) (records-written (tableGiven tb w) st′ ws (d .1))
 
 sheetRead-records : (s : List ℕ) → 0 < length s → sheetRead s ≡ records [] newSheet s
 unfolding sheetRead

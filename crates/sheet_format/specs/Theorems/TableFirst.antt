@@ -1,13 +1,16 @@
--- In every sheet, up to its end or to the refused record, the first record is a table and no other is. Assumes nothing.
+-- In every sheet, up to its end or to the refused record, the first record is a table, no other is, and the table kept is
+-- accepted. Assumes nothing.
 use Prim.Native.Nat.{ℕ, zero, suc, _<_}
 use native.Mathlib.Omega.{arith}
 use mathlib.Core.Path.{_≡_, refl, sym, ap, _∙_}
 use mathlib.Core.Logic.{_↔_}
 use mathlib.Core.List.{List, [], _∷_}
-use lib.ListN.{length, getD}
+use lib.ListN.{take, drop, length, getD}
+use Rattle.row_format.specs.Table.{tableNumber}
 use Rattle.sheet_format.specs.declared.SheetState.{SheetState}
-use Rattle.sheet_format.specs.Record.{bodyOf, Kind, tableRecord, packedRecord, plainRecord, lineRecord, unknown, kindOf, kindField, rowNumber, kindNumber, placeNumber, nothing}
-use Rattle.sheet_format.specs.Record.Laws.{unequalNumber-zero, Read, recordNumber-read}
+use Rattle.sheet_format.specs.declared.RecordRead.{RecordRead}
+use Rattle.sheet_format.specs.Record.{bodyOf, Kind, tableRecord, packedRecord, plainRecord, lineRecord, unknown, kindOf, kindField, rowNumber, kindNumber, placeNumber, nothing, bodyNumber}
+use Rattle.sheet_format.specs.Record.Laws.{bodyOf-whole, unequalNumber-zero, Read, recordNumber-read}
 use Rattle.sheet_format.specs.Reading.{newSheet, stateAfter, recordHeld, recordJudged}
 use Rattle.sheet_format.specs.Reading.Laws.{recordJudged-number, recordJudged-done}
 use Rattle.sheet_format.specs.Sheet.{recordsFrom, sheetRead, recordKinds}
@@ -78,6 +81,17 @@ module _ (tb r : List ℕ) (st : SheetState) (ok : recordJudged tb r st .number 
   kept-table : (st .tables ≡ 0 → ⊥) → recordJudged tb r st .state .tables ≡ 0 → ⊥
   kept-table has = rw state-held (has-table (kindOf (kindField r)) (rowNumber (bodyOf r)) st has)
 
+  -- the table that the sheet keeps is accepted
+  kept-accepted : (k : ℕ) → k ≡ 1 → bodyNumber (kindOf k) nothing tb (bodyOf r) ≡ 0 → tableNumber (bodyOf r) ≡ 0
+  unfolding bodyNumber
+  kept-accepted k e h = rw (ap kindOf e) at h
+
+  pub table-accepted : recordJudged tb r st .kind ≡ 1 → tableNumber (drop 6 (take (recordJudged tb r st .length) r)) ≡ 0
+  unfolding recordHeld
+  table-accepted e =
+      rw (ap (λ (a : RecordRead). a .length) done, bodyOf-whole r)
+      (kept-accepted (kindField r) (sym kind-held ∙ e) (read .parts .body))
+
 -- ---- all records
 recordsFrom-no-table : (n : ℕ) (tb : List ℕ) (st : SheetState) (r : List ℕ) → (st .tables ≡ 0 → ⊥)
     → NoTable (recordKinds (recordsFrom n tb st r .records))
@@ -89,22 +103,31 @@ recordsFrom-no-table (suc n) tb st r has =
     fromRecord-cases (λ s. NoTable (recordKinds (s .records))) r (recordJudged tb r st .number) (recordHere tb r st) rest
     tt (λ k e. tt) (λ ok. (other-kind tb r st ok has, ih (kept-table tb r st ok has)))
 
+first-table : (tb r : List ℕ) → recordJudged tb r newSheet .number ≡ 0 → kindField r ≡ 1
+first-table tb r ok =
+    let done = read tb r newSheet ok in
+    first-kind (kindField r) (rowNumber (bodyOf r)) (done .known) (done .parts .place)
+
+first-state : (tb r : List ℕ) → recordJudged tb r newSheet .number ≡ 0 → recordJudged tb r newSheet .state .tables ≡ 0 → ⊥
+first-state tb r ok e =
+    let one : recordJudged tb r newSheet .state .tables ≡ 1 = rw (state-held tb r newSheet ok, first-table tb r ok) in
+    absurd (omega arith)
+
 recordsFrom-table-first : (n : ℕ) (tb r : List ℕ) → TableFirst (recordKinds (recordsFrom n tb newSheet r .records))
 unfolding recordsFrom recordKinds
 recordsFrom-table-first zero tb r = tt
 recordsFrom-table-first (suc n) tb r =
-    let rest = recordsFrom n (tableNext tb r newSheet) (recordJudged tb r newSheet .state) (restNext tb r newSheet) in
-    fromRecord-cases (λ s. TableFirst (recordKinds (s .records))) r (recordJudged tb r newSheet .number) (recordHere tb r newSheet) rest
-    tt (λ k e. tt) (λ ok.
-    let code = first-kind (kindField r) (rowNumber (bodyOf r)) (read tb r newSheet ok .known) (read tb r newSheet ok .parts .place) in
-    let one : recordJudged tb r newSheet .state .tables ≡ 1 = rw (state-held tb r newSheet ok, code) in (
-      kind-held tb r newSheet ok ∙ code,
-      recordsFrom-no-table n (tableNext tb r newSheet) (recordJudged tb r newSheet .state) (restNext tb r newSheet) (λ e. absurd (omega arith)),
-    ))
+    let st = recordJudged tb r newSheet .state in
+    let rest = recordsFrom n (tableNext tb r newSheet) st (restNext tb r newSheet) in
+    let others = recordsFrom-no-table n (tableNext tb r newSheet) st (restNext tb r newSheet) in
+    fromRecord-cases (λ s. TableFirst (recordKinds (s .records)))
+    r (recordJudged tb r newSheet .number) (recordHere tb r newSheet) rest tt (λ k e. tt)
+    (λ ok. (kind-held tb r newSheet ok ∙ first-table tb r ok, others (first-state tb r ok)))
 
 pub sheetRead-table-first : (s : List ℕ) (i : ℕ) → i < length (recordKinds (sheetRead s .records))
     → (getD (recordKinds (sheetRead s .records)) i 0 ≡ 1) ↔ (i ≡ 0)
 unfolding sheetRead recordKinds
 sheetRead-table-first [] = table-first-at [] tt
 sheetRead-table-first (x ∷ s) =
-    table-first-at (recordKinds (recordsFrom (length (x ∷ s)) [] newSheet (x ∷ s) .records)) (recordsFrom-table-first (length (x ∷ s)) [] (x ∷ s))
+    let all = recordsFrom (length (x ∷ s)) [] newSheet (x ∷ s) in
+    table-first-at (recordKinds (all .records)) (recordsFrom-table-first (length (x ∷ s)) [] (x ∷ s))

@@ -3,7 +3,7 @@ use Prim.Native.Nat.{ℕ, zero, suc, _+_, _-_, _*_, _^_, _≤_, _<_}
 use native.Mathlib.Nat.{mod-eq-of-lt}
 use native.Mathlib.Omega.{arith}
 use mathlib.Core.Path.{_≡_, refl, sym, ap, _∙_}
-use mathlib.Core.List.{List, _++_, append-assoc}
+use mathlib.Core.List.{List, [], _++_, append-assoc, append-nil}
 use lib.ListN.{length, take, drop, length-append}
 use lib.Seq.{take-at, drop-at, take-all, drop-drop}
 use lib.Dec.{ltb}
@@ -18,14 +18,18 @@ use Rattle.sheet_format.specs.declared.RecordWritten.{RecordWritten}
 use Rattle.sheet_format.specs.Record.{lengthField, kindField, bodyOf, kindOf, lengthNumber, kindNumber, placeNumber}
 use Rattle.sheet_format.specs.Record.Laws.{lessNumber-zero}
 use Rattle.sheet_format.specs.Reading.{stateAfter}
-use Rattle.sheet_format.specs.Writing.{twoBytes, fourBytes, bodyFor, recordBytes, givenNumber, writeNumber, writtenUnless, recordWritten}
+use Rattle.sheet_format.specs.Writing.{twoBytes, fourBytes, bodyFor, recordBytes, givenNumber, writeNumber, writtenUnless, recordWritten, recordFor}
 
 -- a number in n bytes is read back from them
 pub numberOf-bytesOf : (n v : ℕ) → v < 2 ^ (8 * n) → numberOf (bytesOf n (digits (8 * n) v)) ≡ v
 numberOf-bytesOf n v small =
     let all : 8 * n ≤ length (digits (8 * n) v) = omega (arith, length-digits (8 * n) v) in
     let most : length (digits (8 * n) v) ≤ 8 * n = omega (arith, length-digits (8 * n) v) in
-    rw (flat-cut 8 n (digits (8 * n) v) (below-digits (8 * n) v), pad-within (8 * n) (digits (8 * n) v) all, take-all (8 * n) (digits (8 * n) v) most)
+    rw (
+      flat-cut 8 n (digits (8 * n) v) (below-digits (8 * n) v),
+      pad-within (8 * n) (digits (8 * n) v) all,
+      take-all (8 * n) (digits (8 * n) v) most,
+    )
     (numOf-digits (8 * n) v ∙ mod-eq-of-lt small)
 
 pub numberOf-twoBytes : (v : ℕ) → v < 65536 → numberOf (twoBytes v) ≡ v
@@ -60,30 +64,33 @@ pub record Fields (r : List ℕ) (code : ℕ) (b : List ℕ) : Type 0 where
   pub body : bodyOf r ≡ b
   pub right : lengthNumber r ≡ 0
 
-module _ (code : ℕ) (b rest : List ℕ) (small : code < 65536) (short : length b ≤ 32772) where
+module _ (code : ℕ) (b rest : List ℕ) where
   record-append : recordBytes code b ++ rest ≡ fourBytes (2 + length b) ++ (twoBytes code ++ (b ++ rest))
   unfolding recordBytes
   record-append = simp append-assoc
-
-  lengthField-recordBytes : lengthField (recordBytes code b ++ rest) ≡ 2 + length b
-  lengthField-recordBytes =
-      rw (record-append, take-at (fourBytes (2 + length b)) (twoBytes code ++ (b ++ rest)) 4 (length-fourBytes (2 + length b)))
-      (numberOf-fourBytes (2 + length b) (omega arith))
 
   after-length : drop 4 (recordBytes code b ++ rest) ≡ twoBytes code ++ (b ++ rest)
   after-length = rw record-append
       (drop-at (fourBytes (2 + length b)) (twoBytes code ++ (b ++ rest)) 4 (length-fourBytes (2 + length b)))
 
-  kindField-recordBytes : kindField (recordBytes code b ++ rest) ≡ code
-  kindField-recordBytes = rw (after-length, take-twoBytes code (b ++ rest)) (numberOf-twoBytes code small)
+  pub drop-recordBytes : drop 6 (recordBytes code b ++ rest) ≡ b ++ rest
+  drop-recordBytes =
+      sym (drop-drop 2 4 (recordBytes code b ++ rest)) ∙ ap (drop 2) after-length ∙ drop-twoBytes code (b ++ rest)
 
-  after-kind : drop 6 (recordBytes code b ++ rest) ≡ b ++ rest
-  after-kind = sym (drop-drop 2 4 (recordBytes code b ++ rest)) ∙ ap (drop 2) after-length ∙ drop-twoBytes code (b ++ rest)
+module _ (code : ℕ) (b rest : List ℕ) (small : code < 65536) (short : length b ≤ 32772) where
+  lengthField-recordBytes : lengthField (recordBytes code b ++ rest) ≡ 2 + length b
+  lengthField-recordBytes =
+      let size = length-fourBytes (2 + length b) in
+      rw (record-append code b rest, take-at (fourBytes (2 + length b)) (twoBytes code ++ (b ++ rest)) 4 size)
+      (numberOf-fourBytes (2 + length b) (omega arith))
+
+  kindField-recordBytes : kindField (recordBytes code b ++ rest) ≡ code
+  kindField-recordBytes = rw (after-length code b rest, take-twoBytes code (b ++ rest)) (numberOf-twoBytes code small)
 
   bodyOf-recordBytes : bodyOf (recordBytes code b ++ rest) ≡ b
   bodyOf-recordBytes =
       let size : length b ≡ 2 + length b - 2 = omega arith in
-      rw (lengthField-recordBytes, after-kind) (take-at b rest (2 + length b - 2) size)
+      rw (lengthField-recordBytes, drop-recordBytes code b rest) (take-at b rest (2 + length b - 2) size)
 
   lengthNumber-recordBytes : lengthNumber (recordBytes code b ++ rest) ≡ 0
   unfolding lengthNumber
@@ -107,16 +114,29 @@ module _ (code : ℕ) (b rest : List ℕ) (small : code < 65536) (short : length
     right = lengthNumber-recordBytes;
   }
 
-pub writtenUnless-number : (e : ℕ) (st : SheetState) (m : List ℕ) (st′ : SheetState) (b : List ℕ) → writtenUnless e st m st′ b .answer .number ≡ e
+pub writtenUnless-number : (e : ℕ) (st : SheetState) (m : List ℕ) (st′ : SheetState) (b : List ℕ)
+    → writtenUnless e st m st′ b .answer .number ≡ e
 writtenUnless-number zero st m st′ b = refl
 writtenUnless-number (suc e) st m st′ b = refl
+
+-- a table's record holds its bytes from place 6 on
+pub recordBytes-table : (code row : ℕ) (tb c : List ℕ) → code ≡ 1 → drop 6 (recordFor code row tb c) ≡ c
+recordBytes-table code row tb c one =
+    let b = bodyFor (kindOf code) row tb c in
+    ap (drop 6) (sym (append-nil (recordBytes code b)))
+    ∙ drop-recordBytes code b []
+    ∙ append-nil b
+    ∙ body code one
+  where
+    body : (k : ℕ) → k ≡ 1 → bodyFor (kindOf k) row tb c ≡ c
+    body k e = rw (ap kindOf e) (unfold bodyFor in refl)
 
 -- what a done write answers
 abbrev pub doneAnswer : ℕ → ℕ → List ℕ → List ℕ → SheetState → RecordWritten
 doneAnswer code row tb c st =
     record {
       number = 0;
-      count = length (recordBytes code (bodyFor (kindOf code) row tb c));
+      count = length (recordFor code row tb c);
       state = stateAfter (kindOf code) row st;
     }
 
@@ -141,14 +161,14 @@ module _ (code row : ℕ) (tb c : List ℕ) (st : SheetState) where
 
   -- then only room is left to ask for
   pub writeNumber-writable : (room : ℕ) → Writable code row tb c st
-      → writeNumber code row tb c st room ≡ refuseIf (ltb room (length (recordBytes code (bodyFor (kindOf code) row tb c)))) 5
+      → writeNumber code row tb c st room ≡ refuseIf (ltb room (length (recordFor code row tb c))) 5
   unfolding writeNumber
   writeNumber-writable room w = rw (w .known, w .place, w .given)
 
   pub writeNumber-room : (room : ℕ) → writeNumber code row tb c st room ≡ 0
-      → length (recordBytes code (bodyFor (kindOf code) row tb c)) ≤ room
+      → length (recordFor code row tb c) ≤ room
   writeNumber-room room e =
-      lessNumber-zero room (length (recordBytes code (bodyFor (kindOf code) row tb c))) 4 (sym (writeNumber-writable room (writable room e)) ∙ e)
+      lessNumber-zero room (length (recordFor code row tb c)) 4 (sym (writeNumber-writable room (writable room e)) ∙ e)
 
   -- ---- the call
   module _ (m : List ℕ) where
@@ -156,25 +176,27 @@ module _ (code row : ℕ) (tb c : List ℕ) (st : SheetState) where
     unfolding recordWritten
     recordWritten-number =
         writtenUnless-number (writeNumber code row tb c st (length m)) st m (stateAfter (kindOf code) row st)
-        (recordBytes code (bodyFor (kindOf code) row tb c))
+        (recordFor code row tb c)
 
     pub recordWritten-done : writeNumber code row tb c st (length m) ≡ 0
-        → recordWritten code row tb c st m ≡ writtenUnless 0 st m (stateAfter (kindOf code) row st) (recordBytes code (bodyFor (kindOf code) row tb c))
+        → recordWritten code row tb c st m ≡ writtenUnless 0 st m (stateAfter (kindOf code) row st) (recordFor code row tb c)
     unfolding recordWritten
     recordWritten-done e = rw e
 
-    pub recordWritten-answer : writeNumber code row tb c st (length m) ≡ 0 → recordWritten code row tb c st m .answer ≡ doneAnswer code row tb c st
+    pub recordWritten-answer : writeNumber code row tb c st (length m) ≡ 0
+        → recordWritten code row tb c st m .answer ≡ doneAnswer code row tb c st
     recordWritten-answer e = rw (recordWritten-done e)
 
     pub recordWritten-refused : (e : ℕ) → writeNumber code row tb c st (length m) ≡ suc e
-        → recordWritten code row tb c st m ≡ writtenUnless (suc e) st m (stateAfter (kindOf code) row st) (recordBytes code (bodyFor (kindOf code) row tb c))
+        → recordWritten code row tb c st m
+        ≡ writtenUnless (suc e) st m (stateAfter (kindOf code) row st) (recordFor code row tb c)
     unfolding recordWritten
     recordWritten-refused e h = rw h
 
     -- the bytes that a done write counts are the record's
     pub recordWritten-front : writeNumber code row tb c st (length m) ≡ 0
         → take (recordWritten code row tb c st m .answer .count) (recordWritten code row tb c st m .memory)
-        ≡ recordBytes code (bodyFor (kindOf code) row tb c)
+        ≡ recordFor code row tb c
     recordWritten-front e =
-        let b = recordBytes code (bodyFor (kindOf code) row tb c) in
+        let b = recordFor code row tb c in
         rw (recordWritten-done e) (take-at b (drop (length b) m) (length b) refl)

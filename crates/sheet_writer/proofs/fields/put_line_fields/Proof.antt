@@ -21,7 +21,13 @@ same-length c = search needs
 
 -- src/fields.rt:32:1
 returns : tie.Need-returns
-returns c = let a = c .before .before .before .before .before .before .before .before .before .args in put-line-done (a .out .now) (c .before .before .before .before .before .before .put-record-fields .last .1 .1 .0) (c .before .before .put-u16 .last .0) (a .kind) (a .numbers) (a .record-bytes) (c .before .before .before .before .before .before .put-record-fields .ensures) (c .before .before .put-u16 .ensures)
+returns c =
+    let at-put-u16 = c .before .before in
+    let at-put-record-fields = at-put-u16 .before .before .before .before in
+    let at-start = at-put-record-fields .before .before .before in
+    let a = at-start .args in
+    put-line-done (a .out .now) (at-put-record-fields .put-record-fields .last .1 .1 .0) (at-put-u16 .put-u16 .last .0) (a .kind)
+    (a .numbers) (a .record-bytes) (at-put-record-fields .put-record-fields .ensures) (at-put-u16 .put-u16 .ensures)
 
 pub put-line-fields-spec : {M : Type 1} → statement M
 put-line-fields-spec =

@@ -25,7 +25,13 @@ same-length c = search needs
 
 -- src/fields.rt:11:1
 returns : tie.Need-returns
-returns c = let a = c .before .before .before .before .before .before .before .before .before .args in put-record-done (a .out .now) (c .before .before .before .before .before .before .put-u32 .last .0) (c .before .before .put-u16 .last .0) (a .kind) (a .record-bytes) (c .before .before .before .before .before .before .put-u32 .ensures) (c .before .before .put-u16 .ensures)
+returns c =
+    let at-put-u16 = c .before .before in
+    let at-put-u32 = at-put-u16 .before .before .before .before in
+    let at-start = at-put-u32 .before .before .before in
+    let a = at-start .args in
+    put-record-done (a .out .now) (at-put-u32 .put-u32 .last .0) (at-put-u16 .put-u16 .last .0) (a .kind) (a .record-bytes)
+    (at-put-u32 .put-u32 .ensures) (at-put-u16 .put-u16 .ensures)
 
 pub put-record-fields-spec : {M : Type 1} → statement M
 put-record-fields-spec =

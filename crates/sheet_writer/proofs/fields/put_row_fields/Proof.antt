@@ -25,7 +25,15 @@ same-length c = search needs
 
 -- src/fields.rt:21:1
 returns : tie.Need-returns
-returns c = let a = c .before .before .before .before .before .before .before .before .before .before .before .before .before .args in put-row-done (a .out .now) (c .before .before .before .before .before .before .before .before .before .before .put-record-fields .last .1 .1 .0) (c .before .before .before .before .before .before .put-u16 .last .0) (c .before .before .put-u162 .last .0) (a .kind) (a .row) (a .pixels) (a .record-bytes) (c .before .before .before .before .before .before .before .before .before .before .put-record-fields .ensures) (c .before .before .before .before .before .before .put-u16 .ensures) (c .before .before .put-u162 .ensures)
+returns c =
+    let at-put-u162 = c .before .before in
+    let at-put-u16 = at-put-u162 .before .before .before .before in
+    let at-put-record-fields = at-put-u16 .before .before .before .before in
+    let at-start = at-put-record-fields .before .before .before in
+    let a = at-start .args in
+    put-row-done (a .out .now) (at-put-record-fields .put-record-fields .last .1 .1 .0) (at-put-u16 .put-u16 .last .0)
+    (at-put-u162 .put-u162 .last .0) (a .kind) (a .row) (a .pixels) (a .record-bytes)
+    (at-put-record-fields .put-record-fields .ensures) (at-put-u16 .put-u16 .ensures) (at-put-u162 .put-u162 .ensures)
 
 pub put-row-fields-spec : {M : Type 1} → statement M
 put-row-fields-spec =

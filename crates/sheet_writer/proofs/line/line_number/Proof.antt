@@ -10,11 +10,15 @@ returns c = line-first (c .before .before .args .content .now) (c .before .befor
 
 -- src/line.rt:43:9
 returns-2 : tie.Need-returns-2
-returns-2 c = line-many (c .before .before .before .args .content .now) (c .before .before .before .args .state) (c .before .if1 .left) (c .if2 .taken)
+returns-2 c =
+    let at-start = c .before .before .before in
+    line-many (at-start .args .content .now) (at-start .args .state) (c .before .if1 .left) (c .if2 .taken)
 
 -- src/line.rt:36:1
 returns-3 : tie.Need-returns-3
-returns-3 c = line-right (c .before .before .before .args .content .now) (c .before .before .before .args .state) (c .before .if1 .left) (c .if2 .left)
+returns-3 c =
+    let at-start = c .before .before .before in
+    line-right (at-start .args .content .now) (at-start .args .state) (c .before .if1 .left) (c .if2 .left)
 
 pub line-number-spec : {M : Type 1} → statement M
 line-number-spec = tie.close (tie.spec returns returns-2 returns-3)

@@ -22,7 +22,12 @@ signed-of-requires c κs = search needs
 
 -- src/number.rt:13:1
 returns : tie.Need-returns
-returns c = held (c .signed-of .result) (c .signed-of .ok) ∙ c .signed-of .ensures ∙ given-at (c .before .before .before .args .content .now) (c .before .before .before .args .i) (c .before .read-u32 .result) (c .before .before .before .pre) (c .before .read-u32 .ensures)
+returns c =
+    let at-start = c .before .before .before in
+    held (c .signed-of .result) (c .signed-of .ok)
+    ∙ c .signed-of .ensures
+    ∙ given-at (at-start .args .content .now) (at-start .args .i) (c .before .read-u32 .result) (at-start .pre)
+      (c .before .read-u32 .ensures)
 
 pub number-at-spec : {M : Type 1} → statement M
 number-at-spec = tie.close (tie.spec mul-read-u32 read-u32-requires signed-of-requires returns)

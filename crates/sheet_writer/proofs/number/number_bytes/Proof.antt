@@ -22,7 +22,12 @@ cast-result c = search needs
 
 -- src/number.rt:32:1
 returns : tie.Need-returns
-returns c = let v = c .before .before .before .before .args .value in wrote-number v _ _ (c .before .before .write-signed .result) (c .before .before .before .before .fits .value .sfits) (c .before .before .write-signed .ensures) (shortest-count signed v .1) .count
+returns c =
+    let at-write-signed = c .before .before in
+    let at-start = at-write-signed .before .before in
+    let v = at-start .args .value in
+    wrote-number v _ _ (at-write-signed .write-signed .result) (at-start .fits .value .sfits)
+    (at-write-signed .write-signed .ensures) (shortest-count signed v .1) .count
 
 pub number-bytes-spec : {M : Type 1} → statement M
 number-bytes-spec =

@@ -16,11 +16,19 @@ cast-result-2 c = search needs
 
 -- src/number.rt:27:10
 sub-result : tie.Need-sub-result
-sub-result c = let w = c .before .args .word in let high = c .if1 .left in let fits = c .before .fits .word .fits in rw (high-signed w high fits) (high-wide w high fits)
+sub-result c =
+    let w = c .before .args .word in
+    let high = c .if1 .left in
+    let fits = c .before .fits .word .fits in
+    rw (high-signed w high fits) (high-wide w high fits)
 
 -- src/number.rt:27:9
 cast-result-3 : tie.Need-cast-result-3
-cast-result-3 c = let w = c .before .args .word in let high = c .if1 .left in let fits = c .before .fits .word .fits in rw (high-signed w high fits, toZ-ofZ (high-wide w high fits)) (high-narrow w high fits)
+cast-result-3 c =
+    let w = c .before .args .word in
+    let high = c .if1 .left in
+    let fits = c .before .fits .word .fits in
+    rw (high-signed w high fits, toZ-ofZ (high-wide w high fits)) (high-narrow w high fits)
 
 -- src/number.rt:21:1
 returns : tie.Need-returns
@@ -28,7 +36,11 @@ returns c = low-signed (c .before .args .word) (c .if1 .taken)
 
 -- src/number.rt:21:1
 returns-2 : tie.Need-returns-2
-returns-2 c = let w = c .before .args .word in let high = c .if1 .left in let fits = c .before .fits .word .fits in rw (high-signed w high fits, toZ-ofZ (high-wide w high fits), toZ-ofZ (high-narrow w high fits))
+returns-2 c =
+    let w = c .before .args .word in
+    let high = c .if1 .left in
+    let fits = c .before .fits .word .fits in
+    rw (high-signed w high fits, toZ-ofZ (high-wide w high fits), toZ-ofZ (high-narrow w high fits))
 
 pub signed-of-spec : {M : Type 1} → statement M
 signed-of-spec =

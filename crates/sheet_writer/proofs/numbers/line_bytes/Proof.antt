@@ -35,7 +35,16 @@ number-bytes-requires c κs = search needs
 
 -- src/numbers.rt:22:9
 add-bytes : tie.Need-add-bytes Inv-loop μ-loop
-add-bytes c = let s = c .before .before .before .before .before .args .content .now in let size = c .number-bytes .ensures ∙ ap (λ z. length (shortest signed z)) (held (c .before .number-at .result) (c .before .number-at .ok) ∙ c .before .number-at .ensures) in let next = reached-more (givenNumbers s) (c .before .before .before .loop .i) (omega (arith, length-given s)) (c .before .before .before .loop .bytes) (c .before .before .before .loop .inv) (c .number-bytes .result) size in omega (arith, c .before .before .before .before .before .pre, c .before .before .loop-test .taken, reached-most (givenNumbers s) (c .before .before .before .loop .bytes + c .number-bytes .result) (c .before .before .before .loop .i + 1) next)
+add-bytes c =
+    let at-loop-test = c .before .before in
+    let at-loop = at-loop-test .before in
+    let at-start = at-loop .before .before in
+    let s = at-start .args .content .now in
+    let size = c .number-bytes .ensures ∙ ap (λ z. length (shortest signed z)) (held (c .before .number-at .result) (c .before .number-at .ok) ∙ c .before .number-at .ensures) in
+    let next = reached-more (givenNumbers s) (at-loop .loop .i) (omega (arith, length-given s)) (at-loop .loop .bytes) (at-loop .loop .inv) (c .number-bytes .result) size in
+    omega
+    (arith, at-start .pre, at-loop-test .loop-test .taken, reached-most (givenNumbers s)
+     (at-loop .loop .bytes + c .number-bytes .result) (at-loop .loop .i + 1) next)
 
 -- src/numbers.rt:23:9
 add-i : tie.Need-add-i Inv-loop μ-loop
@@ -47,11 +56,21 @@ loop-less c = search needs
 
 -- src/numbers.rt:20:5
 loop-again : tie.Need-loop-again Inv-loop μ-loop
-loop-again c = let s = c .before .before .before .before .before .args .content .now in let size = c .number-bytes .ensures ∙ ap (λ z. length (shortest signed z)) (held (c .before .number-at .result) (c .before .number-at .ok) ∙ c .before .number-at .ensures) in reached-more (givenNumbers s) (c .before .before .before .loop .i) (omega (arith, length-given s)) (c .before .before .before .loop .bytes) (c .before .before .before .loop .inv) (c .number-bytes .result) size
+loop-again c =
+    let at-loop = c .before .before .before in
+    let at-start = at-loop .before .before in
+    let s = at-start .args .content .now in
+    let size = c .number-bytes .ensures ∙ ap (λ z. length (shortest signed z)) (held (c .before .number-at .result) (c .before .number-at .ok) ∙ c .before .number-at .ensures) in
+    reached-more (givenNumbers s) (at-loop .loop .i) (omega (arith, length-given s)) (at-loop .loop .bytes) (at-loop .loop .inv)
+    (c .number-bytes .result) size
 
 -- src/numbers.rt:13:1
 returns : tie.Need-returns Inv-loop μ-loop
-returns c = let s = c .before .before .before .args .content .now in reached-all (givenNumbers s) (c .before .loop .bytes) (c .before .loop .i) (c .before .loop .inv) (omega (arith, length-given s))
+returns c =
+    let at-start = c .before .before .before in
+    let s = at-start .args .content .now in
+    reached-all (givenNumbers s) (c .before .loop .bytes) (c .before .loop .i) (c .before .loop .inv)
+    (omega (arith, length-given s))
 
 pub line-bytes-spec : {M : Type 1} → statement M
 line-bytes-spec =

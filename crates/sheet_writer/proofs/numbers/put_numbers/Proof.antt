@@ -51,7 +51,25 @@ cast-at c = search needs
 
 -- src/numbers.rt:40:9
 add-at : tie.Need-add-at Inv-loop μ-loop
-add-at c = let vs = givenNumbers (c .before .before .before .before .before .before .before .before .before .before .args .content .now) in let m = c .before .before .before .before .before .before .before .before .before .before .args .out .now in let inside = c .before .before .before .before .before .before .before .before .before .before .pre in let o = c .before .before .before .before .before .before .before .loop .out in let at = c .before .before .before .before .before .before .before .loop .at in let i = c .before .before .before .before .before .before .before .loop .i in let so-far = c .before .before .before .before .before .before .before .loop .inv in let is = c .before .before .before .before .before .number-at .ensures in let more : i < length vs = omega (arith, length-given (c .before .before .before .before .before .before .before .before .before .before .args .content .now)) in let wrote = wrote-number (c .before .before .before .before .before .number-at .result) _ _ (c .before .before .before .write-signed .result) (c .before .before .before .before .before .number-at .ok) (c .before .before .before .write-signed .ensures) (rw is (putting-room vs m o at i so-far inside more)) in omega (arith, (putting-more vs m o at i so-far inside more _ (c .before .before .before .write-signed .result) (rw is at wrote) (c .before .before .out .given .1)) .inside)
+add-at c =
+    let at-out = c .before .before in
+    let at-write-signed = at-out .before in
+    let at-number-at = at-write-signed .before .before in
+    let at-loop = at-number-at .before .before in
+    let at-start = at-loop .before .before .before in
+    let vs = givenNumbers (at-start .args .content .now) in
+    let m = at-start .args .out .now in
+    let inside = at-start .pre in
+    let o = at-loop .loop .out in
+    let at = at-loop .loop .at in
+    let i = at-loop .loop .i in
+    let so-far = at-loop .loop .inv in
+    let is = at-number-at .number-at .ensures in
+    let more : i < length vs = omega (arith, length-given (at-start .args .content .now)) in
+    let wrote = wrote-number (at-number-at .number-at .result) _ _ (at-write-signed .write-signed .result) (at-number-at .number-at .ok) (at-write-signed .write-signed .ensures) (rw is (putting-room vs m o at i so-far inside more)) in
+    omega
+    (arith,
+     (putting-more vs m o at i so-far inside more _ (at-write-signed .write-signed .result) (rw is at wrote) (at-out .out .given .1)) .inside)
 
 -- src/numbers.rt:41:9
 add-i : tie.Need-add-i Inv-loop μ-loop
@@ -63,7 +81,23 @@ loop-less c = search needs
 
 -- src/numbers.rt:37:5
 loop-again : tie.Need-loop-again Inv-loop μ-loop
-loop-again c = let vs = givenNumbers (c .before .before .before .before .before .before .before .before .before .before .args .content .now) in let m = c .before .before .before .before .before .before .before .before .before .before .args .out .now in let inside = c .before .before .before .before .before .before .before .before .before .before .pre in let o = c .before .before .before .before .before .before .before .loop .out in let at = c .before .before .before .before .before .before .before .loop .at in let i = c .before .before .before .before .before .before .before .loop .i in let so-far = c .before .before .before .before .before .before .before .loop .inv in let is = c .before .before .before .before .before .number-at .ensures in let more : i < length vs = omega (arith, length-given (c .before .before .before .before .before .before .before .before .before .before .args .content .now)) in let wrote = wrote-number (c .before .before .before .before .before .number-at .result) _ _ (c .before .before .before .write-signed .result) (c .before .before .before .before .before .number-at .ok) (c .before .before .before .write-signed .ensures) (rw is (putting-room vs m o at i so-far inside more)) in putting-more vs m o at i so-far inside more _ (c .before .before .before .write-signed .result) (rw is at wrote) (c .before .before .out .given .1)
+loop-again c =
+    let at-out = c .before .before in
+    let at-write-signed = at-out .before in
+    let at-number-at = at-write-signed .before .before in
+    let at-loop = at-number-at .before .before in
+    let at-start = at-loop .before .before .before in
+    let vs = givenNumbers (at-start .args .content .now) in
+    let m = at-start .args .out .now in
+    let inside = at-start .pre in
+    let o = at-loop .loop .out in
+    let at = at-loop .loop .at in
+    let i = at-loop .loop .i in
+    let so-far = at-loop .loop .inv in
+    let is = at-number-at .number-at .ensures in
+    let more : i < length vs = omega (arith, length-given (at-start .args .content .now)) in
+    let wrote = wrote-number (at-number-at .number-at .result) _ _ (at-write-signed .write-signed .result) (at-number-at .number-at .ok) (at-write-signed .write-signed .ensures) (rw is (putting-room vs m o at i so-far inside more)) in
+    putting-more vs m o at i so-far inside more _ (at-write-signed .write-signed .result) (rw is at wrote) (at-out .out .given .1)
 
 -- src/numbers.rt:29:1
 same-length : tie.Need-same-length Inv-loop μ-loop
@@ -71,7 +105,11 @@ same-length c = c .before .loop .inv .size
 
 -- src/numbers.rt:29:1
 returns : tie.Need-returns Inv-loop μ-loop
-returns c = let s = c .before .before .before .before .args .content .now in putting-all (givenNumbers s) (c .before .before .before .before .args .out .now) (c .before .loop .out) (c .before .loop .at) (c .before .loop .i) (c .before .loop .inv) (omega (arith, length-given s))
+returns c =
+    let at-start = c .before .before .before .before in
+    let s = at-start .args .content .now in
+    putting-all (givenNumbers s) (at-start .args .out .now) (c .before .loop .out) (c .before .loop .at) (c .before .loop .i)
+    (c .before .loop .inv) (omega (arith, length-given s))
 
 pub put-numbers-spec : {M : Type 1} → statement M
 put-numbers-spec =

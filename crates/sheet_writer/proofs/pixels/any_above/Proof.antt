@@ -33,7 +33,15 @@ read-u16-requires c κs = search needs
 
 -- src/pixels.rt:17:13
 returns : tie.Need-returns Inv-loop μ-loop
-returns c = let s = c .before .before .before .before .before .args .pixels .now in let i = c .before .before .before .loop .i in let pixel = c .before .read-u16 .ensures ∙ sym (getD-halves s i (c .before .before .loop-test .taken)) in looked-above (halvesOf s) i (c .before .before .before .loop .inv) (omega (arith, length-halves s)) (c .before .read-u16 .result) pixel (c .if1 .taken)
+returns c =
+    let at-loop-test = c .before .before in
+    let at-loop = at-loop-test .before in
+    let at-start = at-loop .before .before in
+    let s = at-start .args .pixels .now in
+    let i = at-loop .loop .i in
+    let pixel = c .before .read-u16 .ensures ∙ sym (getD-halves s i (at-loop-test .loop-test .taken)) in
+    looked-above (halvesOf s) i (at-loop .loop .inv) (omega (arith, length-halves s)) (c .before .read-u16 .result) pixel
+    (c .if1 .taken)
 
 -- src/pixels.rt:19:9
 add-i : tie.Need-add-i Inv-loop μ-loop
@@ -45,11 +53,22 @@ loop-less c = search needs
 
 -- src/pixels.rt:15:5
 loop-again : tie.Need-loop-again Inv-loop μ-loop
-loop-again c = let s = c .before .before .before .before .before .args .pixels .now in let i = c .before .before .before .loop .i in let pixel = c .before .read-u16 .ensures ∙ sym (getD-halves s i (c .before .before .loop-test .taken)) in looking-more (halvesOf s) i (c .before .before .before .loop .inv) (omega (arith, length-halves s)) (c .before .read-u16 .result) pixel (c .if1 .left)
+loop-again c =
+    let at-loop-test = c .before .before in
+    let at-loop = at-loop-test .before in
+    let at-start = at-loop .before .before in
+    let s = at-start .args .pixels .now in
+    let i = at-loop .loop .i in
+    let pixel = c .before .read-u16 .ensures ∙ sym (getD-halves s i (at-loop-test .loop-test .taken)) in
+    looking-more (halvesOf s) i (at-loop .loop .inv) (omega (arith, length-halves s)) (c .before .read-u16 .result) pixel
+    (c .if1 .left)
 
 -- src/pixels.rt:10:1
 returns-2 : tie.Need-returns-2 Inv-loop μ-loop
-returns-2 c = let s = c .before .before .before .args .pixels .now in looked-all (halvesOf s) (c .before .loop .i) (c .before .loop .inv) (omega (arith, length-halves s))
+returns-2 c =
+    let at-start = c .before .before .before in
+    let s = at-start .args .pixels .now in
+    looked-all (halvesOf s) (c .before .loop .i) (c .before .loop .inv) (omega (arith, length-halves s))
 
 pub any-above-spec : {M : Type 1} → statement M
 any-above-spec =

@@ -26,7 +26,12 @@ refused-requires c κs = search needs
 
 -- src/plain.rt:25:9
 returns : tie.Need-returns
-returns c = let a = c .before .before .before .before .before .args in frame-refused (plain-frame (a .row) (a .content .now)) (a .state) (a .out .now) (c .refused .result) (c .before .before .plain-number .result) (c .before .before .plain-number .ensures) (c .before .if1 .taken) (c .refused .ensures)
+returns c =
+    let at-plain-number = c .before .before in
+    let at-start = at-plain-number .before .before .before in
+    let a = at-start .args in
+    frame-refused (plain-frame (a .row) (a .content .now)) (a .state) (a .out .now) (c .refused .result)
+    (at-plain-number .plain-number .result) (at-plain-number .plain-number .ensures) (c .before .if1 .taken) (c .refused .ensures)
 
 -- src/plain.rt:29:15
 mul-end : tie.Need-mul-end
@@ -42,7 +47,14 @@ refused-requires-2 c κs = search needs
 
 -- src/plain.rt:32:9
 returns-2 : tie.Need-returns-2
-returns-2 c = let a = c .before .before .before .before .before .before .args in frame-full (plain-frame (a .row) (a .content .now)) (a .state) (a .out .now) (c .refused2 .result) (sym (c .before .before .before .plain-number .ensures) ∙ c .before .before .if1 .left) (omega (arith, length-wholePixels (a .content .now), c .before .if2 .taken)) (c .refused2 .ensures)
+returns-2 c =
+    let at-if1 = c .before .before in
+    let at-plain-number = at-if1 .before in
+    let at-start = at-plain-number .before .before .before in
+    let a = at-start .args in
+    frame-full (plain-frame (a .row) (a .content .now)) (a .state) (a .out .now) (c .refused2 .result)
+    (sym (at-plain-number .plain-number .ensures) ∙ at-if1 .if1 .left)
+    (omega (arith, length-wholePixels (a .content .now), c .before .if2 .taken)) (c .refused2 .ensures)
 
 -- src/plain.rt:34:10
 slice-aggregate-copy : tie.Need-slice-aggregate-copy
@@ -62,15 +74,32 @@ part-copy-end c = search needs
 
 -- src/plain.rt:34:5
 copy-requires : tie.Need-copy-requires
-copy-requires c κs = let a = c .before .before .before .before .before .before .before .args in rw (part-is 10 (a .out .now), length-drop 10 (a .out .now)) (omega (arith, length-wholePixels (a .content .now), c .before .before .if2 .left))
+copy-requires c κs =
+    let at-if2 = c .before .before in
+    let at-start = at-if2 .before .before .before .before .before in
+    let a = at-start .args in
+    rw (part-is 10 (a .out .now), length-drop 10 (a .out .now))
+    (omega (arith, length-wholePixels (a .content .now), at-if2 .if2 .left))
 
 -- src/plain.rt:35:28
 cast-put-row-fields : tie.Need-cast-put-row-fields
-cast-put-row-fields c = let a = c .before .before .before .before .before .before .before .before .before .before .args in omega (arith, plain-few (a .row) (a .content .now) (a .state) (sym (c .before .before .before .before .before .before .before .plain-number .ensures) ∙ c .before .before .before .before .before .before .if1 .left))
+cast-put-row-fields c =
+    let at-if1 = c .before .before .before .before .before .before in
+    let at-plain-number = at-if1 .before in
+    let at-start = at-plain-number .before .before .before in
+    let a = at-start .args in
+    omega
+    (arith, plain-few (a .row) (a .content .now) (a .state) (sym (at-plain-number .plain-number .ensures) ∙ at-if1 .if1 .left))
 
 -- src/plain.rt:35:43
 cast-put-row-fields-2 : tie.Need-cast-put-row-fields-2
-cast-put-row-fields-2 c = let a = c .before .before .before .before .before .before .before .before .before .before .args in omega (arith, plain-few (a .row) (a .content .now) (a .state) (sym (c .before .before .before .before .before .before .before .plain-number .ensures) ∙ c .before .before .before .before .before .before .if1 .left))
+cast-put-row-fields-2 c =
+    let at-if1 = c .before .before .before .before .before .before in
+    let at-plain-number = at-if1 .before in
+    let at-start = at-plain-number .before .before .before in
+    let a = at-start .args in
+    omega
+    (arith, plain-few (a .row) (a .content .now) (a .state) (sym (at-plain-number .plain-number .ensures) ∙ at-if1 .if1 .left))
 
 -- src/plain.rt:35:5
 put-row-fields-requires : tie.Need-put-row-fields-requires
@@ -78,7 +107,13 @@ put-row-fields-requires c κs = search needs
 
 -- src/plain.rt:36:13
 cast-written : tie.Need-cast-written
-cast-written c = let a = c .before .before .before .before .before .before .before .before .before .before .before .before .before .before .args in omega (arith, plain-few (a .row) (a .content .now) (a .state) (sym (c .before .before .before .before .before .before .before .before .before .before .before .plain-number .ensures) ∙ c .before .before .before .before .before .before .before .before .before .before .if1 .left))
+cast-written c =
+    let at-if1 = c .before .before .before .before .before .before .before .before .before .before in
+    let at-plain-number = at-if1 .before in
+    let at-start = at-plain-number .before .before .before in
+    let a = at-start .args in
+    omega
+    (arith, plain-few (a .row) (a .content .now) (a .state) (sym (at-plain-number .plain-number .ensures) ∙ at-if1 .if1 .left))
 
 -- src/plain.rt:36:34
 after-row-requires : tie.Need-after-row-requires
@@ -94,7 +129,23 @@ same-length c = search needs
 
 -- src/plain.rt:20:1
 returns-3 : tie.Need-returns-3
-returns-3 c = let a = c .before .before .before .before .before .before .before .before .before .before .before .before .before .before .before .before .args in let frame = plain-frame (a .row) (a .content .now) in let m = a .out .now in let passed = sym (c .before .before .before .before .before .before .before .before .before .before .before .before .before .plain-number .ensures) ∙ c .before .before .before .before .before .before .before .before .before .before .before .before .if1 .left in let fits : 10 + length (wholePixels (a .content .now)) ≤ length m = omega (arith, length-wholePixels (a .content .now), c .before .before .before .before .before .before .before .before .before .before .before .if2 .left) in let number = frame-passed frame (a .state) m (c .written .result) passed fits in frame-done frame (a .state) m (c .written .result) number (omega arith) (rw (length-wholePixels (a .content .now), ← c .before .after-row .ensures) (c .written .ensures)) (c .before .before .before .before .before .before .before .before .copy .last .1 .0) (c .before .before .before .before .put-row-fields .last .1 .1 .1 .1 .0) (copied (wholePixels (a .content .now)) _ _ (c .before .before .before .before .before .before .before .before .copy .ensures .1)) (c .before .before .before .before .put-row-fields .ensures)
+returns-3 c =
+    let at-put-row-fields = c .before .before .before .before in
+    let at-copy = at-put-row-fields .before .before .before .before in
+    let at-if2 = at-copy .before .before .before in
+    let at-if1 = at-if2 .before in
+    let at-plain-number = at-if1 .before in
+    let at-start = at-plain-number .before .before .before in
+    let a = at-start .args in
+    let frame = plain-frame (a .row) (a .content .now) in
+    let m = a .out .now in
+    let passed = sym (at-plain-number .plain-number .ensures) ∙ at-if1 .if1 .left in
+    let fits : 10 + length (wholePixels (a .content .now)) ≤ length m = omega (arith, length-wholePixels (a .content .now), at-if2 .if2 .left) in
+    let number = frame-passed frame (a .state) m (c .written .result) passed fits in
+    frame-done frame (a .state) m (c .written .result) number (omega arith)
+    (rw (length-wholePixels (a .content .now), ← c .before .after-row .ensures) (c .written .ensures)) (at-copy .copy .last .1 .0)
+    (at-put-row-fields .put-row-fields .last .1 .1 .1 .1 .0)
+    (copied (wholePixels (a .content .now)) _ _ (at-copy .copy .ensures .1)) (at-put-row-fields .put-row-fields .ensures)
 
 pub write-plain-spec : {M : Type 1} → statement M
 write-plain-spec =

@@ -37,7 +37,13 @@ same-length c = search needs
 
 -- src/record.rt:17:1
 returns : tie.Need-returns
-returns c = let a = c .before .before .before .before .before .before .before .before .args in rw (c .before .before .before .before .match .keys1) (c .before .before .write-table .ensures ∙ table-only (a .row) (a .table .now) (a .content .now) (a .state) (a .out .now))
+returns c =
+    let at-write-table = c .before .before in
+    let at-match = at-write-table .before .before in
+    let at-start = at-match .before .before .before .before in
+    let a = at-start .args in
+    rw (at-match .match .keys1)
+    (at-write-table .write-table .ensures ∙ table-only (a .row) (a .table .now) (a .content .now) (a .state) (a .out .now))
 
 -- src/record.rt:17:1
 same-length-2 : tie.Need-same-length-2
@@ -53,7 +59,13 @@ same-length-3 c = search needs
 
 -- src/record.rt:17:1
 returns-3 : tie.Need-returns-3
-returns-3 c = let a = c .before .before .before .before .before .before .before .before .args in rw (c .before .before .before .before .match .keys3) (c .before .before .write-plain .ensures ∙ plain-only (a .row) (a .table .now) (a .content .now) (a .state) (a .out .now))
+returns-3 c =
+    let at-write-plain = c .before .before in
+    let at-match = at-write-plain .before .before in
+    let at-start = at-match .before .before .before .before in
+    let a = at-start .args in
+    rw (at-match .match .keys3)
+    (at-write-plain .write-plain .ensures ∙ plain-only (a .row) (a .table .now) (a .content .now) (a .state) (a .out .now))
 
 -- src/record.rt:17:1
 same-length-4 : tie.Need-same-length-4
@@ -61,11 +73,22 @@ same-length-4 c = search needs
 
 -- src/record.rt:17:1
 returns-4 : tie.Need-returns-4
-returns-4 c = let a = c .before .before .before .before .before .before .before .before .args in rw (c .before .before .before .before .match .keys4) (c .before .before .write-line .ensures ∙ line-only (a .row) (a .table .now) (a .content .now) (a .state) (a .out .now))
+returns-4 c =
+    let at-write-line = c .before .before in
+    let at-match = at-write-line .before .before in
+    let at-start = at-match .before .before .before .before in
+    let a = at-start .args in
+    rw (at-match .match .keys4)
+    (at-write-line .write-line .ensures ∙ line-only (a .row) (a .table .now) (a .content .now) (a .state) (a .out .now))
 
 -- src/record.rt:17:1
 returns-5 : tie.Need-returns-5
-returns-5 c = let a = c .before .before .before .before .before .args in let none = c .before .match .rest in refused-kind (a .row) (a .table .now) (a .content .now) (a .state) (a .out .now) (a .kind) (none .0 .0 .0 .1) (none .0 .0 .1) (none .0 .1) (none .1) (c .refused .result) (c .refused .ensures)
+returns-5 c =
+    let at-start = c .before .before .before .before .before in
+    let a = at-start .args in
+    let none = c .before .match .rest in
+    refused-kind (a .row) (a .table .now) (a .content .now) (a .state) (a .out .now) (a .kind) (none .0 .0 .0 .1) (none .0 .0 .1)
+    (none .0 .1) (none .1) (c .refused .result) (c .refused .ensures)
 
 pub write-record-spec : {M : Type 1} → statement M
 write-record-spec =

@@ -16,7 +16,10 @@ check-requires c κs = search needs
 
 -- src/table.rt:39:1
 returns-2 : tie.Need-returns-2
-returns-2 c = table-checked (c .before .before .before .before .args .content .now) (c .before .before .before .before .args .state) (c .before .if1 .left) (c .check .result) (c .check .ensures)
+returns-2 c =
+    let at-start = c .before .before .before .before in
+    table-checked (at-start .args .content .now) (at-start .args .state) (c .before .if1 .left) (c .check .result)
+    (c .check .ensures)
 
 pub table-number-spec : {M : Type 1} → statement M
 table-number-spec = tie.close (tie.spec returns check-requires returns-2)

@@ -25,7 +25,12 @@ refused-requires c κs = search needs
 
 -- src/table.rt:23:9
 returns : tie.Need-returns
-returns c = let a = c .before .before .before .before .before .args in frame-refused (table-frame (a .content .now)) (a .state) (a .out .now) (c .refused .result) (c .before .before .table-number .result) (c .before .before .table-number .ensures) (c .before .if1 .taken) (c .refused .ensures)
+returns c =
+    let at-table-number = c .before .before in
+    let at-start = at-table-number .before .before .before in
+    let a = at-start .args in
+    frame-refused (table-frame (a .content .now)) (a .state) (a .out .now) (c .refused .result)
+    (at-table-number .table-number .result) (at-table-number .table-number .ensures) (c .before .if1 .taken) (c .refused .ensures)
 
 -- src/table.rt:25:24
 add-record-bytes : tie.Need-add-record-bytes
@@ -37,7 +42,13 @@ refused-requires-2 c κs = search needs
 
 -- src/table.rt:27:9
 returns-2 : tie.Need-returns-2
-returns-2 c = let a = c .before .before .before .before .before .before .args in frame-full (table-frame (a .content .now)) (a .state) (a .out .now) (c .refused2 .result) (sym (c .before .before .before .table-number .ensures) ∙ c .before .before .if1 .left) (c .before .if2 .taken) (c .refused2 .ensures)
+returns-2 c =
+    let at-if1 = c .before .before in
+    let at-table-number = at-if1 .before in
+    let at-start = at-table-number .before .before .before in
+    let a = at-start .args in
+    frame-full (table-frame (a .content .now)) (a .state) (a .out .now) (c .refused2 .result)
+    (sym (at-table-number .table-number .ensures) ∙ at-if1 .if1 .left) (c .before .if2 .taken) (c .refused2 .ensures)
 
 -- src/table.rt:29:19
 sub-copy : tie.Need-sub-copy
@@ -57,7 +68,12 @@ copy-requires c κs = search needs
 
 -- src/table.rt:30:26
 cast-put-record-fields : tie.Need-cast-put-record-fields
-cast-put-record-fields c = let a = c .before .before .before .before .before .before .before .before .before .args in omega (arith, table-most (a .content .now) (a .state) (sym (c .before .before .before .before .before .before .table-number .ensures) ∙ c .before .before .before .before .before .if1 .left))
+cast-put-record-fields c =
+    let at-if1 = c .before .before .before .before .before in
+    let at-table-number = at-if1 .before in
+    let at-start = at-table-number .before .before .before in
+    let a = at-start .args in
+    omega (arith, table-most (a .content .now) (a .state) (sym (at-table-number .table-number .ensures) ∙ at-if1 .if1 .left))
 
 -- src/table.rt:30:5
 put-record-fields-requires : tie.Need-put-record-fields-requires
@@ -65,7 +81,12 @@ put-record-fields-requires c κs = search needs
 
 -- src/table.rt:35:13
 cast-written : tie.Need-cast-written
-cast-written c = let a = c .before .before .before .before .before .before .before .before .before .before .before .before .before .args in omega (arith, table-most (a .content .now) (a .state) (sym (c .before .before .before .before .before .before .before .before .before .before .table-number .ensures) ∙ c .before .before .before .before .before .before .before .before .before .if1 .left))
+cast-written c =
+    let at-if1 = c .before .before .before .before .before .before .before .before .before in
+    let at-table-number = at-if1 .before in
+    let at-start = at-table-number .before .before .before in
+    let a = at-start .args in
+    omega (arith, table-most (a .content .now) (a .state) (sym (at-table-number .table-number .ensures) ∙ at-if1 .if1 .left))
 
 -- src/table.rt:35:5
 written-requires : tie.Need-written-requires
@@ -77,7 +98,22 @@ same-length c = search needs
 
 -- src/table.rt:18:1
 returns-3 : tie.Need-returns-3
-returns-3 c = let a = c .before .before .before .before .before .before .before .before .before .before .before .before .before .before .args in let frame = table-frame (a .content .now) in let m = a .out .now in let passed = sym (c .before .before .before .before .before .before .before .before .before .before .before .table-number .ensures) ∙ c .before .before .before .before .before .before .before .before .before .before .if1 .left in let fits : 6 + length (a .content .now) ≤ length m = c .before .before .before .before .before .before .before .before .before .if2 .left in let number = frame-passed frame (a .state) m (c .written .result) passed fits in frame-done frame (a .state) m (c .written .result) number (omega arith) (c .written .ensures) (c .before .before .before .before .before .before .before .copy .last .1 .0) (c .before .before .before .put-record-fields .last .1 .1 .0) (copied (a .content .now) _ _ (c .before .before .before .before .before .before .before .copy .ensures .1)) (c .before .before .before .put-record-fields .ensures)
+returns-3 c =
+    let at-put-record-fields = c .before .before .before in
+    let at-copy = at-put-record-fields .before .before .before .before in
+    let at-if2 = at-copy .before .before in
+    let at-if1 = at-if2 .before in
+    let at-table-number = at-if1 .before in
+    let at-start = at-table-number .before .before .before in
+    let a = at-start .args in
+    let frame = table-frame (a .content .now) in
+    let m = a .out .now in
+    let passed = sym (at-table-number .table-number .ensures) ∙ at-if1 .if1 .left in
+    let fits : 6 + length (a .content .now) ≤ length m = at-if2 .if2 .left in
+    let number = frame-passed frame (a .state) m (c .written .result) passed fits in
+    frame-done frame (a .state) m (c .written .result) number (omega arith) (c .written .ensures) (at-copy .copy .last .1 .0)
+    (at-put-record-fields .put-record-fields .last .1 .1 .0) (copied (a .content .now) _ _ (at-copy .copy .ensures .1))
+    (at-put-record-fields .put-record-fields .ensures)
 
 pub write-table-spec : {M : Type 1} → statement M
 write-table-spec =

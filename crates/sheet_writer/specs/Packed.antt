@@ -4,13 +4,19 @@ use Prim.Native.Nat.{ℕ, min}
 use mathlib.Core.Path.{_≡_}
 use mathlib.Core.List.{List}
 use lib.ListN.{length}
+use Rattle.bitstream.specs.Bits.{halvesOf, wordsOf}
 use Rattle.answer.specs.declared.Answer.{Answer}
 use Rattle.answer.specs.Outcome.{outcome}
 use Rattle.row_format.specs.Calls.{packed}
+use Rattle.row_format.specs.Calls.Laws.{rowBytes}
 use Rattle.sheet_format.specs.declared.SheetState.{SheetState}
 use Rattle.sheet_format.specs.Record.{packedRecord, placeNumber}
 use Rattle.sheet_writer.specs.Frame.{partFrom}
 pub mod Laws
+
+-- the words of the content's pixels under the sheet's table
+abbrev pub packedWords : List ℕ → List ℕ → List ℕ
+packedWords tb c = rowBytes (wordsOf tb) (halvesOf c)
 
 -- the row is in its place, and packing ran on the memory m from start on: its answer is r, and left y there
 pub record Ran (row : ℕ) (tb c : List ℕ) (st : SheetState) (m : List ℕ) (start : ℕ) (r : Answer) (y : List ℕ) : Type 0 where

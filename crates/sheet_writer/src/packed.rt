@@ -15,8 +15,15 @@ ghost use Rattle.sheet_writer.specs.Outcome.{outcome};
 // Length 4, kind 2, row number 2 and pixel count 2.
 const FIELD_BYTES: usize = 10;
 
-pub fn write_packed(row: u16, content: &[u8], table: &[u8], state: SheetState, out: &mut [u8]) -> RecordWritten
-    ensures { λ r. ⌜ outcome r (now (out .exit)) ≡ recordWritten 2 row (now (table .entry)) (now (content .entry)) state (now (out .entry)) ⌝ }
+pub fn write_packed(
+    row: u16,
+    content: &[u8],
+    table: &[u8],
+    state: SheetState,
+    out: &mut [u8],
+) -> RecordWritten
+    ensures { λ r. ⌜ outcome r (now (out .exit))
+        ≡ recordWritten 2 row (now (table .entry)) (now (content .entry)) state (now (out .entry)) ⌝ }
 {
     let place = row_place(row, state);
     if place != 0 {

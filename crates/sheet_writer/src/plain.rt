@@ -1,11 +1,11 @@
 // Kind 3: a row, its pixels as they are.
-use bytes::copy;
 use crate::done::refused;
 use crate::done::written;
 use crate::fields::put_row_fields;
 use crate::pixels::any_above;
 use crate::place::after_row;
 use crate::place::row_place;
+use bytes::copy;
 use sheet_format::RecordWritten;
 use sheet_format::SheetState;
 ghost use mathlib.Core.Path.{_≡_};

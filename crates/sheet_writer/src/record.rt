@@ -14,8 +14,16 @@ ghost use Rattle.sheet_writer.specs.Outcome.{outcome};
 // table's bytes (kind 1), pixels of two bytes (kinds 2 and 3) or numbers of four bytes (kind 4); `row` is a row's number,
 // `table` the sheet's table, which kind 2 is packed under, and `state` what the sheet holds so far. Refused 15, 16, then
 // 1 to 3, 11, 4, 5, with the memory as it was.
-pub fn write_record(kind: u32, row: u16, content: &[u8], table: &[u8], state: SheetState, out: &mut [u8]) -> RecordWritten
-    ensures { λ r. ⌜ outcome r (now (out .exit)) ≡ recordWritten kind row (now (table .entry)) (now (content .entry)) state (now (out .entry)) ⌝ }
+pub fn write_record(
+    kind: u32,
+    row: u16,
+    content: &[u8],
+    table: &[u8],
+    state: SheetState,
+    out: &mut [u8],
+) -> RecordWritten
+    ensures { λ r. ⌜ outcome r (now (out .exit))
+        ≡ recordWritten kind row (now (table .entry)) (now (content .entry)) state (now (out .entry)) ⌝ }
 {
     match kind {
         1 => write_table(content, state, out),

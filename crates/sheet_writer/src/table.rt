@@ -1,9 +1,9 @@
 // Kind 1: the sheet's table.
-use bytes::copy;
-use code_table::check::check;
 use crate::done::refused;
 use crate::done::written;
 use crate::fields::put_record_fields;
+use bytes::copy;
+use code_table::check::check;
 use sheet_format::RecordWritten;
 use sheet_format::SheetState;
 ghost use mathlib.Core.Path.{_≡_};

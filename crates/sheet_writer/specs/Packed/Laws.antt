@@ -17,7 +17,7 @@ use Rattle.answer.specs.Outcome as answers
 use Rattle.answer.specs.Outcome.{_orElse_, refuseIf}
 use Rattle.row_format.specs.Row.{rowBits}
 use Rattle.row_format.specs.Calls.{packNumber}
-use Rattle.row_format.specs.Calls.Laws.{Packable, rowBytes, packable, packed-done, packed-number}
+use Rattle.row_format.specs.Calls.Laws.{Packable, packable, packed-done, packed-number}
 use Rattle.row_format.specs.Theorems.Memory.{packed-kept, packed-within}
 use Rattle.row_packer.specs.Pixels.{length-halves}
 use Rattle.row_packer.specs.Calls.{bits-most}
@@ -32,22 +32,21 @@ use Rattle.sheet_writer.specs.Outcome.Laws.{orElse-assoc, orElse-given}
 use Rattle.sheet_writer.specs.Fields.{rowFields}
 use Rattle.sheet_writer.specs.Fields.Laws.{length-rowFields, row-fields}
 use Rattle.sheet_writer.specs.Frame.{Frame, partFrom, withPart}
-use Rattle.sheet_writer.specs.Packed.{Ran}
+use Rattle.sheet_writer.specs.Packed.{packedWords, Ran}
 use Rattle.sheet_writer.specs.Frame.Laws.{part-is, part-back, frame-number, frame-done, refused-number}
 
 -- ---- how the record stands
-length-rowBytes : (t ps : List ℕ) → length (rowBytes t ps) ≡ 4 * wordsFor (length (rowBits t ps))
-length-rowBytes t ps = length-cut 8 (4 * wordsFor (length (rowBits t ps))) (rowBits t ps)
+length-packedWords : (tb c : List ℕ) → length (packedWords tb c) ≡ 4 * wordsFor (length (rowBits (wordsOf tb) (halvesOf c)))
+length-packedWords tb c = let b = rowBits (wordsOf tb) (halvesOf c) in length-cut 8 (4 * wordsFor (length b)) b
 
 pub packed-frame : (row : ℕ) (tb c : List ℕ)
-    → Frame 2 row tb c (rowFields 2 row (length c / 2) (10 + length (rowBytes (wordsOf tb) (halvesOf c)))) (rowBytes (wordsOf tb) (halvesOf c)) 10
+    → Frame 2 row tb c (rowFields 2 row (length c / 2) (10 + length (packedWords tb c))) (packedWords tb c) 10
 unfolding kindNumber bodyFor
 packed-frame row tb c =
-    let words = rowBytes (wordsOf tb) (halvesOf c) in
     record {
       known = refl;
-      bytes = rw (length-halves c) (row-fields 2 row (length c / 2) words);
-      fields = length-rowFields 2 row (length c / 2) (10 + length words);
+      bytes = rw (length-halves c) (row-fields 2 row (length c / 2) (packedWords tb c));
+      fields = length-rowFields 2 row (length c / 2) (10 + length (packedWords tb c));
     }
 
 -- ---- room for w words behind the fields is room for the record
@@ -55,16 +54,16 @@ room-alike : (room w start : ℕ) → start ≡ min 10 room
     → refuseIf (ltb room (10 + 4 * w)) 5 ≡ refuseIf (ltb ((room - start) / 4) w) 5 orElse refuseIf (ltb start 10) 5
 room-alike room w start is = by-cases (decLt room 10)
     (λ short.
-      let none : refuseIf (ltb start 10) 5 ≡ 5 = lessNumber-given start 10 5 (omega arith) in
-      lessNumber-given room (10 + 4 * w) 5 (omega arith)
-      ∙ rw none (by-cases (decLt ((room - start) / 4) w)
-      (λ h. rw (lt-ltb ((room - start) / 4) w h))
-      (λ h. rw (le-ltb ((room - start) / 4) w (omega arith)))))
+    let none : refuseIf (ltb start 10) 5 ≡ 5 = lessNumber-given start 10 5 (omega arith) in
+    lessNumber-given room (10 + 4 * w) 5 (omega arith)
+    ∙ rw none (by-cases (decLt ((room - start) / 4) w)
+    (λ h. rw (lt-ltb ((room - start) / 4) w h))
+    (λ h. rw (le-ltb ((room - start) / 4) w (omega arith)))))
     (λ enough.
-      let there : refuseIf (ltb start 10) 5 ≡ 0 = lessNumber-none start 10 5 (omega arith) in
-      rw there (by-cases (decLt room (10 + 4 * w))
-      (λ h. rw (lt-ltb room (10 + 4 * w) h, lt-ltb ((room - start) / 4) w (omega arith)))
-      (λ h. rw (le-ltb room (10 + 4 * w) (omega arith), le-ltb ((room - start) / 4) w (omega arith)))))
+    let there : refuseIf (ltb start 10) 5 ≡ 0 = lessNumber-none start 10 5 (omega arith) in
+    rw there (by-cases (decLt room (10 + 4 * w))
+    (λ h. rw (lt-ltb room (10 + 4 * w) h, lt-ltb ((room - start) / 4) w (omega arith)))
+    (λ h. rw (le-ltb room (10 + 4 * w) (omega arith), le-ltb ((room - start) / 4) w (omega arith)))))
 
 module _ {row : ℕ} {tb c : List ℕ} {st : SheetState} {m : List ℕ} {start : ℕ} {r : Answer} {y : List ℕ}
     (ran : Ran row tb c st m start r y) where
@@ -78,7 +77,7 @@ module _ {row : ℕ} {tb c : List ℕ} {st : SheetState} {m : List ℕ} {start :
   write-number =
       let w = wordsFor (length (rowBits (wordsOf tb) (halvesOf c))) in
       frame-number (packed-frame row tb c) st (length m)
-      ∙ rw (ran .placed, length-rowBytes (wordsOf tb) (halvesOf c), room-alike (length m) w start (ran .place), length-part)
+      ∙ rw (ran .placed, length-packedWords tb c, room-alike (length m) w start (ran .place), length-part)
       (simp orElse-assoc)
 
   pack-number : r .number ≡ packNumber tb (halvesOf c) (length (partFrom start m) / 4)
@@ -88,8 +87,8 @@ module _ {row : ℕ} {tb c : List ℕ} {st : SheetState} {m : List ℕ} {start :
   pub pack-refused : (r .number ≡ 0 → ⊥) → (a : RecordWritten) → a ≡ record { number = r .number; count = 0; state = st }
       → outcome a (withPart start m y) ≡ recordWritten 2 row tb c st m
   pack-refused given a e =
-      let same : y ≡ partFrom start m =
-      ap (λ x. x .memory) (ran .packs) ∙ packed-kept tb c (partFrom start m) (λ z. given (ap (λ x. x .answer .number) (ran .packs) ∙ z)) .memory in
+      let kept = packed-kept tb c (partFrom start m) (λ z. given (ap (λ x. x .answer .number) (ran .packs) ∙ z)) in
+      let same : y ≡ partFrom start m = ap (λ x. x .memory) (ran .packs) ∙ kept .memory in
       ap (outcome a) (ap (withPart start m) same ∙ put-same start (length m - start) m)
       ∙ refused-number 2 row tb c st m a (r .number)
       (orElse-given (r .number) _ given ∙ ap (_orElse refuseIf (ltb start 10) 5) pack-number ∙ sym write-number) given e
@@ -101,7 +100,7 @@ module _ {row : ℕ} {tb c : List ℕ} {st : SheetState} {m : List ℕ} {start :
     fine : Packable tb (halvesOf c)
     fine = packable tb (halvesOf c) (length (partFrom start m) / 4) none
 
-    wrote : answers.outcome r y ≡ answers.wrote (length (rowBits (wordsOf tb) (halvesOf c))) (rowBytes (wordsOf tb) (halvesOf c)) (partFrom start m)
+    wrote : answers.outcome r y ≡ answers.wrote (length (rowBits (wordsOf tb) (halvesOf c))) (packedWords tb c) (partFrom start m)
     wrote = ran .packs ∙ packed-done tb c (partFrom start m) none
 
     bits-are : r .count ≡ length (rowBits (wordsOf tb) (halvesOf c))
@@ -120,7 +119,7 @@ module _ {row : ℕ} {tb c : List ℕ} {st : SheetState} {m : List ℕ} {start :
         let size = ap (λ x. length (x .memory)) (ran .packs) ∙ packed-within tb c (partFrom start m) .size ∙ length-part in
         let empty : y ≡ [] = sym (take-all 0 y (omega arith)) in
         let same : withPart start m y ≡ m =
-        part-back start m y ∙ rw (empty, append-nil (take start m)) (take-all start m (omega (arith, ran .place))) in
+        part-back start m y ∙ rw (empty, append-nil (take start m)) (take-all start m (omega arith)) in
         ap (outcome a) same
         ∙ refused-number 2 row tb c st m a 5
         (sym (write-number ∙ rw (none, lt-ltb start 10 short))) (λ z. omega arith) e
@@ -131,8 +130,7 @@ module _ {row : ℕ} {tb c : List ℕ} {st : SheetState} {m : List ℕ} {start :
         → (o : List ℕ) → o ≡ rowFields 2 row (length c / 2) (10 + 4 * wordsFor (r .count)) ++ drop 10 (withPart start m y)
         → outcome a o ≡ recordWritten 2 row tb c st m
     pack-done enough a e o fields =
-        let words = rowBytes (wordsOf tb) (halvesOf c) in
-        let ten : start ≡ 10 = omega (arith, ran .place) in
-        let size : 4 * wordsFor (r .count) ≡ length words = rw bits-are (sym (length-rowBytes (wordsOf tb) (halvesOf c))) in
-        frame-done (packed-frame row tb c) st m a (write-number ∙ rw (none, le-ltb start 10 enough)) (omega (arith, ran .place))
+        let ten : start ≡ 10 = omega arith in
+        let size : 4 * wordsFor (r .count) ≡ length (packedWords tb c) = rw bits-are (sym (length-packedWords tb c)) in
+        frame-done (packed-frame row tb c) st m a (write-number ∙ rw (none, le-ltb start 10 enough)) (omega arith)
         (rw size at e) y o (rw ten at (ap (λ x. x .memory) wrote)) (rw (size, ten) at fields)

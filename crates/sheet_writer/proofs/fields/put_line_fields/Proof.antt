@@ -1,25 +1,18 @@
-use Rattle.sheet_writer.specs.Fields.Laws.{put-line-done}
+-- `sheet_writer::fields::put_line_fields` meets its contract: a record's fields, and one more behind them. Assumes nothing.
 use borrow.Author.Needs.{needs}
+use Rattle.sheet_writer.specs.Fields.Laws.{put-line-done}
 use Rattle.sheet_writer.proofs.fields.put_line_fields.Statement.{statement}
 use Rattle.sheet_writer.proofs.fields.put_line_fields.Tie as tie
-use Rattle.sheet_writer.proofs.fields.put_line_fields.Reads as reads
-use Rattle.sheet_writer.proofs.fields.put_line_fields.Lts as lts
-use Rattle.bitstream.proofs.number.put_u16.Reads as put-u16-reads
-use Rattle.sheet_writer.proofs.fields.put_record_fields.Reads as put-record-fields-reads
 
--- src/fields.rt:37:5
 put-record-fields-requires : tie.Need-put-record-fields-requires
 put-record-fields-requires c κs = search needs
 
--- src/fields.rt:38:5
 put-u16-requires : tie.Need-put-u16-requires
 put-u16-requires c κs = search needs
 
--- src/fields.rt:32:1
 same-length : tie.Need-same-length
 same-length c = search needs
 
--- src/fields.rt:32:1
 returns : tie.Need-returns
 returns c =
     let at-put-u16 = c .before .before in

@@ -1,29 +1,21 @@
-use Rattle.sheet_writer.specs.Fields.Laws.{put-row-done}
+-- `sheet_writer::fields::put_row_fields` meets its contract: a record's fields, and two more behind them. Assumes nothing.
 use borrow.Author.Needs.{needs}
+use Rattle.sheet_writer.specs.Fields.Laws.{put-row-done}
 use Rattle.sheet_writer.proofs.fields.put_row_fields.Statement.{statement}
 use Rattle.sheet_writer.proofs.fields.put_row_fields.Tie as tie
-use Rattle.sheet_writer.proofs.fields.put_row_fields.Reads as reads
-use Rattle.sheet_writer.proofs.fields.put_row_fields.Lts as lts
-use Rattle.bitstream.proofs.number.put_u16.Reads as put-u16-reads
-use Rattle.sheet_writer.proofs.fields.put_record_fields.Reads as put-record-fields-reads
 
--- src/fields.rt:26:5
 put-record-fields-requires : tie.Need-put-record-fields-requires
 put-record-fields-requires c κs = search needs
 
--- src/fields.rt:27:5
 put-u16-requires : tie.Need-put-u16-requires
 put-u16-requires c κs = search needs
 
--- src/fields.rt:28:5
 put-u16-requires-2 : tie.Need-put-u16-requires-2
 put-u16-requires-2 c κs = search needs
 
--- src/fields.rt:21:1
 same-length : tie.Need-same-length
 same-length c = search needs
 
--- src/fields.rt:21:1
 returns : tie.Need-returns
 returns c =
     let at-put-u162 = c .before .before in

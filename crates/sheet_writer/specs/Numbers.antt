@@ -6,7 +6,12 @@ use lib.ListN.{length, take, drop, getD}
 use lib.IntN.{ℤ, pos}
 use Rattle.adaptive.specs.Number.{signed, shortest}
 use Rattle.sheet_format.specs.Line.{lineBytes}
+use Rattle.sheet_format.specs.Writing.{givenNumbers}
 pub mod Laws
+
+-- the memory m with the numbers of a content c at its front
+abbrev pub numbersWritten : List ℕ → List ℕ → List ℕ
+numbersWritten c m = lineBytes (givenNumbers c) ++ drop (length (lineBytes (givenNumbers c))) m
 
 -- the bytes of number i
 abbrev pub bytesAt : List ℤ → ℕ → List ℕ

@@ -9,7 +9,7 @@ ghost use Rattle.sheet_writer.specs.Fields.{recordFields, rowFields, lin
 
 // Of every record: its length and its kind.
 pub fn put_record_fields(kind: u32, record_bytes: u32, out: &mut [u8])
-    requires { ⌜ 4 ≤ record_bytes ⌝ }
+    requires { ⌜ 6 ≤ record_bytes ⌝ }
     requires { ⌜ 6 ≤ length (now out) ⌝ }
     ensures { λ _. ⌜ now (out .exit) ≡ recordFields kind record_bytes ++ drop 6 (now (out .entry)) ⌝ }
 {
@@ -19,7 +19,7 @@ pub fn put_record_fields(kind: u32, record_bytes: u32, out: &mut [u8])
 
 // Of a row: also its number and its pixel count.
 pub fn put_row_fields(kind: u32, row: u16, pixels: u32, record_bytes: u32, out: &mut [u8])
-    requires { ⌜ 4 ≤ record_bytes ⌝ }
+    requires { ⌜ 6 ≤ record_bytes ⌝ }
     requires { ⌜ 10 ≤ length (now out) ⌝ }
     ensures { λ _. ⌜ now (out .exit) ≡ rowFields kind row pixels record_bytes ++ drop 10 (now (out .entry)) ⌝ }
 {
@@ -30,7 +30,7 @@ pub fn put_row_fields(kind: u32, row: u16, pixels: u32, record_bytes: u32, out: 
 
 // Of a line: also its count of numbers.
 pub fn put_line_fields(kind: u32, numbers: u32, record_bytes: u32, out: &mut [u8])
-    requires { ⌜ 4 ≤ record_bytes ⌝ }
+    requires { ⌜ 6 ≤ record_bytes ⌝ }
     requires { ⌜ 8 ≤ length (now out) ⌝ }
     ensures { λ _. ⌜ now (out .exit) ≡ lineFields kind numbers record_bytes ++ drop 8 (now (out .entry)) ⌝ }
 {

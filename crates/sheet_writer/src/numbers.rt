@@ -4,11 +4,11 @@ use crate::number::number_at;
 use crate::number::number_bytes;
 use adaptive::write_signed;
 ghost use mathlib.Core.Path.{_≡_};
-ghost use mathlib.Core.List.{_++_};
 ghost use Prim.Native.Nat.{_/_, _≤_};
-ghost use lib.ListN.{length, drop};
+ghost use lib.ListN.{length};
 ghost use Rattle.sheet_format.specs.Line.{lineBytes};
 ghost use Rattle.sheet_format.specs.Writing.{givenNumbers};
+ghost use Rattle.sheet_writer.specs.Numbers.{numbersWritten};
 
 pub fn line_bytes(content: &[u8]) -> usize
     requires { ⌜ length (now content) / 4 ≤ 4096 ⌝ }
@@ -28,7 +28,7 @@ pub fn line_bytes(content: &[u8]) -> usize
 // To the front of memory that has room for them.
 pub fn put_numbers(content: &[u8], out: &mut [u8])
     requires { ⌜ length (lineBytes (givenNumbers (now content))) ≤ length (now out) ⌝ }
-    ensures { λ _. ⌜ now (out .exit) ≡ lineBytes (givenNumbers (now (content .entry))) ++ drop (length (lineBytes (givenNumbers (now (content .entry))))) (now (out .entry)) ⌝ }
+    ensures { λ _. ⌜ now (out .exit) ≡ numbersWritten (now (content .entry)) (now (out .entry)) ⌝ }
 {
     let n = content.len() / 4;
     // the bytes of the first i numbers end at `at`

@@ -22,7 +22,8 @@ pub fn write_packed(
     state: SheetState,
     out: &mut [u8],
 ) -> RecordWritten
-    ensures { λ r. ⌜ outcome r (now (out .exit)) ≡ recordWritten 2 row (now (table .entry)) (now (content .entry)) state (now (out .entry)) ⌝ }
+    ensures { λ r. ⌜ outcome r (now (out .exit))
+        ≡ recordWritten 2 row (now (table .entry)) (now (content .entry)) state (now (out .entry)) ⌝ }
 {
     let place = row_place(row, state);
     if place != 0 {

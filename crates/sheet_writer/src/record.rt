@@ -22,7 +22,8 @@ pub fn write_record(
     state: SheetState,
     out: &mut [u8],
 ) -> RecordWritten
-    ensures { λ r. ⌜ outcome r (now (out .exit)) ≡ recordWritten kind row (now (table .entry)) (now (content .entry)) state (now (out .entry)) ⌝ }
+    ensures { λ r. ⌜ outcome r (now (out .exit))
+        ≡ recordWritten kind row (now (table .entry)) (now (content .entry)) state (now (out .entry)) ⌝ }
 {
     match kind {
         1 => write_table(content, state, out),

@@ -1,31 +1,31 @@
-use Rattle.sheet_writer.specs.Fields.Laws.{put-row-done}
+-- `sheet_writer::fields::put_row_fields` meets its contract: a record's fields, and two more behind them. Assumes nothing.
 use borrow.Author.Needs.{needs}
+use Rattle.sheet_writer.specs.Fields.Laws.{put-row-done}
 use Rattle.sheet_writer.proofs.fields.put_row_fields.Statement.{statement}
 use Rattle.sheet_writer.proofs.fields.put_row_fields.Tie as tie
-use Rattle.sheet_writer.proofs.fields.put_row_fields.Reads as reads
-use Rattle.sheet_writer.proofs.fields.put_row_fields.Lts as lts
-use Rattle.bitstream.proofs.number.put_u16.Reads as put-u16-reads
-use Rattle.sheet_writer.proofs.fields.put_record_fields.Reads as put-record-fields-reads
 
--- src/fields.rt:26:5
 put-record-fields-requires : tie.Need-put-record-fields-requires
 put-record-fields-requires c κs = search needs
 
--- src/fields.rt:27:5
 put-u16-requires : tie.Need-put-u16-requires
 put-u16-requires c κs = search needs
 
--- src/fields.rt:28:5
 put-u16-requires-2 : tie.Need-put-u16-requires-2
 put-u16-requires-2 c κs = search needs
 
--- src/fields.rt:21:1
 same-length : tie.Need-same-length
 same-length c = search needs
 
--- src/fields.rt:21:1
 returns : tie.Need-returns
-returns c = let a = c .before .before .before .before .before .before .before .before .before .before .before .before .before .args in put-row-done (a .out .now) (c .before .before .before .before .before .before .before .before .before .before .put-record-fields .last .1 .1 .0) (c .before .before .before .before .before .before .put-u16 .last .0) (c .before .before .put-u162 .last .0) (a .kind) (a .row) (a .pixels) (a .record-bytes) (c .before .before .before .before .before .before .before .before .before .before .put-record-fields .ensures) (c .before .before .before .before .before .before .put-u16 .ensures) (c .before .before .put-u162 .ensures)
+returns c =
+    let at-put-u162 = c .before .before in
+    let at-put-u16 = at-put-u162 .before .before .before .before in
+    let at-put-record-fields = at-put-u16 .before .before .before .before in
+    let at-start = at-put-record-fields .before .before .before in
+    let a = at-start .args in
+    put-row-done (a .out .now) (at-put-record-fields .put-record-fields .last .1 .1 .0) (at-put-u16 .put-u16 .last .0)
+    (at-put-u162 .put-u162 .last .0) (a .kind) (a .row) (a .pixels) (a .record-bytes)
+    (at-put-record-fields .put-record-fields .ensures) (at-put-u16 .put-u16 .ensures) (at-put-u162 .put-u162 .ensures)
 
 pub put-row-fields-spec : {M : Type 1} → statement M
 put-row-fields-spec =

@@ -1,94 +1,116 @@
-use Prim.Native.Nat.{_+_, _-_, _/_, _≤_}
-use lib.ListN.{length, getD, length-drop}
+-- `sheet_writer::line::write_line` meets its contract: refused by its number or for room, or the numbers behind the fields.
+-- Assumes nothing.
+use Prim.Native.Nat.{_/_, _+_, _-_, _≤_}
 use native.Mathlib.Omega.{arith}
-use mathlib.Core.Path.{_∙_, sym, ap}
+use mathlib.Core.List.{[]}
+use mathlib.Core.Path.{_≡_, _∙_, sym}
+use lib.ListN.{length, length-drop}
+use borrow.Author.Needs.{needs}
+use Rattle.sheet_format.specs.Record.{lineRecord}
 use Rattle.sheet_format.specs.Line.{lineBytes}
 use Rattle.sheet_format.specs.Writing.{givenNumbers}
+use Rattle.sheet_writer.specs.Outcome.{judged}
 use Rattle.sheet_writer.specs.Line.{line-frame, line-few, line-most}
-use Rattle.sheet_writer.specs.Frame.Laws.{part-is, copied, frame-refused, frame-full, frame-passed, frame-done}
-use borrow.Author.Needs.{needs}
+use Rattle.sheet_writer.specs.Frame.Laws.{part-is, frame-refused, frame-full, frame-passed, frame-done}
 use Rattle.sheet_writer.proofs.line.write_line.Statement.{statement}
 use Rattle.sheet_writer.proofs.line.write_line.Tie as tie
-use Rattle.sheet_writer.proofs.line.write_line.Reads as reads
-use Rattle.sheet_writer.proofs.line.write_line.Lts as lts
-use Rattle.sheet_writer.proofs.done.refused.Reads as refused-reads
-use Rattle.sheet_writer.proofs.done.written.Reads as written-reads
-use Rattle.sheet_writer.proofs.fields.put_line_fields.Reads as put-line-fields-reads
-use Rattle.sheet_writer.proofs.line.line_number.Reads as line-number-reads
-use Rattle.sheet_writer.proofs.numbers.line_bytes.Reads as line-bytes-reads
-use Rattle.sheet_writer.proofs.numbers.put_numbers.Reads as put-numbers-reads
 
--- src/line.rt:21:9
+-- where only room is left to ask for
+abbrev entry : tie.Else1 → tie.Start
+entry c = c .before .before .before .before
+
+passed : (c : tie.Else1) → judged lineRecord 0 [] (entry c .args .content .now) (entry c .args .state) ≡ 0
+passed c = sym (c .before .line-number .ensures) ∙ c .if1 .left
+
+few : (c : tie.Else1) → length (entry c .args .content .now) / 4 ≤ 4096
+few c = line-few (entry c .args .content .now) (entry c .args .state) (passed c)
+
+most : (c : tie.After-line-bytes) → c .line-bytes .result ≤ 20480
+most c = omega (arith, c .line-bytes .ensures, line-most (entry (c .before) .args .content .now) (few (c .before)))
+
 line-number-requires : tie.Need-line-number-requires
 line-number-requires c κs = search needs
 
--- src/line.rt:23:9
 refused-requires : tie.Need-refused-requires
 refused-requires c κs = search needs
 
--- src/line.rt:23:9
 returns : tie.Need-returns
-returns c = let a = c .before .before .before .before .before .args in frame-refused (line-frame (a .content .now)) (a .state) (a .out .now) (c .refused .result) (c .before .before .line-number .result) (c .before .before .line-number .ensures) (c .before .if1 .taken) (c .refused .ensures)
+returns c =
+    let at-line-number = c .before .before in
+    let at-start = at-line-number .before .before .before in
+    let a = at-start .args in
+    frame-refused (line-frame (a .content .now)) (a .state) (a .out .now) (c .refused .result)
+    (at-line-number .line-number .result) (at-line-number .line-number .ensures) (c .before .if1 .taken) (c .refused .ensures)
 
--- src/line.rt:26:38
 line-bytes-requires : tie.Need-line-bytes-requires
-line-bytes-requires c κs = let a = c .before .before .before .before .args in line-few (a .content .now) (a .state) (sym (c .before .line-number .ensures) ∙ c .if1 .left)
+line-bytes-requires c κs = few c
 
--- src/line.rt:26:24
 add-record-bytes : tie.Need-add-record-bytes
-add-record-bytes c = let a = c .before .before .before .before .before .args in omega (arith, c .line-bytes .ensures, line-most (a .content .now) (line-few (a .content .now) (a .state) (sym (c .before .before .line-number .ensures) ∙ c .before .if1 .left)))
+add-record-bytes c = omega (arith, most c)
 
--- src/line.rt:28:9
 refused-requires-2 : tie.Need-refused-requires-2
 refused-requires-2 c κs = search needs
 
--- src/line.rt:28:9
 returns-2 : tie.Need-returns-2
-returns-2 c = let a = c .before .before .before .before .before .before .before .args in frame-full (line-frame (a .content .now)) (a .state) (a .out .now) (c .refused2 .result) (sym (c .before .before .before .before .line-number .ensures) ∙ c .before .before .before .if1 .left) (omega (arith, c .before .before .line-bytes .ensures, c .before .if2 .taken)) (c .refused2 .ensures)
+returns-2 c =
+    let at-line-bytes = c .before .before in
+    let at-if1 = at-line-bytes .before in
+    let a = entry at-if1 .args in
+    frame-full (line-frame (a .content .now)) (a .state) (a .out .now) (c .refused2 .result) (passed at-if1)
+    (omega (arith, at-line-bytes .line-bytes .ensures, c .before .if2 .taken)) (c .refused2 .ensures)
 
--- src/line.rt:30:26
 sub-put-numbers : tie.Need-sub-put-numbers
 sub-put-numbers c = search needs
 
--- src/line.rt:30:26
 part-put-numbers-start : tie.Need-part-put-numbers-start
 part-put-numbers-start c = search needs
 
--- src/line.rt:30:26
 part-put-numbers-end : tie.Need-part-put-numbers-end
 part-put-numbers-end c = search needs
 
--- src/line.rt:30:5
 put-numbers-requires : tie.Need-put-numbers-requires
-put-numbers-requires c κs = let a = c .before .before .before .before .before .before .before .args in rw (part-is 8 (a .out .now), length-drop 8 (a .out .now)) (omega (arith, c .before .before .line-bytes .ensures, c .before .if2 .left))
+put-numbers-requires c κs =
+    let at-line-bytes = c .before .before in
+    let at-start = at-line-bytes .before .before .before .before .before in
+    let a = at-start .args in
+    rw (part-is 8 (a .out .now), length-drop 8 (a .out .now))
+    (omega (arith, at-line-bytes .line-bytes .ensures, c .before .if2 .left))
 
--- src/line.rt:31:24
 cast-put-line-fields : tie.Need-cast-put-line-fields
-cast-put-line-fields c = let a = c .before .before .before .before .before .before .before .before .before .before .args in omega (arith, line-few (a .content .now) (a .state) (sym (c .before .before .before .before .before .before .before .line-number .ensures) ∙ c .before .before .before .before .before .before .if1 .left))
+cast-put-line-fields c = omega (arith, few (c .before .before .before .before .before .before))
 
--- src/line.rt:31:40
 cast-put-line-fields-2 : tie.Need-cast-put-line-fields-2
-cast-put-line-fields-2 c = let a = c .before .before .before .before .before .before .before .before .before .before .args in omega (arith, c .before .before .before .before .before .line-bytes .ensures, line-most (a .content .now) (line-few (a .content .now) (a .state) (sym (c .before .before .before .before .before .before .before .line-number .ensures) ∙ c .before .before .before .before .before .before .if1 .left)))
+cast-put-line-fields-2 c = omega (arith, most (c .before .before .before .before .before))
 
--- src/line.rt:31:5
 put-line-fields-requires : tie.Need-put-line-fields-requires
 put-line-fields-requires c κs = search needs
 
--- src/line.rt:32:13
 cast-written : tie.Need-cast-written
-cast-written c = let a = c .before .before .before .before .before .before .before .before .before .before .before .before .before .before .args in omega (arith, c .before .before .before .before .before .before .before .before .before .line-bytes .ensures, line-most (a .content .now) (line-few (a .content .now) (a .state) (sym (c .before .before .before .before .before .before .before .before .before .before .before .line-number .ensures) ∙ c .before .before .before .before .before .before .before .before .before .before .if1 .left)))
+cast-written c = omega (arith, most (c .before .before .before .before .before .before .before .before .before))
 
--- src/line.rt:32:5
 written-requires : tie.Need-written-requires
 written-requires c κs = search needs
 
--- src/line.rt:18:1
 same-length : tie.Need-same-length
 same-length c = search needs
 
--- src/line.rt:18:1
 returns-3 : tie.Need-returns-3
-returns-3 c = let a = c .before .before .before .before .before .before .before .before .before .before .before .before .before .before .before .args in let frame = line-frame (a .content .now) in let m = a .out .now in let passed = sym (c .before .before .before .before .before .before .before .before .before .before .before .before .line-number .ensures) ∙ c .before .before .before .before .before .before .before .before .before .before .before .if1 .left in let fits : 8 + length (lineBytes (givenNumbers (a .content .now))) ≤ length m = omega (arith, c .before .before .before .before .before .before .before .before .before .before .line-bytes .ensures, c .before .before .before .before .before .before .before .before .before .if2 .left) in let number = frame-passed frame (a .state) m (c .written .result) passed fits in frame-done frame (a .state) m (c .written .result) number (omega arith) (rw (← c .before .before .before .before .before .before .before .before .before .before .line-bytes .ensures) (c .written .ensures)) (c .before .before .before .before .before .before .before .put-numbers .last .1 .0) (c .before .before .before .put-line-fields .last .1 .1 .1 .0) (c .before .before .before .before .before .before .before .put-numbers .ensures) (rw (c .before .before .before .before .before .before .before .before .before .before .line-bytes .ensures) at (c .before .before .before .put-line-fields .ensures))
+returns-3 c =
+    let at-put-line-fields = c .before .before .before in
+    let at-put-numbers = at-put-line-fields .before .before .before .before in
+    let at-if2 = at-put-numbers .before .before in
+    let at-line-bytes = at-if2 .before in
+    let at-if1 = at-line-bytes .before in
+    let a = entry at-if1 .args in
+    let frame = line-frame (a .content .now) in
+    let m = a .out .now in
+    let fits : 8 + length (lineBytes (givenNumbers (a .content .now))) ≤ length m =
+    omega (arith, at-line-bytes .line-bytes .ensures, at-if2 .if2 .left) in
+    let number = frame-passed frame (a .state) m (c .written .result) (passed at-if1) fits in
+    frame-done frame (a .state) m (c .written .result) number (omega arith)
+    (rw (← at-line-bytes .line-bytes .ensures) (c .written .ensures)) (at-put-numbers .put-numbers .last .1 .0)
+    (at-put-line-fields .put-line-fields .last .1 .1 .1 .0) (at-put-numbers .put-numbers .ensures)
+    (rw (at-line-bytes .line-bytes .ensures) at (at-put-line-fields .put-line-fields .ensures))
 
 pub write-line-spec : {M : Type 1} → statement M
 write-line-spec =

@@ -1,28 +1,26 @@
-use mathlib.Core.Path.{_∙_, sym, ap}
-use Rattle.sheet_writer.specs.Number.Laws.{held, given-at}
+-- `sheet_writer::number::number_at` meets its contract: the word is read, and then its value taken. Assumes nothing.
+use mathlib.Core.Path.{_∙_}
 use borrow.Author.Needs.{needs}
+use Rattle.sheet_writer.specs.Number.Laws.{held, given-at}
 use Rattle.sheet_writer.proofs.number.number_at.Statement.{statement}
 use Rattle.sheet_writer.proofs.number.number_at.Tie as tie
-use Rattle.sheet_writer.proofs.number.number_at.Reads as reads
-use Rattle.sheet_writer.proofs.number.number_at.Lts as lts
-use Rattle.bitstream.proofs.number.read_u32.Reads as read-u32-reads
-use Rattle.sheet_writer.proofs.number.signed_of.Reads as signed-of-reads
 
--- src/number.rt:17:33
 mul-read-u32 : tie.Need-mul-read-u32
 mul-read-u32 c = search needs
 
--- src/number.rt:17:15
 read-u32-requires : tie.Need-read-u32-requires
 read-u32-requires c κs = search needs
 
--- src/number.rt:17:5
 signed-of-requires : tie.Need-signed-of-requires
 signed-of-requires c κs = search needs
 
--- src/number.rt:13:1
 returns : tie.Need-returns
-returns c = held (c .signed-of .result) (c .signed-of .ok) ∙ c .signed-of .ensures ∙ given-at (c .before .before .before .args .content .now) (c .before .before .before .args .i) (c .before .read-u32 .result) (c .before .before .before .pre) (c .before .read-u32 .ensures)
+returns c =
+    let at-start = c .before .before .before in
+    held (c .signed-of .result) (c .signed-of .ok)
+    ∙ c .signed-of .ensures
+    ∙ given-at (at-start .args .content .now) (at-start .args .i) (c .before .read-u32 .result) (at-start .pre)
+    (c .before .read-u32 .ensures)
 
 pub number-at-spec : {M : Type 1} → statement M
 number-at-spec = tie.close (tie.spec mul-read-u32 read-u32-requires signed-of-requires returns)

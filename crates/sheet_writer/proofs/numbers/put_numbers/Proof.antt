@@ -1,8 +1,8 @@
-use Prim.Native.Nat.{_<_}
-use Prim.Native.Nat.{_+_, _-_, _/_, _≤_}
+-- `sheet_writer::numbers::put_numbers` meets its contract: the loop's invariant is that the first i numbers stand at the
+-- front, `at` bytes, and what follows is as it was; the measure is the numbers left. Assumes nothing.
+use Prim.Native.Nat.{_<_, _-_, _/_}
 use native.Mathlib.Omega.{arith}
-use mathlib.Core.Path.{_∙_, sym, ap}
-use lib.ListN.{length, getD, length-drop}
+use lib.ListN.{length}
 use borrow.Author.Needs.{needs}
 use Rattle.sheet_format.specs.Writing.{givenNumbers}
 use Rattle.sheet_writer.specs.Numbers.{Putting}
@@ -10,10 +10,6 @@ use Rattle.sheet_writer.specs.Number.Laws.{length-given, wrote-number}
 use Rattle.sheet_writer.specs.Numbers.Laws.{putting-none, putting-room, putting-more, putting-all}
 use Rattle.sheet_writer.proofs.numbers.put_numbers.Statement.{statement}
 use Rattle.sheet_writer.proofs.numbers.put_numbers.Tie as tie
-use Rattle.sheet_writer.proofs.numbers.put_numbers.Reads as reads
-use Rattle.sheet_writer.proofs.numbers.put_numbers.Lts as lts
-use Rattle.adaptive.proofs.write_signed.Reads as write-signed-reads
-use Rattle.sheet_writer.proofs.number.number_at.Reads as number-at-reads
 
 abbrev Inv-loop : tie.InvT-loop
 Inv-loop content out₀ n at₀ i₀ out at i = Putting (givenNumbers content) out₀ out at i
@@ -21,57 +17,67 @@ Inv-loop content out₀ n at₀ i₀ out at i = Putting (givenNumbers content) o
 abbrev μ-loop : tie.MeasureT-loop
 μ-loop content out₀ n at₀ i₀ out at i = length content / 4 - i
 
--- src/numbers.rt:37:5
 loop-holds : tie.Need-loop-holds Inv-loop μ-loop
 loop-holds c = putting-none (givenNumbers (c .before .before .args .content .now)) (c .before .before .args .out .now)
 
--- src/numbers.rt:38:13
 number-at-requires : tie.Need-number-at-requires Inv-loop μ-loop
 number-at-requires c κs = search needs
 
--- src/numbers.rt:39:39
 sub-write-signed : tie.Need-sub-write-signed Inv-loop μ-loop
 sub-write-signed c = search needs
 
--- src/numbers.rt:39:39
 part-write-signed-start : tie.Need-part-write-signed-start Inv-loop μ-loop
 part-write-signed-start c = search needs
 
--- src/numbers.rt:39:39
 part-write-signed-end : tie.Need-part-write-signed-end Inv-loop μ-loop
 part-write-signed-end c = search needs
 
--- src/numbers.rt:39:13
 write-signed-requires : tie.Need-write-signed-requires Inv-loop μ-loop
 write-signed-requires c κs = search needs
 
--- src/numbers.rt:40:15
 cast-at : tie.Need-cast-at Inv-loop μ-loop
 cast-at c = search needs
 
--- src/numbers.rt:40:9
-add-at : tie.Need-add-at Inv-loop μ-loop
-add-at c = let vs = givenNumbers (c .before .before .before .before .before .before .before .before .before .before .args .content .now) in let m = c .before .before .before .before .before .before .before .before .before .before .args .out .now in let inside = c .before .before .before .before .before .before .before .before .before .before .pre in let o = c .before .before .before .before .before .before .before .loop .out in let at = c .before .before .before .before .before .before .before .loop .at in let i = c .before .before .before .before .before .before .before .loop .i in let so-far = c .before .before .before .before .before .before .before .loop .inv in let is = c .before .before .before .before .before .number-at .ensures in let more : i < length vs = omega (arith, length-given (c .before .before .before .before .before .before .before .before .before .before .args .content .now)) in let wrote = wrote-number (c .before .before .before .before .before .number-at .result) _ _ (c .before .before .before .write-signed .result) (c .before .before .before .before .before .number-at .ok) (c .before .before .before .write-signed .ensures) (rw is (putting-room vs m o at i so-far inside more)) in omega (arith, (putting-more vs m o at i so-far inside more _ (c .before .before .before .write-signed .result) (rw is at wrote) (c .before .before .out .given .1)) .inside)
+loop-again : tie.Need-loop-again Inv-loop μ-loop
+loop-again c =
+    let at-out = c .before .before in
+    let at-write-signed = at-out .before in
+    let at-number-at = at-write-signed .before .before in
+    let at-loop = at-number-at .before .before in
+    let at-start = at-loop .before .before .before in
+    let vs = givenNumbers (at-start .args .content .now) in
+    let m = at-start .args .out .now in
+    let inside = at-start .pre in
+    let o = at-loop .loop .out in
+    let at = at-loop .loop .at in
+    let i = at-loop .loop .i in
+    let so-far = at-loop .loop .inv in
+    let is = at-number-at .number-at .ensures in
+    let more : i < length vs = omega (arith, length-given (at-start .args .content .now)) in
+    let put = at-write-signed .write-signed in
+    let wrote =
+    wrote-number (at-number-at .number-at .result) _ _ (put .result) (at-number-at .number-at .ok) (put .ensures)
+    (rw is (putting-room vs m o at i so-far inside more)) in
+    putting-more vs m o at i so-far inside more _ (put .result) (rw is at wrote) (at-out .out .given .1)
 
--- src/numbers.rt:41:9
+add-at : tie.Need-add-at Inv-loop μ-loop
+add-at c = omega (arith, loop-again c .inside)
+
 add-i : tie.Need-add-i Inv-loop μ-loop
 add-i c = search needs
 
--- src/numbers.rt:37:5
 loop-less : tie.Need-loop-less Inv-loop μ-loop
 loop-less c = search needs
 
--- src/numbers.rt:37:5
-loop-again : tie.Need-loop-again Inv-loop μ-loop
-loop-again c = let vs = givenNumbers (c .before .before .before .before .before .before .before .before .before .before .args .content .now) in let m = c .before .before .before .before .before .before .before .before .before .before .args .out .now in let inside = c .before .before .before .before .before .before .before .before .before .before .pre in let o = c .before .before .before .before .before .before .before .loop .out in let at = c .before .before .before .before .before .before .before .loop .at in let i = c .before .before .before .before .before .before .before .loop .i in let so-far = c .before .before .before .before .before .before .before .loop .inv in let is = c .before .before .before .before .before .number-at .ensures in let more : i < length vs = omega (arith, length-given (c .before .before .before .before .before .before .before .before .before .before .args .content .now)) in let wrote = wrote-number (c .before .before .before .before .before .number-at .result) _ _ (c .before .before .before .write-signed .result) (c .before .before .before .before .before .number-at .ok) (c .before .before .before .write-signed .ensures) (rw is (putting-room vs m o at i so-far inside more)) in putting-more vs m o at i so-far inside more _ (c .before .before .before .write-signed .result) (rw is at wrote) (c .before .before .out .given .1)
-
--- src/numbers.rt:29:1
 same-length : tie.Need-same-length Inv-loop μ-loop
 same-length c = c .before .loop .inv .size
 
--- src/numbers.rt:29:1
 returns : tie.Need-returns Inv-loop μ-loop
-returns c = let s = c .before .before .before .before .args .content .now in putting-all (givenNumbers s) (c .before .before .before .before .args .out .now) (c .before .loop .out) (c .before .loop .at) (c .before .loop .i) (c .before .loop .inv) (omega (arith, length-given s))
+returns c =
+    let at-start = c .before .before .before .before in
+    let s = at-start .args .content .now in
+    putting-all (givenNumbers s) (at-start .args .out .now) (c .before .loop .out) (c .before .loop .at) (c .before .loop .i)
+    (c .before .loop .inv) (omega (arith, length-given s))
 
 pub put-numbers-spec : {M : Type 1} → statement M
 put-numbers-spec =

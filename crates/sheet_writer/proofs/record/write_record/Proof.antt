@@ -1,71 +1,75 @@
-use mathlib.Core.Path.{_∙_, sym, ap}
-use Rattle.sheet_writer.specs.Record.{table-only, plain-only, line-only, refused-kind}
+-- `sheet_writer::record::write_record` meets its contract: each kind by its own function, and any other number refused.
+-- Assumes nothing.
+use mathlib.Core.Path.{_∙_}
 use borrow.Author.Needs.{needs}
+use Rattle.sheet_writer.specs.Record.{table-only, plain-only, line-only, refused-kind}
 use Rattle.sheet_writer.proofs.record.write_record.Statement.{statement}
 use Rattle.sheet_writer.proofs.record.write_record.Tie as tie
-use Rattle.sheet_writer.proofs.record.write_record.Reads as reads
-use Rattle.sheet_writer.proofs.record.write_record.Lts as lts
-use Rattle.sheet_writer.proofs.done.refused.Reads as refused-reads
-use Rattle.sheet_writer.proofs.line.write_line.Reads as write-line-reads
-use Rattle.sheet_writer.proofs.packed.write_packed.Reads as write-packed-reads
-use Rattle.sheet_writer.proofs.plain.write_plain.Reads as write-plain-reads
-use Rattle.sheet_writer.proofs.table.write_table.Reads as write-table-reads
 
--- src/record.rt:21:14
 write-table-requires : tie.Need-write-table-requires
 write-table-requires c κs = search needs
 
--- src/record.rt:22:14
 write-packed-requires : tie.Need-write-packed-requires
 write-packed-requires c κs = search needs
 
--- src/record.rt:23:14
 write-plain-requires : tie.Need-write-plain-requires
 write-plain-requires c κs = search needs
 
--- src/record.rt:24:14
 write-line-requires : tie.Need-write-line-requires
 write-line-requires c κs = search needs
 
--- src/record.rt:25:14
 refused-requires : tie.Need-refused-requires
 refused-requires c κs = search needs
 
--- src/record.rt:17:1
 same-length : tie.Need-same-length
 same-length c = search needs
 
--- src/record.rt:17:1
 returns : tie.Need-returns
-returns c = let a = c .before .before .before .before .before .before .before .before .args in rw (c .before .before .before .before .match .keys1) (c .before .before .write-table .ensures ∙ table-only (a .row) (a .table .now) (a .content .now) (a .state) (a .out .now))
+returns c =
+    let at-write-table = c .before .before in
+    let at-match = at-write-table .before .before in
+    let at-start = at-match .before .before .before .before in
+    let a = at-start .args in
+    rw (at-match .match .keys1)
+    (at-write-table .write-table .ensures ∙ table-only (a .row) (a .table .now) (a .content .now) (a .state) (a .out .now))
 
--- src/record.rt:17:1
 same-length-2 : tie.Need-same-length-2
 same-length-2 c = search needs
 
--- src/record.rt:17:1
 returns-2 : tie.Need-returns-2
 returns-2 c = rw (c .before .before .before .before .match .keys2) (c .before .before .write-packed .ensures)
 
--- src/record.rt:17:1
 same-length-3 : tie.Need-same-length-3
 same-length-3 c = search needs
 
--- src/record.rt:17:1
 returns-3 : tie.Need-returns-3
-returns-3 c = let a = c .before .before .before .before .before .before .before .before .args in rw (c .before .before .before .before .match .keys3) (c .before .before .write-plain .ensures ∙ plain-only (a .row) (a .table .now) (a .content .now) (a .state) (a .out .now))
+returns-3 c =
+    let at-write-plain = c .before .before in
+    let at-match = at-write-plain .before .before in
+    let at-start = at-match .before .before .before .before in
+    let a = at-start .args in
+    rw (at-match .match .keys3)
+    (at-write-plain .write-plain .ensures ∙ plain-only (a .row) (a .table .now) (a .content .now) (a .state) (a .out .now))
 
--- src/record.rt:17:1
 same-length-4 : tie.Need-same-length-4
 same-length-4 c = search needs
 
--- src/record.rt:17:1
 returns-4 : tie.Need-returns-4
-returns-4 c = let a = c .before .before .before .before .before .before .before .before .args in rw (c .before .before .before .before .match .keys4) (c .before .before .write-line .ensures ∙ line-only (a .row) (a .table .now) (a .content .now) (a .state) (a .out .now))
+returns-4 c =
+    let at-write-line = c .before .before in
+    let at-match = at-write-line .before .before in
+    let at-start = at-match .before .before .before .before in
+    let a = at-start .args in
+    rw (at-match .match .keys4)
+    (at-write-line .write-line .ensures ∙ line-only (a .row) (a .table .now) (a .content .now) (a .state) (a .out .now))
 
--- src/record.rt:17:1
 returns-5 : tie.Need-returns-5
-returns-5 c = let a = c .before .before .before .before .before .args in let none = c .before .match .rest in refused-kind (a .row) (a .table .now) (a .content .now) (a .state) (a .out .now) (a .kind) (none .0 .0 .0 .1) (none .0 .0 .1) (none .0 .1) (none .1) (c .refused .result) (c .refused .ensures)
+returns-5 c =
+    let at-start = c .before .before .before .before .before in
+    let a = at-start .args in
+    let none = c .before .match .rest in
+    refused-kind (a .row) (a .table .now) (a .content .now) (a .state) (a .out .now) (a .kind) (none .0 .0 .0 .1) (none .0 .0 .1)
+    (none .0 .1) (none .1) (c .refused .result) (c .refused .ensures)
 
 pub write-record-spec : {M : Type 1} → statement M
 write-record-spec =

@@ -46,11 +46,11 @@ fn list_accepted(read: RecordRead, body: &[u8], state: SheetState, out: &mut [u8
     let mut text = [0u8; 128];
     let n = put_record_line(&mut text, read, body);
     let given = give(&text[..n], out);
-    let number = given.number;
+    let full = given.number;
     let count = given.count;
-    if number != 0 {
+    if full != 0 {
         return Listed {
-            read: refused(number, state),
+            read: refused(full, state),
             count,
         };
     }

@@ -1,16 +1,12 @@
+-- `list_sheet::list_sheet` is safe and ends. What is carried on is within the memory, which keeps its lengths, and there are no more
+-- rows than records; the measure is what is left of a u64 for them. Assumes nothing.
 use Prim.Native.Nat.{_-_, _≤_}
-use native.Mathlib.Omega.{arith}
 use mathlib.Core.Path.{_≡_}
 use lib.ListN.{length}
 use borrow.Author.Needs.{needs}
 use Rattle.list_sheet.specs.Sound.{Sound}
 use Rattle.list_sheet.proofs.list_sheet.Statement.{statement}
 use Rattle.list_sheet.proofs.list_sheet.Tie as tie
-use Rattle.list_sheet.proofs.list_sheet.Reads as reads
-use Rattle.list_sheet.proofs.list_sheet.Lts as lts
-use Rattle.list_sheet.proofs.output.finish.Reads as finish-reads
-use Rattle.list_sheet.proofs.turn.begin.Reads as begin-reads
-use Rattle.list_sheet.proofs.turn.take_turn.Reads as take-turn-reads
 
 abbrev Inv-loop : tie.InvT-loop
 Inv-loop bytes₀ table₀ block₀ at₀ index₀ bytes table block at index =
@@ -20,63 +16,48 @@ Inv-loop bytes₀ table₀ block₀ at₀ index₀ bytes table block at index =
 abbrev μ-loop : tie.MeasureT-loop
 μ-loop bytes₀ table₀ block₀ at₀ index₀ bytes table block at index = 18446744073709551615 - index
 
--- src/main.rt:28:9
 begin-requires : tie.Need-begin-requires Inv-loop μ-loop
 begin-requires c κs = search needs
 
--- src/main.rt:30:5
 loop-holds : tie.Need-loop-holds Inv-loop μ-loop
 loop-holds c = search needs
 
--- src/main.rt:31:13
 take-turn-requires : tie.Need-take-turn-requires Inv-loop μ-loop
 take-turn-requires c κs = search needs
 
--- src/main.rt:33:13
 finish-requires : tie.Need-finish-requires Inv-loop μ-loop
 finish-requires c κs = search needs
 
--- src/main.rt:34:13
 same-length : tie.Need-same-length Inv-loop μ-loop
 same-length c = search needs
 
--- src/main.rt:34:13
 same-length-2 : tie.Need-same-length-2 Inv-loop μ-loop
 same-length-2 c = search needs
 
--- src/main.rt:34:13
 same-length-3 : tie.Need-same-length-3 Inv-loop μ-loop
 same-length-3 c = search needs
 
--- src/main.rt:34:13
 returns : tie.Need-returns Inv-loop μ-loop
 returns c = search needs
 
--- src/main.rt:37:9
 add-index : tie.Need-add-index Inv-loop μ-loop
 add-index c = search needs
 
--- src/main.rt:30:5
 loop-less : tie.Need-loop-less Inv-loop μ-loop
 loop-less c = search needs
 
--- src/main.rt:30:5
 loop-again : tie.Need-loop-again Inv-loop μ-loop
 loop-again c = search needs
 
--- src/main.rt:24:1
 same-length-4 : tie.Need-same-length-4 Inv-loop μ-loop
 same-length-4 c = search needs
 
--- src/main.rt:24:1
 same-length-5 : tie.Need-same-length-5 Inv-loop μ-loop
 same-length-5 c = search needs
 
--- src/main.rt:24:1
 same-length-6 : tie.Need-same-length-6 Inv-loop μ-loop
 same-length-6 c = search needs
 
--- src/main.rt:24:1
 returns-2 : tie.Need-returns-2 Inv-loop μ-loop
 returns-2 c = search needs
 

@@ -1,3 +1,4 @@
+-- `sheet_listing::list_end`: the line is made aside and then given. Assumes nothing.
 use native.Mathlib.Omega.{arith}
 use mathlib.Core.Path.{sym}
 use lib.Seq.{length-take-le}
@@ -5,38 +6,38 @@ use Rattle.text.specs.Put.Laws.{put-front}
 use borrow.Author.Needs.{needs}
 use Rattle.sheet_listing.proofs.list_end.Statement.{statement}
 use Rattle.sheet_listing.proofs.list_end.Tie as tie
-use Rattle.sheet_listing.proofs.list_end.Reads as reads
-use Rattle.sheet_listing.proofs.list_end.Lts as lts
-use Rattle.sheet_listing.proofs.give.give.Reads as give-reads
-use Rattle.sheet_listing.proofs.line.put_last_line.Reads as put-last-line-reads
 
--- src/lib.rt:27:27
 slice-aggregate-put-last-line : tie.Need-slice-aggregate-put-last-line
 slice-aggregate-put-last-line c = search needs
 
--- src/lib.rt:27:9
 put-last-line-requires : tie.Need-put-last-line-requires
 put-last-line-requires c κs = search needs
 
--- src/lib.rt:28:10
 array-share-prefix-text : tie.Need-array-share-prefix-text
 array-share-prefix-text c = search needs
 
--- src/lib.rt:28:10
 slice-aggregate-give : tie.Need-slice-aggregate-give
-slice-aggregate-give c = sym (length-take-le (c .before .before .put-last-line .result) (c .before .before .put-last-line .last .0) (omega (arith, c .before .before .put-last-line .kept .0)))
+slice-aggregate-give c =
+    let at-put-last-line = c .before .before in
+    sym
+    (length-take-le (at-put-last-line .put-last-line .result) (at-put-last-line .put-last-line .last .0)
+     (omega (arith, at-put-last-line .put-last-line .kept .0)))
 
--- src/lib.rt:28:5
 give-requires : tie.Need-give-requires
-give-requires c κs = omega (arith, length-take-le (c .before .before .before .put-last-line .result) (c .before .before .before .put-last-line .last .0) (omega (arith, c .before .before .before .put-last-line .kept .0)))
+give-requires c κs =
+    let at-put-last-line = c .before .before .before in
+    omega
+    (arith, length-take-le (at-put-last-line .put-last-line .result) (at-put-last-line .put-last-line .last .0)
+     (omega (arith, at-put-last-line .put-last-line .kept .0)))
 
--- src/lib.rt:23:1
 same-length : tie.Need-same-length
 same-length c = search needs
 
--- src/lib.rt:23:1
 returns : tie.Need-returns
-returns c = rw (put-front (c .before .before .before .before .before .before .put-last-line .ensures .0)) at (c .before .before .give .ensures)
+returns c =
+    let at-give = c .before .before in
+    let at-put-last-line = at-give .before .before .before .before in
+    rw (put-front (at-put-last-line .put-last-line .ensures .0)) at (at-give .give .ensures)
 
 pub list-end-spec : {M : Type 1} → statement M
 list-end-spec =

@@ -1,48 +1,63 @@
+-- `sheet_listing::list_record`: the record is refused, or its body is there and is listed. Assumes nothing.
 use mathlib.Core.Path.{_∙_}
 use Rattle.sheet_listing.specs.Listed.Laws.{listed-refused, body-start, body-there, body-table, listed-accepted}
 use borrow.Author.Needs.{needs}
 use Rattle.sheet_listing.proofs.list_record.Statement.{statement}
 use Rattle.sheet_listing.proofs.list_record.Tie as tie
-use Rattle.sheet_listing.proofs.list_record.Reads as reads
-use Rattle.sheet_listing.proofs.list_record.Lts as lts
-use Rattle.sheet_listing.proofs.list_accepted.Reads as list-accepted-reads
-use Rattle.sheet_reader.proofs.judge_record.Reads as judge-record-reads
 
--- src/lib.rt:31:9
 judge-record-requires : tie.Need-judge-record-requires
 judge-record-requires c κs = search needs
 
--- src/lib.rt:34:9
 returns : tie.Need-returns
-returns c = listed-refused (c .before .before .before .before .before .args .table .now) (c .before .before .before .before .before .args .sheet .now) (c .before .before .before .before .before .args .state) (c .before .before .before .before .before .args .out .now) _ (c .before .judge-record .ensures) (c .if1 .taken)
+returns c =
+    let at-start = c .before .before .before .before .before in
+    listed-refused (at-start .args .table .now) (at-start .args .sheet .now) (at-start .args .state) (at-start .args .out .now) _
+    (c .before .judge-record .ensures) (c .if1 .taken)
 
--- src/lib.rt:36:15
 cast-end : tie.Need-cast-end
 cast-end c = search needs
 
--- src/lib.rt:37:16
 sub-body : tie.Need-sub-body
-sub-body c = body-start (c .before .before .before .before .before .before .args .table .now) (c .before .before .before .before .before .before .args .sheet .now) (c .before .before .before .before .before .before .args .state) (c .before .before .before .before .before .before .args .out .now) _ (c .before .before .judge-record .ensures) (c .before .if1 .left)
+sub-body c =
+    let at-judge-record = c .before .before in
+    let at-start = at-judge-record .before .before .before .before in
+    body-start (at-start .args .table .now) (at-start .args .sheet .now) (at-start .args .state) (at-start .args .out .now) _
+    (at-judge-record .judge-record .ensures) (c .before .if1 .left)
 
--- src/lib.rt:37:16
 part-body-start : tie.Need-part-body-start
-part-body-start c = body-start (c .before .before .before .before .before .before .args .table .now) (c .before .before .before .before .before .before .args .sheet .now) (c .before .before .before .before .before .before .args .state) (c .before .before .before .before .before .before .args .out .now) _ (c .before .before .judge-record .ensures) (c .before .if1 .left)
+part-body-start c =
+    let at-judge-record = c .before .before in
+    let at-start = at-judge-record .before .before .before .before in
+    body-start (at-start .args .table .now) (at-start .args .sheet .now) (at-start .args .state) (at-start .args .out .now) _
+    (at-judge-record .judge-record .ensures) (c .before .if1 .left)
 
--- src/lib.rt:37:16
 part-body-end : tie.Need-part-body-end
-part-body-end c = body-there (c .before .before .before .before .before .before .args .table .now) (c .before .before .before .before .before .before .args .sheet .now) (c .before .before .before .before .before .before .args .state) (c .before .before .before .before .before .before .args .out .now) _ (c .before .before .judge-record .ensures) (c .before .if1 .left)
+part-body-end c =
+    let at-judge-record = c .before .before in
+    let at-start = at-judge-record .before .before .before .before in
+    body-there (at-start .args .table .now) (at-start .args .sheet .now) (at-start .args .state) (at-start .args .out .now) _
+    (at-judge-record .judge-record .ensures) (c .before .if1 .left)
 
--- src/lib.rt:38:5
 list-accepted-requires : tie.Need-list-accepted-requires
-list-accepted-requires c κs = body-table (c .before .before .before .before .before .before .before .before .args .table .now) (c .before .before .before .before .before .before .before .before .args .sheet .now) (c .before .before .before .before .before .before .before .before .args .state) (c .before .before .before .before .before .before .before .before .args .out .now) _ (c .before .before .before .before .judge-record .ensures) (c .before .before .before .if1 .left)
+list-accepted-requires c κs =
+    let at-if1 = c .before .before .before in
+    let at-judge-record = at-if1 .before in
+    let at-start = at-judge-record .before .before .before .before in
+    body-table (at-start .args .table .now) (at-start .args .sheet .now) (at-start .args .state) (at-start .args .out .now) _
+    (at-judge-record .judge-record .ensures) (at-if1 .if1 .left)
 
--- src/lib.rt:28:1
 same-length : tie.Need-same-length
 same-length c = search needs
 
--- src/lib.rt:28:1
 returns-2 : tie.Need-returns-2
-returns-2 c = c .before .before .list-accepted .ensures ∙ listed-accepted (c .before .before .before .before .before .before .before .before .before .before .before .args .table .now) (c .before .before .before .before .before .before .before .before .before .before .before .args .sheet .now) (c .before .before .before .before .before .before .before .before .before .before .before .args .state) (c .before .before .before .before .before .before .before .before .before .before .before .args .out .now) _ (c .before .before .before .before .before .before .before .judge-record .ensures) (c .before .before .before .before .before .before .if1 .left)
+returns-2 c =
+    let at-list-accepted = c .before .before in
+    let at-if1 = at-list-accepted .before .before .before .before in
+    let at-judge-record = at-if1 .before in
+    let at-start = at-judge-record .before .before .before .before in
+    at-list-accepted .list-accepted .ensures
+    ∙ listed-accepted (at-start .args .table .now) (at-start .args .sheet .now) (at-start .args .state) (at-start .args .out .now)
+      _ (at-judge-record .judge-record .ensures) (at-if1 .if1 .left)
 
 pub list-record-spec : {M : Type 1} → statement M
 list-record-spec =

@@ -1,3 +1,4 @@
+-- `list_sheet::output::finish` is safe: the last line is within the block. Assumes nothing.
 use Prim.Native.Nat.{_-_}
 use native.Mathlib.Omega.{arith}
 use mathlib.Core.Path.{_≡_}
@@ -9,48 +10,34 @@ use Rattle.sheet_listing.specs.Listed.Laws.{given-count}
 use borrow.Author.Needs.{needs}
 use Rattle.list_sheet.proofs.output.finish.Statement.{statement}
 use Rattle.list_sheet.proofs.output.finish.Tie as tie
-use Rattle.list_sheet.proofs.output.finish.Reads as reads
-use Rattle.list_sheet.proofs.output.finish.Lts as lts
-use Rattle.list_sheet.proofs.output.write_block.Reads as write-block-reads
-use Rattle.sheet_listing.proofs.list_end.Reads as list-end-reads
 
--- src/output.rt:48:9
 write-block-requires : tie.Need-write-block-requires
 write-block-requires c κs = search needs
 
--- src/output.rt:49:9
 same-length : tie.Need-same-length
 same-length c = search needs
 
--- src/output.rt:49:9
 returns : tie.Need-returns
 returns c = search needs
 
--- src/output.rt:51:56
 sub-list-end : tie.Need-sub-list-end
 sub-list-end c = search needs
 
--- src/output.rt:51:56
 part-list-end-start : tie.Need-part-list-end-start
 part-list-end-start c = search needs
 
--- src/output.rt:51:56
 part-list-end-end : tie.Need-part-list-end-end
 part-list-end-end c = search needs
 
--- src/output.rt:51:9
 list-end-requires : tie.Need-list-end-requires
 list-end-requires c κs = search needs
 
--- src/output.rt:52:24
 cast-end : tie.Need-cast-end
 cast-end c = search needs
 
--- src/output.rt:52:15
 add-end : tie.Need-add-end
 add-end c = search needs
 
--- src/output.rt:53:5
 write-block-requires-2 : tie.Need-write-block-requires-2
 write-block-requires-2 c κs =
     let start = c .before .before .before .before .before .before .before .before .before in
@@ -64,11 +51,9 @@ write-block-requires-2 c κs =
     let size : length (putMid filled left block (ended .last .1 .1 .1 .0)) ≡ length block = same-len-mid filled left block (ended .last .1 .1 .1 .0) (ended .kept .1 .1 .1 .0) in
     rw size (omega (arith, start .pre, line, length-take-le left rest (omega arith)))
 
--- src/output.rt:42:1
 same-length-2 : tie.Need-same-length-2
 same-length-2 c = search needs
 
--- src/output.rt:42:1
 returns-2 : tie.Need-returns-2
 returns-2 c = search needs
 

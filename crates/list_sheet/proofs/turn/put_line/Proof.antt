@@ -1,3 +1,4 @@
+-- `list_sheet::turn::put_line`: the line is within the block, and an accepted record's bytes are there. Assumes nothing.
 use native.Mathlib.Omega.{arith}
 use mathlib.Core.Path.{_≡_, sym}
 use lib.Seq.{length-take-le}
@@ -7,35 +8,27 @@ use Rattle.sheet_listing.specs.Listed.Laws.{listed-count, listed-length}
 use borrow.Author.Needs.{needs}
 use Rattle.list_sheet.proofs.turn.put_line.Statement.{statement}
 use Rattle.list_sheet.proofs.turn.put_line.Tie as tie
-use Rattle.list_sheet.proofs.turn.put_line.Reads as reads
-use Rattle.list_sheet.proofs.turn.put_line.Lts as lts
-use Rattle.sheet_listing.proofs.list_record.Reads as list-record-reads
 
--- src/turn.rt:134:17
 slice-aggregate-list-record : tie.Need-slice-aggregate-list-record
-slice-aggregate-list-record c = sym (length-take-le (c .before .before .before .before .before .args .at .kept) (c .before .before .before .before .before .args .table .now) (c .before .before .before .before .before .pre .0))
+slice-aggregate-list-record c =
+    let at-start = c .before .before .before .before .before in
+    sym (length-take-le (at-start .args .at .kept) (at-start .args .table .now) (at-start .pre .0))
 
--- src/turn.rt:134:47
 sub-list-record : tie.Need-sub-list-record
 sub-list-record c = search needs
 
--- src/turn.rt:134:47
 part-list-record-start : tie.Need-part-list-record-start
 part-list-record-start c = search needs
 
--- src/turn.rt:134:47
 part-list-record-end : tie.Need-part-list-record-end
 part-list-record-end c = search needs
 
--- src/turn.rt:134:5
 list-record-requires : tie.Need-list-record-requires
 list-record-requires c κs = search needs
 
--- src/turn.rt:126:1
 same-length : tie.Need-same-length
 same-length c = search needs
 
--- src/turn.rt:126:1
 returns : tie.Need-returns
 returns c =
     let start = c .before .before .before .before .before .before .before .before .before in

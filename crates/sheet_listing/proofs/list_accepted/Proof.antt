@@ -23,14 +23,16 @@ slice-aggregate-give c =
     let at-put-record-line = c .before .before in
     sym
     (length-take-le (at-put-record-line .put-record-line .result) (at-put-record-line .put-record-line .last .0)
-     (omega (arith, at-put-record-line .put-record-line .kept .0)))
+    (omega (arith, at-put-record-line .put-record-line .kept .0)))
 
 give-requires : tie.Need-give-requires
 give-requires c κs =
     let at-put-record-line = c .before .before .before in
-    omega
-    (arith, length-take-le (at-put-record-line .put-record-line .result) (at-put-record-line .put-record-line .last .0)
-     (omega (arith, at-put-record-line .put-record-line .kept .0)))
+    omega (
+      arith,
+      length-take-le (at-put-record-line .put-record-line .result) (at-put-record-line .put-record-line .last .0)
+          (omega (arith, at-put-record-line .put-record-line .kept .0)),
+    )
 
 refused-requires : tie.Need-refused-requires
 refused-requires c κs = search needs
@@ -45,8 +47,8 @@ returns c =
     let at-start = at-put-record-line .before .before .before .before in
     rw (c .refused .ensures)
     (listed-full (answerLine (at-start .args .read) (at-start .args .body .now)) (at-start .args .read) (at-start .args .state)
-     (at-start .args .out .now) (rw (put-front (at-put-record-line .put-record-line .ensures .0)) at (at-give .give .ensures))
-     (c .before .if1 .taken))
+    (at-start .args .out .now) (rw (put-front (at-put-record-line .put-record-line .ensures .0)) at (at-give .give .ensures))
+    (c .before .if1 .taken))
 
 same-length-2 : tie.Need-same-length-2
 same-length-2 c = search needs

@@ -21,14 +21,16 @@ slice-aggregate-give c =
     let at-put-last-line = c .before .before in
     sym
     (length-take-le (at-put-last-line .put-last-line .result) (at-put-last-line .put-last-line .last .0)
-     (omega (arith, at-put-last-line .put-last-line .kept .0)))
+    (omega (arith, at-put-last-line .put-last-line .kept .0)))
 
 give-requires : tie.Need-give-requires
 give-requires c κs =
     let at-put-last-line = c .before .before .before in
-    omega
-    (arith, length-take-le (at-put-last-line .put-last-line .result) (at-put-last-line .put-last-line .last .0)
-     (omega (arith, at-put-last-line .put-last-line .kept .0)))
+    omega (
+      arith,
+      length-take-le (at-put-last-line .put-last-line .result) (at-put-last-line .put-last-line .last .0)
+          (omega (arith, at-put-last-line .put-last-line .kept .0)),
+    )
 
 same-length : tie.Need-same-length
 same-length c = search needs

@@ -57,7 +57,7 @@ returns-2 c =
     let at-start = at-judge-record .before .before .before .before in
     at-list-accepted .list-accepted .ensures
     ∙ listed-accepted (at-start .args .table .now) (at-start .args .sheet .now) (at-start .args .state) (at-start .args .out .now)
-      _ (at-judge-record .judge-record .ensures) (at-if1 .if1 .left)
+    _ (at-judge-record .judge-record .ensures) (at-if1 .if1 .left)
 
 pub list-record-spec : {M : Type 1} → statement M
 list-record-spec =

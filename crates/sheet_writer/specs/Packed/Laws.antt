@@ -110,7 +110,7 @@ module _ {row : ℕ} {tb c : List ℕ} {st : SheetState} {m : List ℕ} {start :
     pack-few = omega (arith, fine .few, length-halves c)
 
     pub pack-most : r .count ≤ 110592
-    pack-most = bits-most tb c m (fine .table) pack-few (r .count) (record { none-above = fine .pixels; is = bits-are })
+    pack-most = bits-most tb c m (fine .table) pack-few (record { none-above = fine .pixels; is = bits-are })
 
     -- no room for the fields: nothing was packed, nor had it room
     pub pack-short : start < 10 → (a : RecordWritten) → a ≡ record { number = 5; count = 0; state = st }

@@ -22,7 +22,7 @@ returns c =
     let at-start = at-put-line .before .before .before .before .before .before in
     rw (c .last .ensures)
     (record
-     { kept = at-start .pre .1 .1 .kept; filled = omega (arith, at-start .pre .1 .1 .filled, at-put-line .put-line .kept .1 .1 .0); rows = omega arith })
+    { kept = at-start .pre .1 .1 .kept; filled = omega (arith, at-start .pre .1 .1 .filled, at-put-line .put-line .kept .1 .1 .0); rows = omega arith })
 
 keep-table-requires : tie.Need-keep-table-requires
 keep-table-requires c κs =

@@ -21,7 +21,7 @@ returns c =
     let at-start = at-make-room .before .before .before .before .before in
     rw (c .last .ensures)
     (record
-     { kept = at-start .pre .1 .1 .1 .kept; filled = at-make-room .make-room .ensures; rows = omega (arith, at-start .pre .1 .1 .1 .rows) })
+    { kept = at-start .pre .1 .1 .1 .kept; filled = at-make-room .make-room .ensures; rows = omega (arith, at-start .pre .1 .1 .1 .rows) })
 
 fill-requires : tie.Need-fill-requires
 fill-requires c κs = search needs
@@ -41,7 +41,7 @@ returns-2 c =
     let at-start = at-make-room .before .before .before .before .before in
     rw (c .last2 .ensures)
     (record
-     { kept = at-start .pre .1 .1 .1 .kept; filled = at-make-room .make-room .ensures; rows = omega (arith, at-start .pre .1 .1 .1 .rows) })
+    { kept = at-start .pre .1 .1 .1 .kept; filled = at-make-room .make-room .ensures; rows = omega (arith, at-start .pre .1 .1 .1 .rows) })
 
 number-at-end-requires : tie.Need-number-at-end-requires
 number-at-end-requires c κs = search needs
@@ -61,7 +61,7 @@ returns-3 c =
     let at-start = at-make-room .before .before .before .before .before in
     rw (c .last3 .ensures)
     (record
-     { kept = at-start .pre .1 .1 .1 .kept; filled = at-make-room .make-room .ensures; rows = omega (arith, at-start .pre .1 .1 .1 .rows) })
+    { kept = at-start .pre .1 .1 .1 .kept; filled = at-make-room .make-room .ensures; rows = omega (arith, at-start .pre .1 .1 .1 .rows) })
 
 slice-reshare-prefix-list-one : tie.Need-slice-reshare-prefix-list-one
 slice-reshare-prefix-list-one c = search needs
@@ -72,7 +72,7 @@ slice-aggregate-list-one c =
     let at-start = at-fill .before .before .before .before .before .before .before .before .before in
     sym
     (length-take-le (at-fill .fill .result .count) (at-fill .fill .last .0)
-     (omega (arith, at-fill .fill .ensures, at-fill .fill .kept .0, at-start .pre .0)))
+    (omega (arith, at-fill .fill .ensures, at-fill .fill .kept .0, at-start .pre .0)))
 
 list-one-requires : tie.Need-list-one-requires
 list-one-requires c κs = search needs

@@ -2,7 +2,7 @@
 # make test       the gate: every proof, every must-fail edit, every comparison
 # make compare    the comparisons with second/ in full
 # make bench      ratios beside second/, in one run on one machine
-# make fuzz       mutated inputs of every C call against second/ for ten minutes
+# make fuzz       mutated inputs of the C calls against second/ for ten minutes
 # make samples    writes samples/ anew
 # make install    programs, archive, header and man pages below PREFIX
 .PHONY: all test compare bench fuzz samples install clean FORCE

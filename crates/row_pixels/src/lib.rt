@@ -2,9 +2,18 @@
 use bitstream::number::read_u16;
 use row_format::MAX_PIXEL;
 ghost use mathlib.Core.Path.{_≡_};
+ghost use Prim.Native.Nat.{_/_, _<_};
+ghost use lib.ListN.{length, getD};
 ghost use lib.Dec.{ltb};
 ghost use Rattle.bitstream.specs.Bits.{halvesOf};
 ghost use Rattle.row_format.specs.Lists.{any};
+
+pub fn pixel_at(pixels: &[u8], i: usize) -> u32
+    requires { ⌜ i < length (now pixels) / 2 ⌝ }
+    ensures { λ r. ⌜ r ≡ getD (halvesOf (now (pixels .entry))) i 0 ⌝ }
+{
+    read_u16(pixels, 2 * i)
+}
 
 // Whether a pixel is above 4095.
 pub fn any_above(pixels: &[u8]) -> bool
@@ -13,7 +22,7 @@ pub fn any_above(pixels: &[u8]) -> bool
     let n = pixels.len() / 2;
     let mut i = 0;
     while i < n {
-        if MAX_PIXEL < read_u16(pixels, 2 * i) {
+        if MAX_PIXEL < pixel_at(pixels, i) {
             return true;
         }
         i += 1;

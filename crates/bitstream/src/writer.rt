@@ -1,6 +1,6 @@
 // A writer of bit strings, one after the other, through a register that stores whole words.
 ghost use mathlib.Core.Path.{_≡_};
-ghost use Prim.Native.Nat.{_^_, _<_};
+ghost use Prim.Native.Nat.{_+_, _*_, _^_, _<_};
 ghost use Rattle.bitstream.specs.Writer.{Ready, Put, Closable, Finished};
 
 // words   whole words stored so far
@@ -40,6 +40,14 @@ pub fn put(out: &mut [u8], w: Writer, v: u32, n: u32) -> Writer
         count: count - 32,
         acc: acc / 4294967296,
     }
+}
+
+// How many bits were put.
+pub fn total(w: Writer) -> u32
+    requires { ⌜ 32 * (w .words) + w .count < 4294967296 ⌝ }
+    ensures { λ r. ⌜ r ≡ 32 * (w .words) + w .count ⌝ }
+{
+    32 * w.words as u32 + w.count
 }
 
 // Stores what the register still holds, with zeros above it. The answer is the count of words.

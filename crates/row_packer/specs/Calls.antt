@@ -7,7 +7,7 @@ use mathlib.Core.Bool.{true, false}
 use mathlib.Core.List.{List}
 use lib.ListN.{length}
 use lib.Dec.{ltb}
-use borrow.Author.Tests.{lt-ltb, le-ltb}
+use borrow.Author.Tests.{lt-ltb, le-ltb, ltb-false}
 use Rattle.bitstream.specs.Bits.{wordsOf, halvesOf, wordsFor}
 use Rattle.answer.specs.declared.Answer.{Answer}
 use Rattle.answer.specs.Outcome.{Outcome, answerOf, outcome, _orElse_, unless, countUnless}
@@ -19,9 +19,8 @@ use Rattle.row_format.specs.Calls.{checked, packNumber, packedRow, packed, room
 use Rattle.row_format.specs.Calls.Laws.{checked-number}
 use Rattle.row_format.specs.Theorems.Bounds.{length-rowBits}
 use Rattle.code_table.specs.Check.Laws.{length-words}
-use Rattle.row_packer.specs.Pixels.{inside-halves, past-halves}
-use Rattle.row_packer.specs.Measure.{Took}
-use Rattle.row_packer.specs.Write.{rowWritten}
+use Rattle.row_pixels.specs.Pixels.{inside-halves, past-halves}
+use Rattle.row_packer.specs.Write.{Written}
 
 -- ---- the table
 countUnless-done : (e c : ℕ) → e ≡ 0 → countUnless e c .count ≡ c
@@ -61,6 +60,10 @@ packed-table tb pb m is n =
     ap (λ (x : Answer). outcome x m) is
     ∙ refused-first (tableNumber tb) (maxItemBits (wordsOf tb)) _ m (packedRow (wordsOf tb) (halvesOf pb) m) (λ e. n (number-checked tb is ∙ e))
 
+-- the words that a row takes
+abbrev words : List ℕ → List ℕ → ℕ
+words tb pb = wordsFor (length (rowBits (wordsOf tb) (halvesOf pb)))
+
 module _ (tb pb m : List ℕ) (table : tableNumber tb ≡ 0) where
   -- 11
   pub packed-many : 4096 < length pb / 2 → outcome (answerOf 11 0) m ≡ packed tb pb m
@@ -72,31 +75,24 @@ module _ (tb pb m : List ℕ) (table : tableNumber tb ≡ 0) where
     few-pixels = le-ltb 4096 (length (halvesOf pb)) (past-halves pb few)
 
     -- 4
-    pub packed-above : any (ltb 4095) (halvesOf pb) ≡ true → outcome (answerOf 4 0) m ≡ packed tb pb m
+    pub packed-above : true ≡ any (ltb 4095) (halvesOf pb) → outcome (answerOf 4 0) m ≡ packed tb pb m
     unfolding packed packNumber
-    packed-above e = rw (table, few-pixels, e)
+    packed-above e = rw (table, few-pixels, ← e)
 
-    module _ {bits : ℕ} (took : Took (wordsOf tb) (halvesOf pb) bits) where
-      pub bits-most : bits ≤ 110592
-      bits-most =
-          let n = length (halvesOf pb) in
-          omega (arith, took .is, length-rowBits (wordsOf tb) (halvesOf pb), times-most tb table n (past-halves pb few))
-
+    module _ (none-above : false ≡ any (ltb 4095) (halvesOf pb)) where
       -- 5
-      pub packed-full : length m / 4 < (bits + 31) / 32 → outcome (answerOf 5 0) m ≡ packed tb pb m
+      pub packed-full : true ≡ ltb (length m / 4) (words tb pb) → outcome (answerOf 5 0) m ≡ packed tb pb m
       unfolding packed packNumber
-      packed-full h = rw (table, few-pixels, took .none-above, ← took .is, lt-ltb (length m / 4) (wordsFor bits) h)
+      packed-full e = rw (table, few-pixels, ← none-above, ← e)
 
-      -- done: there is room, and the row is written
-      pub room-enough : (bits + 31) / 32 ≤ length m / 4 → 4 * wordsFor (length (rowBits (wordsOf tb) (halvesOf pb))) ≤ length m
-      room-enough h = rw (← took .is) (omega arith)
+      module _ (enough : false ≡ ltb (length m / 4) (words tb pb)) where
+        -- done: there is room, and the row is written
+        pub room-enough : 4 * words tb pb ≤ length m
+        room-enough = omega (arith, ltb-false (length m / 4) (words tb pb) (sym enough))
 
-      pub packed-all : (bits + 31) / 32 ≤ length m / 4 → {o : List ℕ} → o ≡ rowWritten (wordsOf tb) (halvesOf pb) m → outcome (answerOf 0 bits) o ≡ packed tb pb m
-      unfolding packed packNumber packedRow
-      packed-all h e =
-          let enough : ltb (length m / 4) (wordsFor (length (rowBits (wordsOf tb) (halvesOf pb)))) ≡ false =
-          rw (← took .is) (le-ltb (length m / 4) (wordsFor bits) h) in
-          rw (table, few-pixels, took .none-above, enough, e, took .is)
+        pub packed-all : {o : List ℕ} {bits : ℕ} → Written (wordsOf tb) (halvesOf pb) m o bits → outcome (answerOf 0 bits) o ≡ packed tb pb m
+        unfolding packed packNumber packedRow
+        packed-all w = rw (table, few-pixels, ← none-above, ← enough, w .memory, w .bits)
 
 -- ---- the room question
 refused-count : (e c d k : ℕ) → (e ≡ 0 → ⊥) → countUnless e c ≡ countUnless (e orElse d) k

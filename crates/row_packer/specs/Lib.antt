@@ -1,5 +1,4 @@
 pub mod Header
-pub mod Pixels
 pub mod Item
 pub mod Field
 pub mod Encode

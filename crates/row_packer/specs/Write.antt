@@ -16,6 +16,11 @@ pub mod Laws
 abbrev pub rowWritten : List ℕ → List ℕ → List ℕ → List ℕ
 rowWritten t ps m = rowBytes t ps ++ drop (length (rowBytes t ps)) m
 
+-- after the row was written: m was the memory, o it is now, and the answer is r
+pub record Written (t ps m o : List ℕ) (r : ℕ) : Type 0 where
+  pub memory : o ≡ rowWritten t ps m
+  pub bits : r ≡ length (rowBits t ps)
+
 -- after i pixels: m was the memory, o it is now
 pub record Writing (t ps m o : List ℕ) (w : Writer) (p : Progress) (i : ℕ) : Type 0 where
   pub within : i ≤ length ps

@@ -5,6 +5,5 @@ mod header;
 mod item;
 mod measure;
 pub mod pack;
-mod pixel;
 pub mod room;
 mod write;

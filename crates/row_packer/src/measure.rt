@@ -1,26 +1,49 @@
-// The bits that a row takes, found before anything is written: a refusal has to leave the lent words as found.
+// Whether a row fits the words lent, found before anything is written: a refusal has to leave the lent words as found.
 use crate::encode::encode;
 use crate::header::Header;
-use crate::pixel::pixel_at;
+use row_pixels::pixel_at;
 ghost use mathlib.Core.Path.{_≡_};
+ghost use mathlib.Core.Bool.{false};
 ghost use Prim.Native.Nat.{_/_, _≤_};
 ghost use lib.ListN.{length};
-ghost use Rattle.bitstream.specs.Bits.{wordsOf, halvesOf};
+ghost use lib.Dec.{ltb};
+ghost use Rattle.bitstream.specs.Bits.{wordsOf, halvesOf, wordsFor};
+ghost use Rattle.row_format.specs.Lists.{any};
+ghost use Rattle.row_format.specs.Row.{rowBits};
+ghost use Rattle.row_format.specs.Table.{maxItemBits};
 ghost use Rattle.row_format.specs.Table.Laws.{Accepted};
 ghost use Rattle.row_packer.specs.Header.{HeaderOf};
-ghost use Rattle.row_packer.specs.Measure.{measured};
 
-// The bits that a row takes, or that a pixel of it is above 4095.
-pub enum RowBits {
-    Taken(u32),
-    PixelAbove,
-}
-
-pub fn measure(table: &[u8], header: Header, pixels: &[u8]) -> RowBits
+// Whether so many words are too few for the row, under a table whose longest item has `most` bits.
+pub fn too_short(table: &[u8], header: Header, most: u32, pixels: &[u8], lent: usize) -> bool
     requires { ⌜ Accepted (wordsOf (now table)) ⌝ }
     requires { ⌜ HeaderOf (wordsOf (now table)) header ⌝ }
+    requires { ⌜ most ≡ maxItemBits (wordsOf (now table)) ⌝ }
+    requires { ⌜ any (ltb 4095) (halvesOf (now pixels)) ≡ false ⌝ }
     requires { ⌜ length (now pixels) / 2 ≤ 4096 ⌝ }
-    ensures { λ r. ⌜ r ≡ measured (wordsOf (now (table .entry))) (halvesOf (now (pixels .entry))) ⌝ }
+    ensures { λ r. ⌜ r ≡ ltb lent (wordsFor (length (rowBits (wordsOf (now (table .entry))) (halvesOf (now (pixels .entry)))))) ⌝ }
+{
+    let longest = (pixels.len() / 2) as u32 * most;
+    // room for the longest row suffices for every row, unmeasured
+    if words_for(longest) <= lent {
+        return false;
+    }
+    lent < words_for(measure(table, header, pixels))
+}
+
+fn words_for(bits: u32) -> usize
+    requires { ⌜ bits ≤ 110592 ⌝ }
+    ensures { λ r. ⌜ r ≡ wordsFor bits ⌝ }
+{
+    ((bits + 31) / 32) as usize
+}
+
+fn measure(table: &[u8], header: Header, pixels: &[u8]) -> u32
+    requires { ⌜ Accepted (wordsOf (now table)) ⌝ }
+    requires { ⌜ HeaderOf (wordsOf (now table)) header ⌝ }
+    requires { ⌜ any (ltb 4095) (halvesOf (now pixels)) ≡ false ⌝ }
+    requires { ⌜ length (now pixels) / 2 ≤ 4096 ⌝ }
+    ensures { λ r. ⌜ r ≡ length (rowBits (wordsOf (now (table .entry))) (halvesOf (now (pixels .entry)))) ⌝ }
 {
     let n = pixels.len() / 2;
     // p      what the row has come to after i pixels
@@ -30,14 +53,11 @@ pub fn measure(table: &[u8], header: Header, pixels: &[u8]) -> RowBits
     let mut i = 0;
     while i < n {
         let pixel = pixel_at(pixels, i);
-        if 4095 < pixel {
-            return RowBits::PixelAbove;
-        }
         let coded = encode(table, header, p, pixel);
         let field = coded.field;
         bits += field.len;
         p = coded.next;
         i += 1;
     }
-    RowBits::Taken(bits)
+    bits
 }

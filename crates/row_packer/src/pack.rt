@@ -1,15 +1,16 @@
 // Packing a row. Document 01's order of refusals: 1, 2, 3, 11, 4, 5.
 use crate::header::header_of;
-use crate::measure::RowBits;
-use crate::measure::measure;
+use crate::measure::too_short;
 use crate::write::write;
 use answer::Answer;
 use code_table::check::check;
+use row_pixels::any_above;
 ghost use mathlib.Core.Path.{_≡_};
 ghost use Prim.Native.Nat.{_/_, _≤_};
 ghost use lib.ListN.{length};
+ghost use Rattle.bitstream.specs.Bits.{wordsOf};
 ghost use Rattle.answer.specs.Outcome.{outcome};
-ghost use Rattle.row_format.specs.Table.{tableNumber};
+ghost use Rattle.row_format.specs.Table.{tableNumber, maxItemBits};
 ghost use Rattle.row_format.specs.Calls.{packed};
 
 // Packs the pixels under the table into the words. The answer is the number and the bits that the row takes.
@@ -26,31 +27,31 @@ pub fn pack(table: &[u8], pixels: &[u8], words: &mut [u8]) -> Answer
             count: 0,
         };
     }
-    pack_row(table, pixels, words)
+    pack_row(table, checked.count, pixels, words)
 }
 
-// The same under an accepted table, of few enough pixels.
-fn pack_row(table: &[u8], pixels: &[u8], words: &mut [u8]) -> Answer
+// The same under an accepted table whose longest item has `most` bits, of few enough pixels.
+fn pack_row(table: &[u8], most: u32, pixels: &[u8], words: &mut [u8]) -> Answer
     requires { ⌜ tableNumber (now table) ≡ 0 ⌝ }
+    requires { ⌜ most ≡ maxItemBits (wordsOf (now table)) ⌝ }
     requires { ⌜ length (now pixels) / 2 ≤ 4096 ⌝ }
     ensures { λ r. ⌜ outcome r (now (words .exit)) ≡ packed (now (table .entry)) (now (pixels .entry)) (now (words .entry)) ⌝ }
 {
-    let header = header_of(table);
-    let RowBits::Taken(bits) = measure(table, header, pixels) else {
+    if any_above(pixels) {
         return Answer {
             number: 4,
             count: 0,
         };
-    };
-    if words.len() / 4 < ((bits + 31) / 32) as usize {
+    }
+    let header = header_of(table);
+    if too_short(table, header, most, pixels, words.len() / 4) {
         return Answer {
             number: 5,
             count: 0,
         };
     }
-    write(table, header, pixels, words);
     Answer {
         number: 0,
-        count: bits,
+        count: write(table, header, pixels, words),
     }
 }

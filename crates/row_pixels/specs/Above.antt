@@ -1,4 +1,4 @@
--- Looking a row's pixels through. Definitions only. Assumes nothing.
+-- The pass that looks for a pixel above 4095. Assumes nothing.
 use Prim.Native.Nat.{ℕ, _≤_}
 use mathlib.Core.Path.{_≡_}
 use mathlib.Core.List.{List}

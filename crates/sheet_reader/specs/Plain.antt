@@ -13,11 +13,6 @@ use Rattle.sheet_reader.specs.declared.row.RowFields.{RowFields}
 use Rattle.sheet_reader.specs.Row.{Fields}
 pub mod Laws
 
--- none of the first i pixels of the bytes s is above 4095
-pub record NoneAbove (s : List ℕ) (i : ℕ) : Type 0 where
-  pub within : 2 * i ≤ length s
-  pub rest : any (ltb 4095) (halvesOf s) ≡ any (ltb 4095) (halvesOf (drop (2 * i) s))
-
 -- what is known of an accepted record with the body b, whose fields are f
 pub record PlainAccepted (b : List ℕ) (st : SheetState) (room : ℕ) (f : RowFields) : Type 0 where
   pub fields : Fields b f

@@ -4,17 +4,14 @@ use crate::answers::refused;
 use crate::keep::keep;
 use crate::row::after_row;
 use crate::row::row_fields;
-use bitstream::number::read_u16;
+use row_pixels::any_above;
 use sheet_format::RecordRead;
 use sheet_format::SheetState;
 ghost use mathlib.Core.Path.{_≡_};
 ghost use mathlib.Core.List.{[]};
 ghost use Prim.Native.Nat.{_≤_};
 ghost use lib.ListN.{length};
-ghost use lib.Dec.{ltb};
-ghost use Rattle.bitstream.specs.Bits.{halvesOf};
 ghost use Rattle.answer.specs.Outcome.{_orElse_};
-ghost use Rattle.row_format.specs.Lists.{any};
 ghost use Rattle.sheet_format.specs.Record.{plainRecord, pixelCount, lent, plainNumber, lastRoomNumber};
 ghost use Rattle.sheet_reader.specs.Leaves.{ContentLeaves};
 
@@ -64,19 +61,4 @@ fn pixels_number(body: &[u8], count: u32, room: usize) -> u32
         return 5;
     }
     0
-}
-
-// Whether some pixel is above 4095.
-fn any_above(pixels: &[u8]) -> bool
-    ensures { λ r. ⌜ r ≡ any (ltb 4095) (halvesOf (now (pixels .entry))) ⌝ }
-{
-    let n = pixels.len() / 2;
-    let mut i = 0;
-    while i < n {
-        if 4095 < read_u16(pixels, 2 * i) {
-            return true;
-        }
-        i += 1;
-    }
-    false
 }

@@ -4,7 +4,6 @@ pub mod Frame
 pub mod Place
 pub mod Table
 pub mod Packed
-pub mod Pixels
 pub mod Plain
 pub mod Number
 pub mod Numbers

@@ -5,7 +5,6 @@ mod line;
 mod number;
 mod numbers;
 mod packed;
-mod pixels;
 mod place;
 mod plain;
 mod record;

@@ -2,10 +2,10 @@
 use crate::done::refused;
 use crate::done::written;
 use crate::fields::put_row_fields;
-use crate::pixels::any_above;
 use crate::place::after_row;
 use crate::place::row_place;
 use bytes::copy;
+use row_pixels::any_above;
 use sheet_format::RecordWritten;
 use sheet_format::SheetState;
 ghost use mathlib.Core.Path.{_≡_};

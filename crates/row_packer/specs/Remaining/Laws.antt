@@ -1,25 +1,17 @@
 -- The laws of what is left of a row. Assumes nothing.
 use Prim.Native.Nat.{ℕ, _+_, _≤_, _<_}
-use native.Mathlib.Numerals.{add-one}
-use native.Mathlib.Omega.{arith}
 use mathlib.Core.Path.{_≡_, ap, _∙_}
-use mathlib.Core.List.{List, [], _∷_, _++_}
-use lib.ListN.{length, drop, getD, length-append}
-use lib.Seq.{drop-cons, drop-length}
+use mathlib.Core.List.{List, [], _++_}
+use lib.ListN.{length, getD, length-append}
 use Rattle.bitstream.specs.Bits.{digits}
 use Rattle.bitstream.specs.Bits.Laws.{length-digits}
 use Rattle.row_format.specs.Row.{fresh, itemsFor, bits, rowBits}
 use Rattle.row_item.specs.declared.Progress.{Progress}
 use Rattle.row_item.specs.Coded.{progress}
+use Rattle.row_pixels.specs.Pixels.{drop-more, drop-end}
 use Rattle.row_packer.specs.Encode.{Encodes}
 use Rattle.row_packer.specs.Remaining.{remaining}
 use Rattle.row_packer.specs.declared.encode.Encoded.{Encoded}
-
-pub drop-more : (ps : List ℕ) (i : ℕ) {pixel : ℕ} → i < length ps → pixel ≡ getD ps i 0 → drop i ps ≡ pixel ∷ drop (i + 1) ps
-drop-more ps i h e = drop-cons ps i 0 h ∙ rw (e, add-one i)
-
-pub drop-end : (ps : List ℕ) (i : ℕ) → i ≤ length ps → length ps ≤ i → drop i ps ≡ []
-drop-end ps i h g = let e : i ≡ length ps = omega arith in rw e (drop-length ps)
 
 module _ (t ps : List ℕ) where
   -- at the start all is left

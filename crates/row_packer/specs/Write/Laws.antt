@@ -2,18 +2,13 @@
 use Prim.Native.Nat.{ℕ, _+_, _-_, _*_, _≤_, _<_}
 use native.Mathlib.Omega.{arith}
 use mathlib.Core.Path.{_≡_, refl, sym, ap, _∙_}
-use mathlib.Core.Bool.{false}
 use mathlib.Core.List.{List, [], _++_, append-assoc, append-nil}
 use lib.ListN.{length, take, drop, getD, take-append-drop}
 use lib.Seq.{drop-drop, length-take-le}
-use lib.Dec.{ltb}
-use borrow.Author.Tests.{ltb-false}
 use Rattle.bitstream.specs.Bits.{digits, flat, bytesOf, wordsFor}
 use Rattle.bitstream.specs.Bits.Laws.{Below, below-cut, below-take, length-cut, flat-cut, pad}
 use Rattle.bitstream.specs.Writer.{held, Ready, Closable, Put, Finished}
 use Rattle.bitstream.specs.declared.writer.Writer.{Writer}
-use Rattle.row_format.specs.Lists.{any}
-use Rattle.row_format.specs.Lists.Laws.{any-false-at}
 use Rattle.row_format.specs.BitLaws.{bitsOf-inj}
 use Rattle.row_format.specs.Row.{fresh, rowBits}
 use Rattle.row_format.specs.Theorems.Words.{below-rowBits}
@@ -23,7 +18,7 @@ use Rattle.row_packer.specs.Encode.{Encodes}
 use Rattle.row_packer.specs.Encode.Laws.{sound-progress}
 use Rattle.row_packer.specs.Remaining.{remaining}
 use Rattle.row_packer.specs.Remaining.Laws.{remaining-none, remaining-more, remaining-all, length-remaining-more}
-use Rattle.row_packer.specs.Write.{rowWritten, Writing}
+use Rattle.row_packer.specs.Write.{Written, Writing}
 use Rattle.row_packer.specs.declared.encode.Encoded.{Encoded}
 
 -- what is alike from a place on is alike from a later place on
@@ -31,10 +26,6 @@ drop-later : (a b : ℕ) (o m : List ℕ) → a ≤ b → drop a o ≡ drop a m 
 drop-later a b o m h e =
     let place : a + (b - a) ≡ b = omega arith in
     ap (λ (k : ℕ). drop k o) (sym place) ∙ sym (drop-drop (b - a) a o) ∙ ap (drop (b - a)) e ∙ drop-drop (b - a) a m ∙ ap (λ (k : ℕ). drop k m) place
-
--- a pixel of a row that has none above 4095
-pub pixel-most : (ps : List ℕ) (i : ℕ) {pixel : ℕ} → any (ltb 4095) ps ≡ false → i < length ps → pixel ≡ getD ps i 0 → pixel ≤ 4095
-pixel-most ps i none-above h e = rw e (ltb-false 4095 (getD ps i 0) (any-false-at (ltb 4095) ps i 0 none-above h))
 
 pub writing-none : (t ps m : List ℕ) {w : Writer} {p : Progress} → w ≡ record { words = 0; count = 0; acc = 0 } → p ≡ progress fresh → Writing t ps m m w p 0
 unfolding flat digits
@@ -85,23 +76,23 @@ module _ {t ps m o : List ℕ} {w : Writer} {p : Progress} {i : ℕ} (s : Writin
     end : remaining t ps p i ≡ []
     end = remaining-all t ps p i (s .within) g
 
-    count : 32 * (w .words) + w .count ≡ length (rowBits t ps)
-    count = omega (arith, s .sum, ap length end)
+    pub written-bits : 32 * (w .words) + w .count ≡ length (rowBits t ps)
+    written-bits = omega (arith, s .sum, ap length end)
 
     held-all : held o w ≡ rowBits t ps
     held-all = sym (append-nil (held o w)) ∙ ap (held o w ++_) (sym end) ∙ s .whole
 
     pub written-closable : Closable o w
-    written-closable = record { good = s .good; fits = rw count (omega (arith, s .size)) }
+    written-closable = record { good = s .good; fits = rw written-bits (omega (arith, s .size)) }
 
     -- the words hold the row's bits and zeros, and what follows them is as it was
-    pub written-all : {o′ : List ℕ} {n : ℕ} → Finished o w o′ n → length o′ ≡ length o → Below 256 o′ → o′ ≡ rowWritten t ps m
+    pub written-all : {o′ : List ℕ} {n : ℕ} → Finished o w o′ n → length o′ ≡ length o → Below 256 o′ → Written t ps m o′ (32 * (w .words) + w .count)
     written-all {o′} {n} f same bytes =
         let b = rowBits t ps in
-        let whole : n ≡ wordsFor (length b) = f .count ∙ ap wordsFor count in
+        let whole : n ≡ wordsFor (length b) = f .count ∙ ap wordsFor written-bits in
         let place : 8 * (4 * n) ≡ 32 * n = omega arith in
         let enough : 4 * n ≤ length o′ = omega (arith, s .size) in
-        let later : 4 * (w .words) ≤ 4 * n = omega (arith, count) in
+        let later : 4 * (w .words) ≤ 4 * n = omega (arith, written-bits) in
         let front : take (4 * n) o′ ≡ bytesOf (4 * n) b =
         bitsOf-inj (4 * n) (take (4 * n) o′) (bytesOf (4 * n) b)
         (below-take (4 * n) o′ bytes)
@@ -113,4 +104,7 @@ module _ {t ps m o : List ℕ} {w : Writer} {p : Progress} {i : ℕ} (s : Writin
         ∙ ap (λ (k : ℕ). pad k b) (sym place)
         ∙ sym (flat-cut 8 (4 * n) b (below-rowBits t ps))) in
         let back : drop (4 * n) o′ ≡ drop (4 * n) m = f .rest ∙ drop-later (4 * (w .words)) (4 * n) o m later (s .rest) in
-        sym (take-append-drop (4 * n) o′) ∙ rw (front, back, whole, length-cut 8 (4 * wordsFor (length b)) b)
+        record {
+          memory = sym (take-append-drop (4 * n) o′) ∙ rw (front, back, whole, length-cut 8 (4 * wordsFor (length b)) b);
+          bits = written-bits;
+        }

@@ -1,9 +1,9 @@
--- `row_packer::pixel::pixel_at` meets its contract: pixel i is the number of two bytes. Assumes nothing.
+-- `row_pixels::pixel_at` meets its contract: pixel i is the number of two bytes. Assumes nothing.
 use borrow.Author.Needs.{needs}
 use mathlib.Core.Path.{_∙_, sym}
-use Rattle.row_packer.specs.Pixels.{getD-halves}
-use Rattle.row_packer.proofs.pixel.pixel_at.Statement.{statement}
-use Rattle.row_packer.proofs.pixel.pixel_at.Tie as tie
+use Rattle.row_pixels.specs.Pixels.{getD-halves}
+use Rattle.row_pixels.proofs.pixel_at.Statement.{statement}
+use Rattle.row_pixels.proofs.pixel_at.Tie as tie
 
 mul-read-u16 : tie.Need-mul-read-u16
 mul-read-u16 c = search needs

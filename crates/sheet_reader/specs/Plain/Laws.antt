@@ -23,44 +23,7 @@ use Rattle.sheet_reader.specs.Part.{partFrom, partFrom-drop}
 use Rattle.sheet_reader.specs.Leaves.{ContentLeaves}
 use Rattle.sheet_reader.specs.Leaves.Laws.{orElse-assoc, given-first, given-next, refuses, holds}
 use Rattle.sheet_reader.specs.Row.{FieldsOf}
-use Rattle.sheet_reader.specs.Plain.{NoneAbove, PlainAccepted}
-
--- ---- whether some pixel is above 4095
-halvesOf-more : (s : List ℕ) → 2 ≤ length s → halvesOf s ≡ numberOf (take 2 s) ∷ halvesOf (drop 2 s)
-unfolding cut
-halvesOf-more s h =
-    let size : length s / 2 ≡ suc (length (drop 2 s) / 2) = rw (length-drop 2 s) (omega arith) in
-    rw (size, flat-take 8 2 s, flat-drop 8 2 s)
-
-halvesOf-none : (s : List ℕ) → length s < 2 → halvesOf s ≡ []
-unfolding cut
-halvesOf-none s h = let size : length s / 2 ≡ 0 = omega arith in rw size
-
-next-half : (s : List ℕ) (i : ℕ) {pixel : ℕ} → i < length s / 2 → pixel ≡ numberOf (take 2 (drop (2 * i) s))
-    → halvesOf (drop (2 * i) s) ≡ pixel ∷ halvesOf (drop (2 * i + 2) s)
-next-half s i h is =
-    halvesOf-more (drop (2 * i) s) (rw (length-drop (2 * i) s) (omega arith)) ∙ rw (← is, drop-drop 2 (2 * i) s)
-
-pub above-start : {s : List ℕ} → NoneAbove s 0
-above-start = record { within = omega arith; rest = refl }
-
-module _ {s : List ℕ} {i : ℕ} (so-far : NoneAbove s i) where
-  pub above-found : {pixel : ℕ} → i < length s / 2 → pixel ≡ numberOf (take 2 (drop (2 * i) s)) → 4095 < pixel
-      → true ≡ any (ltb 4095) (halvesOf s)
-  unfolding any
-  above-found {pixel} h is high = rw (so-far .rest, next-half s i h is, lt-ltb 4095 pixel high)
-
-  pub above-more : {pixel : ℕ} → i < length s / 2 → pixel ≡ numberOf (take 2 (drop (2 * i) s)) → pixel ≤ 4095 → NoneAbove s (i + 1)
-  unfolding any
-  above-more {pixel} h is low =
-      let place : 2 * (i + 1) ≡ 2 * i + 2 = omega arith in
-      record { within = omega arith; rest = so-far .rest ∙ rw (next-half s i h is, le-ltb 4095 pixel low, place) }
-
-  pub above-none : length s / 2 ≤ i → false ≡ any (ltb 4095) (halvesOf s)
-  unfolding any
-  above-none end =
-      let short : length (drop (2 * i) s) < 2 = rw (length-drop (2 * i) s) (omega arith) in
-      rw (so-far .rest, halvesOf-none (drop (2 * i) s) short)
+use Rattle.sheet_reader.specs.Plain.{PlainAccepted}
 
 -- ---- the number of the pixels
 abbrev pub pixelsNumber : List ℕ → ℕ → ℕ

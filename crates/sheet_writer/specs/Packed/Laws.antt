@@ -19,8 +19,9 @@ use Rattle.row_format.specs.Row.{rowBits}
 use Rattle.row_format.specs.Calls.{packNumber}
 use Rattle.row_format.specs.Calls.Laws.{Packable, packable, packed-done, packed-number}
 use Rattle.row_format.specs.Theorems.Memory.{packed-kept, packed-within}
-use Rattle.row_packer.specs.Pixels.{length-halves}
-use Rattle.row_packer.specs.Calls.{bits-most}
+use Rattle.row_pixels.specs.Pixels.{length-halves}
+use Rattle.row_packer.specs.Measure.Laws.{rowBits-most}
+use Rattle.row_packer.specs.Calls.{accepted-table}
 use Rattle.sheet_format.specs.declared.SheetState.{SheetState}
 use Rattle.sheet_format.specs.declared.RecordWritten.{RecordWritten}
 use Rattle.sheet_format.specs.Record.{packedRecord, kindNumber}
@@ -110,7 +111,7 @@ module _ {row : ℕ} {tb c : List ℕ} {st : SheetState} {m : List ℕ} {start :
     pack-few = omega (arith, fine .few, length-halves c)
 
     pub pack-most : r .count ≤ 110592
-    pack-most = bits-most tb c m (fine .table) pack-few (record { none-above = fine .pixels; is = bits-are })
+    pack-most = rw bits-are (rowBits-most (accepted-table tb (fine .table)) c refl pack-few)
 
     -- no room for the fields: nothing was packed, nor had it room
     pub pack-short : start < 10 → (a : RecordWritten) → a ≡ record { number = 5; count = 0; state = st }

@@ -1,12 +1,12 @@
--- `row_packer::measure::measure` meets its contract. The loop's invariant: no pixel passed is above 4095, and the bits counted
--- and the bits of what is left make the row's. The measure is the pixels left. Assumes nothing.
+-- `row_packer::measure::measure` meets its contract. The loop's invariant: the bits counted and the bits of what is left make
+-- the row's. The measure is the pixels left. Assumes nothing.
 use borrow.Author.Needs.{needs}
 use native.Mathlib.Omega.{arith}
 use Prim.Native.Nat.{_-_}
 use Rattle.bitstream.specs.Bits.{wordsOf, halvesOf}
-use Rattle.row_packer.specs.Pixels.{inside-halves, past-halves}
+use Rattle.row_pixels.specs.Pixels.{inside-halves, past-halves, pixel-most}
 use Rattle.row_packer.specs.Measure.{Measuring}
-use Rattle.row_packer.specs.Measure.Laws.{measuring-none, measuring-more, measured-above, measured-all}
+use Rattle.row_packer.specs.Measure.Laws.{measuring-none, measuring-more, measured-all}
 use Rattle.row_packer.proofs.measure.measure.Statement.{statement}
 use Rattle.row_packer.proofs.measure.measure.Tie as tie
 
@@ -27,24 +27,21 @@ loop-holds c =
 pixel-at-requires : tie.Need-pixel-at-requires Inv-loop μ-loop
 pixel-at-requires c κs = search needs
 
--- the pixel is above 4095
-returns : tie.Need-returns Inv-loop μ-loop
-returns c =
-    let turn = c .before .before in
-    let pixels = turn .before .before .before .before .before .args .pixels .now in
-    measured-above (turn .before .loop .inv) (inside-halves pixels (turn .loop-test .taken)) (c .before .pixel-at .ensures) (c .if1 .taken)
-
 encode-requires : tie.Need-encode-requires Inv-loop μ-loop
 encode-requires c κs =
-    let pre = c .before .before .before .before .before .before .before .pre in
-    (pre .0, (pre .1 .0, (c .before .before .before .loop .inv .sound, c .if1 .left)))
+    let turn = c .before in
+    let start = turn .before .before .before .before .before in
+    let pixels = start .args .pixels .now in
+    let inside = inside-halves pixels (turn .loop-test .taken) in
+    let low = pixel-most (halvesOf pixels) (turn .before .loop .i) (start .pre .1 .1 .0) inside (c .pixel-at .ensures) in
+    (start .pre .0, (start .pre .1 .0, (turn .before .loop .inv .sound, low)))
 
 add-bits : tie.Need-add-bits Inv-loop μ-loop
 add-bits c =
-    let coded = c .before .before .encode in
-    let inv = c .before .before .before .before .before .before .loop .inv in
-    let few = c .before .before .before .before .before .before .before .before .before .before .pre .1 .1 in
-    record { fits = omega (arith, coded .ensures .bits .most) }
+    let coded = c .before .before in
+    let turn = coded .before .before in
+    let few = turn .before .before .before .before .before .pre .1 .1 .1 in
+    record { fits = omega (arith, coded .encode .ensures .bits .most, turn .before .loop .inv .most, few, turn .loop-test .taken) }
 
 add-i : tie.Need-add-i Inv-loop μ-loop
 add-i c = search needs
@@ -55,13 +52,13 @@ loop-less c = search needs
 loop-again : tie.Need-loop-again Inv-loop μ-loop
 loop-again c =
     let coded = c .before .before .before in
-    let turn = coded .before .before .before in
+    let turn = coded .before .before in
     let inside = inside-halves (turn .before .before .before .before .before .args .pixels .now) (turn .loop-test .taken) in
-    measuring-more (turn .before .loop .inv) inside (coded .before .before .pixel-at .ensures) (coded .before .if1 .left) (coded .encode .ensures)
+    measuring-more (turn .before .loop .inv) inside (coded .before .pixel-at .ensures) (coded .encode .ensures)
 
 -- every pixel is measured
-returns-2 : tie.Need-returns-2 Inv-loop μ-loop
-returns-2 c =
+returns : tie.Need-returns Inv-loop μ-loop
+returns c =
     let pixels = c .before .before .before .before .before .args .pixels .now in
     measured-all (c .before .loop .inv) (past-halves pixels (c .loop-test .left))
 
@@ -74,10 +71,9 @@ measure-spec =
     start-requires
     loop-holds
     pixel-at-requires
-    returns
     encode-requires
     add-bits
     add-i
     loop-less
     loop-again
-    returns-2)
+    returns)

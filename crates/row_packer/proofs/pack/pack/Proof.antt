@@ -1,6 +1,6 @@
 -- `row_packer::pack::pack` meets its contract: the refusals 1, 2, 3 and 11. Assumes nothing.
 use borrow.Author.Needs.{needs}
-use Rattle.row_packer.specs.Calls.{checked-zero, packed-table, packed-many}
+use Rattle.row_packer.specs.Calls.{checked-zero, checked-count, packed-table, packed-many}
 use Rattle.row_packer.proofs.pack.pack.Statement.{statement}
 use Rattle.row_packer.proofs.pack.pack.Tie as tie
 
@@ -22,8 +22,11 @@ returns-2 c =
 
 pack-row-requires : tie.Need-pack-row-requires
 pack-row-requires c κs =
-    let args = c .before .before .before .before .before .before .before .before .args in
-    (checked-zero (args .table .now) (c .before .before .before .before .check .ensures) (c .before .before .if1 .left), c .before .if2 .left)
+    let few = c .before in
+    let fine = few .before in
+    let table = fine .before .before .before .before .before .before .args .table .now in
+    let checked = fine .before .before .check .ensures in
+    (checked-zero table checked (fine .if1 .left), (checked-count table checked (fine .if1 .left), few .if2 .left))
 
 same-length : tie.Need-same-length
 same-length c = search needs

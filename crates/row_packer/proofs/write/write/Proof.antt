@@ -3,11 +3,12 @@
 use borrow.Author.Needs.{needs}
 use native.Mathlib.Omega.{arith}
 use Prim.Native.Nat.{_-_}
-use mathlib.Core.Path.{_∙_}
+use mathlib.Core.Path.{refl, _∙_}
 use Rattle.bitstream.specs.Bits.{wordsOf, halvesOf}
-use Rattle.row_packer.specs.Pixels.{inside-halves, past-halves}
+use Rattle.row_pixels.specs.Pixels.{inside-halves, past-halves, pixel-most}
+use Rattle.row_packer.specs.Measure.Laws.{rowBits-most}
 use Rattle.row_packer.specs.Write.{Writing}
-use Rattle.row_packer.specs.Write.Laws.{pixel-most, writing-none, writing-ready, writing-more, written-closable, written-all}
+use Rattle.row_packer.specs.Write.Laws.{writing-none, writing-ready, writing-more, written-closable, written-bits, written-all}
 use Rattle.row_packer.proofs.write.write.Statement.{statement}
 use Rattle.row_packer.proofs.write.write.Tie as tie
 
@@ -46,7 +47,7 @@ put-requires c κs =
     let turn = coded .before .before in
     let start = turn .before .before .before .before .before .before .before in
     let inside = inside-halves (start .args .pixels .now) (turn .loop-test .taken) in
-    let ready = writing-ready (turn .before .loop .inv) (start .pre .1 .1 .1) inside (coded .before .pixel-at .ensures) (coded .encode .ensures) in
+    let ready = writing-ready (turn .before .loop .inv) (start .pre .1 .1 .1 .1) inside (coded .before .pixel-at .ensures) (coded .encode .ensures) in
     (ready (omega arith), search needs)
 
 add-i : tie.Need-add-i Inv-loop μ-loop
@@ -64,25 +65,38 @@ loop-again c =
     let turn = coded .before .before in
     let start = turn .before .before .before .before .before .before .before in
     let inside = inside-halves (start .args .pixels .now) (turn .loop-test .taken) in
-    writing-more (turn .before .loop .inv) (start .pre .1 .1 .1) inside (coded .before .pixel-at .ensures) (coded .encode .ensures) (put .put .ensures)
+    writing-more (turn .before .loop .inv) (start .pre .1 .1 .1 .1) inside (coded .before .pixel-at .ensures) (coded .encode .ensures) (put .put .ensures)
     (c .before .before .words .given)
 
 finish-requires : tie.Need-finish-requires Inv-loop μ-loop
 finish-requires c κs =
     let done = c .before in
     let start = done .before .before .before .before .before .before .before in
-    written-closable (done .before .loop .inv) (start .pre .1 .1 .1) (past-halves (start .args .pixels .now) (done .loop-test .left))
+    written-closable (done .before .loop .inv) (start .pre .1 .1 .1 .1) (past-halves (start .args .pixels .now) (done .loop-test .left))
+
+-- the row's bits are few
+total-requires : tie.Need-total-requires Inv-loop μ-loop
+total-requires c κs =
+    let done = c .before .before .before .before in
+    let start = done .before .before .before .before .before .before .before in
+    let pixels = start .args .pixels .now in
+    let bits = written-bits (done .before .loop .inv) (start .pre .1 .1 .1 .1) (past-halves pixels (done .loop-test .left)) in
+    omega (arith, bits, rowBits-most (start .pre .0) pixels refl (start .pre .1 .1 .1 .0))
 
 same-length : tie.Need-same-length Inv-loop μ-loop
-same-length c = c .before .words2 .given ∙ c .before .before .before .before .before .loop .inv .size
+same-length c =
+    let finished = c .before .before in
+    finished .words2 .given ∙ finished .before .before .before .before .loop .inv .size
 
 returns : tie.Need-returns Inv-loop μ-loop
 returns c =
-    let done = c .before .before .before .before in
+    let known = c .before in
+    let done = known .before .before .before .before in
     let start = done .before .before .before .before .before .before .before in
     let all = past-halves (start .args .pixels .now) (done .loop-test .left) in
-    written-all (done .before .loop .inv) (start .pre .1 .1 .1) all (c .before .before .finish .ensures) (c .before .words2 .given)
-    (record { below = λ i. c .slice-known3 .given i .fits })
+    let written = written-all (done .before .loop .inv) (start .pre .1 .1 .1 .1) all in
+    rw (c .total .ensures)
+    (written (known .before .before .finish .ensures) (known .before .words2 .given) (record { below = λ i. known .slice-known3 .given i .fits }))
 
 pub write-spec : {M : Type 1} → statement M
 write-spec =
@@ -100,5 +114,6 @@ write-spec =
     loop-less
     loop-again
     finish-requires
+    total-requires
     same-length
     returns)

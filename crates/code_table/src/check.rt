@@ -8,7 +8,7 @@ ghost use mathlib.Core.Path.{_≡_};
 ghost use mathlib.Core.Bool.{true, false, not};
 ghost use Prim.Native.Nat.{_+_, _/_, _≤_, _<_, max};
 ghost use lib.ListN.{length};
-ghost use Rattle.row_format.specs.Table.{tableNumber, wrongWord};
+ghost use Rattle.row_format.specs.Table.{wrongWord};
 ghost use Rattle.row_format.specs.Calls.{checked};
 ghost use Rattle.code_table.specs.Check.{WholeTable, SizeJudged, AllGathered, codewordWords, judged};
 

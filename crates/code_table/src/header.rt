@@ -1,7 +1,7 @@
 // The words of a table. Document 01, "A table": table id, lowLimit, tableSize, three special strings, then the entries.
 use bitstream::number::read_u32;
 ghost use mathlib.Core.Path.{_≡_};
-ghost use Prim.Native.Nat.{_+_, _*_, _/_, _≤_, _<_};
+ghost use Prim.Native.Nat.{_*_, _/_, _≤_, _<_};
 ghost use lib.ListN.{length, getD};
 ghost use Rattle.bitstream.specs.Bits.{wordsOf};
 ghost use Rattle.row_format.specs.Table.{lowLimit, tableSize};

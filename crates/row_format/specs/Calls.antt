@@ -1,9 +1,8 @@
 -- Document 01: what the table check, packing, unpacking and the room question answer, as functions of all their inputs,
 -- the memory lent for writing included. Tables, words and pixels are bytes. Assumes nothing.
-use Prim.Native.Nat.{ℕ, zero, suc, _+_, _*_, _/_}
-use mathlib.Core.Bool.{Bool, true, false, cond}
-use mathlib.Core.List.{List, [], _∷_, _++_}
-use lib.ListN.{length, drop}
+use Prim.Native.Nat.{ℕ, zero, suc, _*_, _/_}
+use mathlib.Core.List.{List}
+use lib.ListN.{length}
 use lib.Dec.{ltb}
 use Rattle.bitstream.specs.Bits.{flat, wordsOf, halvesOf, bytesOf, stream, wordsFor}
 use Rattle.row_format.specs.Lists.{any}
@@ -11,7 +10,7 @@ use Rattle.row_format.specs.Table.{tableNumber, maxItemBits}
 use Rattle.row_format.specs.Row.{fresh, rowBits, pixelsOf}
 use Rattle.row_format.specs.Reading.{Run, done, stop, readItems, stray}
 use Rattle.answer.specs.declared.Answer.{Answer}
-use Rattle.answer.specs.Outcome.{Outcome, answerOf, outcome, refused, wrote, _orElse_, refuseIf, unless, countUnless}
+use Rattle.answer.specs.Outcome.{Outcome, refused, wrote, _orElse_, refuseIf, unless, countUnless}
 pub mod Laws
 
 -- 11: "more than 4096 pixels"

@@ -1,14 +1,14 @@
 -- Document 01, "A row": reading items from bits by the same rules, what a faulty item is refused with, and the bits that a
 -- reading uses. Assumes nothing.
 use Prim.Native.Nat.{ℕ, zero, suc, _+_, _-_, _*_}
-use mathlib.Core.Bool.{Bool, true, false, cond, not, _&&_, _||_}
-use mathlib.Core.List.{List, [], _∷_, _++_}
+use mathlib.Core.Bool.{Bool, false, cond, not, _&&_, _||_}
+use mathlib.Core.List.{List, [], _∷_}
 use lib.ListN.{length, take, drop}
 use lib.Dec.{leb, ltb, eqb}
 use Rattle.bitstream.specs.Bits.{numOf, begins, wordsFor}
 use Rattle.row_format.specs.Lists.{any, least}
 use Rattle.row_format.specs.Table.{lowLimit, codewords, codewordAt}
-use Rattle.row_format.specs.Row.{Item, difference, badPixel, badBias, escape, State, fresh, past, previous, pixelOf, after, byDifference, itemFor}
+use Rattle.row_format.specs.Row.{Item, difference, badPixel, badBias, escape, State, fresh, previous, after, byDifference}
 pub mod Laws
 
 -- the place of the first string that begins the rest; in an accepted table it is the only one

@@ -1,6 +1,6 @@
 -- Document 01, "A row": which item each pixel gets, and the bits of a row. Assumes nothing.
 use Prim.Native.Nat.{ℕ, _+_, _-_}
-use mathlib.Core.Bool.{Bool, true, false, cond}
+use mathlib.Core.Bool.{Bool, cond}
 use mathlib.Core.List.{List, [], _∷_, _++_}
 use lib.Dec.{eqb}
 use Rattle.bitstream.specs.Bits.{digits}

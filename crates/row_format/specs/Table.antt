@@ -1,8 +1,8 @@
 -- Document 01, "A table". A table is a list of 32-bit words: table id, lowLimit, tableSize, raw, bad-pixel and bad-bias
 -- string, then the entries. What the document calls a string is a codeword here, a step is a difference, and the raw
 -- string is the escape codeword. Every definition is total; accepted tables are those of verdict 0. Assumes nothing.
-use Prim.Native.Nat.{ℕ, suc, _+_, _*_, _/_, _%_, _^_, max}
-use mathlib.Core.Bool.{Bool, true, false, cond, not, _&&_, _||_}
+use Prim.Native.Nat.{ℕ, _+_, _/_, _%_, _^_, max}
+use mathlib.Core.Bool.{Bool, false, cond, not, _&&_, _||_}
 use mathlib.Core.List.{List, [], _∷_, map}
 use lib.ListN.{length, drop, getD}
 use lib.IntN.{ℤ, pos, _-ℤ_}

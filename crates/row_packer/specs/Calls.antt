@@ -17,7 +17,6 @@ use Rattle.row_format.specs.Table.Laws.{Accepted, accepted, tableNumber-verdict
 use Rattle.row_format.specs.Row.{rowBits}
 use Rattle.row_format.specs.Calls.{checked, packNumber, packedRow, packed, room}
 use Rattle.row_format.specs.Calls.Laws.{checked-number}
-use Rattle.row_format.specs.Theorems.Bounds.{length-rowBits}
 use Rattle.code_table.specs.Check.Laws.{length-words}
 use Rattle.row_pixels.specs.Pixels.{inside-halves, past-halves}
 use Rattle.row_packer.specs.Write.{Written}

@@ -1,7 +1,7 @@
 -- Document 01, end of "A row": a reader that "keeps the lent words and its bit place between pixels and gives one item, with its
 -- pixel, a call". Assumes nothing.
 use Prim.Native.Nat.{ℕ, _+_}
-use mathlib.Core.Bool.{Bool, true, false, cond, not}
+use mathlib.Core.Bool.{cond, not}
 use mathlib.Core.List.{List}
 use lib.ListN.{drop}
 use lib.Dec.{ltb, eqb}

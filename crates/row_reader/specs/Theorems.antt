@@ -2,23 +2,20 @@
 -- bytes of the table and of the words, m is the memory lent to a row call, as it was. Assumes nothing.
 use Prim.Native.Nat.{ℕ, _+_, _*_, _/_, _≤_, _<_}
 use native.Mathlib.Omega.{arith}
-use mathlib.Core.Path.{_≡_, refl, sym, ap, _∙_, subst}
+use mathlib.Core.Path.{_≡_}
 use mathlib.Core.Logic.{_⊎_}
 use mathlib.Core.List.{List}
 use lib.ListN.{length, drop}
-use lib.Dec.{ltb}
 use borrow.Author.Tests.{lt-ltb, eq-eqb, ne-eqb}
 use Rattle.bitstream.specs.Bits.{flat, bytesOf, wordsOf, stream}
 use Rattle.answer.specs.Outcome.{refused, wrote}
-use Rattle.row_format.specs.Lists.Laws.{by-test}
 use Rattle.row_format.specs.Table.{tableNumber, maxItemBits}
-use Rattle.row_format.specs.Row as row
-use Rattle.row_format.specs.Reading.{Reading, item, fault, readItem}
+use Rattle.row_format.specs.Reading.{readItem}
 use Rattle.row_format.specs.Calls.{unpacked}
 use Rattle.row_format.specs.Theorems.Bounds.{bitsOfReading, readItem-uses}
 use Rattle.row_unpacker.specs.Item.{stateOf}
 use Rattle.row_reader.specs.declared.step.Place.{Place}
-use Rattle.row_reader.specs.Step.{startPlace, given, itemRead}
+use Rattle.row_reader.specs.Step.{startPlace, itemRead}
 use Rattle.row_reader.specs.Walk.{gave, ended, walk}
 use Rattle.row_reader.specs.Walk.Laws as laws
 

@@ -1,6 +1,6 @@
 -- Items read one at a time, and what they have to do with the whole-row call. Assumes nothing.
 use Prim.Native.Nat.{ℕ, zero, suc}
-use mathlib.Core.Bool.{Bool, true, false, cond}
+use mathlib.Core.Bool.{cond}
 use mathlib.Core.List.{List, [], _∷_}
 use lib.Dec.{eqb}
 use Rattle.row_reader.specs.declared.step.Place.{Place}

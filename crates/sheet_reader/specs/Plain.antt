@@ -1,11 +1,7 @@
 -- What a plain row's pixels show, and the pass over them. Assumes nothing.
-use Prim.Native.Nat.{ℕ, _*_, _≤_}
+use Prim.Native.Nat.{ℕ}
 use mathlib.Core.Path.{_≡_}
 use mathlib.Core.List.{List, []}
-use lib.ListN.{length, drop}
-use lib.Dec.{ltb}
-use Rattle.bitstream.specs.Bits.{halvesOf}
-use Rattle.row_format.specs.Lists.{any}
 use Rattle.sheet_format.specs.declared.SheetState.{SheetState}
 use Rattle.sheet_format.specs.Record.{plainRecord, lent, contentNumber}
 use Rattle.sheet_format.specs.Theorems.Judged.{Content}

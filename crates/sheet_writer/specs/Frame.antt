@@ -1,6 +1,6 @@
 -- How a record stands in the lent memory: k bytes of fields, h, and behind them the content b. Definitions only. Assumes
 -- nothing.
-use Prim.Native.Nat.{ℕ, _+_, _-_}
+use Prim.Native.Nat.{ℕ, _-_}
 use mathlib.Core.Path.{_≡_}
 use mathlib.Core.List.{List, _++_}
 use lib.ListN.{length}

@@ -4,7 +4,7 @@ use native.Mathlib.Omega.{arith}
 use mathlib.Core.Path.{_≡_, sym, ap, _∙_}
 use mathlib.Core.List.{List}
 use lib.ListN.{length, getD, List·getD-eq-default}
-use Rattle.bitstream.specs.Bits.{digits, wordsOf}
+use Rattle.bitstream.specs.Bits.{wordsOf}
 use Rattle.bitstream.specs.Bits.Laws.{Below, below-digits}
 use Rattle.row_format.specs.Table.{codeword, codewordAt}
 use Rattle.row_format.specs.Table.Laws.{length-codewordAt}

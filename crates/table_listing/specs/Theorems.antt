@@ -9,7 +9,7 @@ use Rattle.bitstream.specs.Bits.{wordsOf}
 use Rattle.row_format.specs.Table.{codewordAt, tableSize, tableNumber}
 use Rattle.row_format.specs.Table.Laws.{accepted, codewordAt-most, tableNumber-verdict}
 use Rattle.code_table.specs.Check.Laws.{length-words}
-use Rattle.table_listing.specs.Order.{order, places, occurs, before}
+use Rattle.table_listing.specs.Order.{places, occurs, before}
 use Rattle.table_listing.specs.Order.Laws.{order-perm}
 use Rattle.table_listing.specs.Order.Once.{length-order, order-once, getD-places, length-places}
 use Rattle.table_listing.specs.Order.Sorted.{order-before}

@@ -1,6 +1,6 @@
 -- The item reader's place and answer as C has them. Assumes nothing.
 use Prim.Native.Nat.{ℕ, zero, suc}
-use mathlib.Core.Bool.{Bool, true, false, not, cond}
+use mathlib.Core.Bool.{Bool, true, false, not}
 use lib.Dec.{eqb}
 use lib.IntN.{ℤ, pos}
 use Rattle.row_item.specs.declared.Item.{Item}

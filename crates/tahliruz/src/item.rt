@@ -1,7 +1,6 @@
 // The item reader as C has it: its place and its answer as structs of numbers.
 use row_item::Item;
 use row_item::Progress;
-use row_reader::step::ItemRead;
 use row_reader::step::Place;
 ghost use mathlib.Core.Path.{_≡_};
 ghost use Rattle.tahliruz.specs.Items.{placeOf, flatPlace, kindOf, stepOf};

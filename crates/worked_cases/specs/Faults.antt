@@ -3,8 +3,7 @@
 -- Assumes nothing.
 use Prim.Native.Nat.{ℕ}
 use mathlib.Core.Path.{_≡_, refl}
-use mathlib.Core.List.{List, [], _∷_, _++_}
-use lib.ListN.{replicate}
+use mathlib.Core.List.{List, [], _∷_}
 use Rattle.bitstream.specs.Bits.{digits, numOf, begins}
 use Rattle.row_format.specs.Lists.{any, least}
 use Rattle.row_format.specs.Table.{codeword, codewords, codewordAt, verdict, wrongSize, wrongWord, wrongCodeword, clash}

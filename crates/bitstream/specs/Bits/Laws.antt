@@ -1,6 +1,6 @@
 -- The laws of bits in bytes. Assumes nothing.
 use Prim.Native.Nat.{ℕ, zero, suc, _+_, _-_, _*_, _/_, _%_, _^_, _≤_, _<_, zero-le}
-use native.Mathlib.Nat.{zero-mod, zero-div, add-zero, zero-add, add-comm, add-assoc, mod-lt, mod-one, div-one, suc-add, zero-mul, mul-zero, mul-suc, mul-one, mul-assoc, mul-comm, mul-right-comm, add-mul, pow-suc, pow-zero, mod-eq-of-lt, div-eq-of-lt, div-lt-iff-lt-mul, add-div-left, add-mod-left, not-suc-le-zero, le-of-suc-le-suc, lt-of-lt-of-le, add-suc}
+use native.Mathlib.Nat.{zero-mod, zero-div, add-zero, zero-add, add-comm, add-assoc, mod-lt, mod-one, div-one, suc-add, mul-zero, mul-suc, mul-one, mul-assoc, add-mul, pow-suc, mod-eq-of-lt, div-eq-of-lt, div-lt-iff-lt-mul, add-div-left, add-mod-left, not-suc-le-zero, le-of-suc-le-suc}
 use native.Mathlib.Numerals.{add-one}
 use native.Mathlib.Decide.{decLt}
 use native.Mathlib.Omega.{arith}
@@ -11,7 +11,7 @@ use lib.ListN.{length, take, drop, getD, replicate, length-append, length-drop, 
 use lib.Seq.{take-nil, drop-nil, take-append-add, drop-append-add, take-at, drop-at, take-append-le, drop-append-le, getD-append-add}
 use lib.Arith.{digits-lt, digits-div, mod-mul}
 use lib.Bits.{block-half, block-odd}
-use lib.Pow.{pow-add, shr-shr, pow-pos, high, low}
+use lib.Pow.{shr-shr, pow-pos}
 use Rattle.bitstream.specs.Bits.{digits, numOf, flat, cut}
 
 -- every element of the list is below k: of bits below 2, of bytes below 256

@@ -1,14 +1,14 @@
 -- The laws of numbers in memory: what a few bytes read or written one by one make. Assumes nothing.
-use Prim.Native.Nat.{ℕ, zero, suc, _+_, _-_, _*_, _/_, _%_, _^_, _≤_, _<_}
-use native.Mathlib.Nat.{mod-eq-of-lt, div-div-eq-div-mul, suc-add, zero-add, not-suc-le-zero, le-of-suc-le-suc}
+use Prim.Native.Nat.{ℕ, zero, suc, _+_, _*_, _/_, _%_, _^_, _≤_}
+use native.Mathlib.Nat.{mod-eq-of-lt, div-div-eq-div-mul, suc-add, zero-add, not-suc-le-zero}
 use native.Mathlib.Numerals.{add-one, add-two, add-three}
 use native.Mathlib.Omega.{arith}
-use mathlib.Core.Path.{_≡_, refl, sym, ap, _∙_, subst}
+use mathlib.Core.Path.{_≡_, refl, sym, ap, _∙_}
 use mathlib.Core.List.{List, [], _∷_, _++_}
 use lib.ListN.{length, take, drop, getD, set, length-append, length-drop}
 use lib.Seq.{take-at, drop-at, take-take, drop-drop, sets-eq, length-take-le}
 use Rattle.bitstream.specs.Bits.{digits, numOf, flat, cut, bitsOf, numberOf, bytesOf}
-use Rattle.bitstream.specs.Bits.Laws.{digits-split, length-digits, numOf-digits, numberOf-suc, numOf-field, below-flat, flat-take, flat-drop, length-cut}
+use Rattle.bitstream.specs.Bits.Laws.{digits-split, length-digits, numOf-digits, numberOf-suc, numOf-field, below-flat, flat-take, flat-drop}
 use Rattle.bitstream.specs.Memory.{ByteAt, overwritten}
 
 byte-mod : {s : List ℕ} {at b : ℕ} → ByteAt s at b → getD s at 0 % 256 ≡ b

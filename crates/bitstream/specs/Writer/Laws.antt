@@ -1,18 +1,18 @@
 -- The laws of the writer of bit strings: its register and the words that it stores. Assumes nothing.
-use Prim.Native.Nat.{ℕ, zero, suc, _+_, _-_, _*_, _/_, _%_, _^_, _≤_, _<_}
-use native.Mathlib.Nat.{add-comm, add-zero, mod-eq-of-lt, lt-of-lt-of-le, le-of-lt}
+use Prim.Native.Nat.{ℕ, _+_, _-_, _*_, _/_, _%_, _^_, _≤_, _<_}
+use native.Mathlib.Nat.{add-comm, add-zero, mod-eq-of-lt, lt-of-lt-of-le}
 use native.Mathlib.Omega.{arith}
 use mathlib.Core.Path.{_≡_, refl, sym, ap, _∙_, subst}
-use mathlib.Core.List.{List, [], _∷_, _++_, append-assoc, append-nil}
+use mathlib.Core.List.{List, _++_, append-assoc, append-nil}
 use lib.ListN.{length, take, drop}
 use lib.Seq.{length-take-le}
 use lib.Arith.{digits-lt}
 use lib.Pow.{pow-add, pow-mono, shl-exact, shr-lt}
-use Rattle.bitstream.specs.Bits.{digits, numOf, bitsOf, bytesOf, wordsFor}
-use Rattle.bitstream.specs.Bits.Laws.{digits-split, digits-join, digits-mod, digits-pad, length-digits, below-digits, numOf-digits, flat-append, flat-cut, length-flat, length-cut, pad, pad-append, pad-all}
+use Rattle.bitstream.specs.Bits.{digits, bitsOf, bytesOf}
+use Rattle.bitstream.specs.Bits.Laws.{digits-split, digits-join, digits-mod, digits-pad, below-digits, numOf-digits, flat-append, flat-cut, length-flat, length-cut, pad, pad-append}
 use Rattle.bitstream.specs.Memory.{overwritten}
 use Rattle.bitstream.specs.Memory.Laws.{take-overwritten, drop-overwritten}
-use Rattle.bitstream.specs.Writer.{held, Good, Ready, Put, Closable, Finished}
+use Rattle.bitstream.specs.Writer.{held, Ready, Put, Closable, Finished}
 use Rattle.bitstream.specs.declared.writer.Writer.{Writer}
 
 -- ---- the register

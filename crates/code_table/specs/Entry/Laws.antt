@@ -1,18 +1,18 @@
 -- The laws of entries and signed differences. Assumes nothing.
-use Prim.Native.Nat.{ℕ, zero, suc, _+_, _-_, _^_, _≤_, _<_}
+use Prim.Native.Nat.{ℕ, suc, _+_, _-_, _≤_, _<_}
 use native.Mathlib.Omega.{arith}
 use mathlib.Core.Path.{_≡_, refl, sym, ap, _∙_, subst}
-use mathlib.Core.Bool.{Bool, true, false, cond}
+use mathlib.Core.Bool.{true, false}
 use mathlib.Core.List.{List}
-use lib.IntN.{ℤ, pos, negsuc, _+ℤ_, _-ℤ_, -ℤ-+ℤ-cancel}
-use lib.Signed.{mag, ltZ}
-use lib.Dec.{leb, ltb}
-use borrow.Author.Tests.{lt-ltb, le-ltb, le-leb, lt-leb, ltb-true, ltb-false}
+use lib.IntN.{ℤ, pos, negsuc, _+ℤ_, -ℤ-+ℤ-cancel}
+use lib.Signed.{ltZ}
+use lib.Dec.{ltb}
+use borrow.Author.Tests.{lt-ltb, le-ltb, le-leb, lt-leb, ltb-false}
 use mir.Val.{SFits, toZ, ofZ}
 use mir.Syntax.{w32}
-use mir.Facts.{toZ-ofZ, toZ-pos}
+use mir.Facts.{toZ-ofZ}
 use Rattle.row_format.specs.Lists.Laws.{by-test, true-false}
-use Rattle.row_format.specs.Table.{lowLimit, tableSize, hasDifference, signed}
+use Rattle.row_format.specs.Table.{lowLimit, tableSize, signed}
 use Rattle.code_table.specs.Entry.{entryAt, EntryFound}
 use Rattle.code_table.specs.declared.entry.Entry.{Entry}
 use Rattle.code_table.specs.declared.entry.Entry.the-variants.{At, Absent}

@@ -1,23 +1,23 @@
 -- The plain table is accepted, and storing words a word at a time. Assumes nothing.
 use Prim.Native.Nat.{ℕ, zero, suc, _+_, _-_, _*_, _/_, _%_, _^_, _≤_, _<_}
-use native.Mathlib.Nat.{mul-zero, mul-assoc}
+use native.Mathlib.Nat.{mul-assoc}
 use native.Mathlib.Numerals.{add-one}
 use native.Mathlib.Omega.{arith}
-use mathlib.Core.Path.{_≡_, refl, sym, ap, _∙_, subst}
-use mathlib.Core.Bool.{Bool, true, false, cond, not, _&&_}
-use mathlib.Core.List.{List, [], _∷_, _++_, append-assoc, append-nil}
-use lib.ListN.{length, take, drop, getD, length-append, length-drop, replicate}
+use mathlib.Core.Path.{_≡_, refl, sym, ap, _∙_}
+use mathlib.Core.Bool.{Bool, true, cond, not, _&&_}
+use mathlib.Core.List.{List, [], _∷_, _++_, append-nil}
+use lib.ListN.{length, take, drop, getD, length-append, replicate}
 use lib.Seq.{take-suc, take-all, length-take-le, take-at, drop-append-add, drop-drop}
-use lib.Dec.{leb, ltb, eqb}
+use lib.Dec.{eqb}
 use borrow.Author.Tests.{le-ltb, lt-ltb, not-true}
 use Rattle.bitstream.specs.Bits.{digits, flat, cut, bytesOf, wordsOf, bitsOf}
 use Rattle.bitstream.specs.Bits.Laws.{Below, below-nil, below-cons, below-flat, pad-all, flat-append, length-flat, length-cut, cut-append, cut-flat, flat-cut}
 use Rattle.bitstream.specs.Memory.{overwritten}
 use Rattle.bitstream.specs.Memory.Laws.{length-overwritten}
-use Rattle.answer.specs.Outcome.{answerOf, outcome, refused, wrote}
+use Rattle.answer.specs.Outcome.{answerOf, outcome}
 use Rattle.row_format.specs.Lists.{any}
 use Rattle.row_format.specs.Lists.Laws.{and-true-all}
-use Rattle.row_format.specs.Table.{tableSize, lowLimit, codeword, codewords, escapeLength, wrongSize, wrongWord, wrongCodeword, clash, verdict, tableNumber}
+use Rattle.row_format.specs.Table.{codeword, codewords, wrongSize, wrongWord, wrongCodeword, verdict, tableNumber}
 use Rattle.row_format.specs.Plain.{plainEntries, plainTable, plainBytes}
 use Rattle.prefix_free.specs.Fork.{apart, few, ended, branch}
 use Rattle.prefix_free.specs.Fork.Laws.{apart-clash}

@@ -7,11 +7,6 @@ use lib.Seq.{length-take-le}
 use borrow.Author.Needs.{needs}
 use Rattle.list_table.proofs.main.Statement.{statement}
 use Rattle.list_table.proofs.main.Tie as tie
-use Rattle.list_table.proofs.main.Reads as reads
-use Rattle.list_table.proofs.main.Lts as lts
-use Rattle.list_table.proofs.print_listing.Reads as print-listing-reads
-use Rattle.list_table.proofs.read_table.Reads as read-table-reads
-use Rattle.os.proofs.fail.Reads as fail-reads
 
 -- src/main.rt:20:22
 slice-aggregate-read-table : tie.Need-slice-aggregate-read-table

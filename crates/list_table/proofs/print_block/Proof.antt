@@ -8,12 +8,6 @@ use Rattle.table_listing.specs.Listing.Blocks.{answer-lines, answer-bytes}
 use borrow.Author.Needs.{needs}
 use Rattle.list_table.proofs.print_block.Statement.{statement}
 use Rattle.list_table.proofs.print_block.Tie as tie
-use Rattle.list_table.proofs.print_block.Reads as reads
-use Rattle.list_table.proofs.print_block.Lts as lts
-use Rattle.io.proofs.large_buffer.Reads as large-buffer-reads
-use Rattle.io.proofs.write_all.Reads as write-all-reads
-use Rattle.os.proofs.fail.Reads as fail-reads
-use Rattle.table_listing.proofs.list_table.Reads as list-table-reads
 
 -- src/main.rt:69:21
 large-buffer-requires : tie.Need-large-buffer-requires

@@ -8,9 +8,6 @@ use Rattle.table_listing.specs.Listing.{lines}
 use Rattle.table_listing.specs.Listing.Blocks.{lines-few}
 use Rattle.list_table.proofs.print_listing.Statement.{statement}
 use Rattle.list_table.proofs.print_listing.Tie as tie
-use Rattle.list_table.proofs.print_listing.Reads as reads
-use Rattle.list_table.proofs.print_listing.Lts as lts
-use Rattle.list_table.proofs.print_block.Reads as print-block-reads
 
 abbrev Inv-loop : tie.InvT-loop
 Inv-loop table first₀ first = first ≤ length (lines table)

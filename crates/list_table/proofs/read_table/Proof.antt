@@ -6,9 +6,6 @@ use borrow.Author.Needs.{needs}
 use lib.ListN.{length, drop, length-take, length-drop}
 use Rattle.list_table.proofs.read_table.Statement.{statement}
 use Rattle.list_table.proofs.read_table.Tie as tie
-use Rattle.list_table.proofs.read_table.Reads as reads
-use Rattle.list_table.proofs.read_table.Lts as lts
-use Rattle.list_table.proofs.read_some.Reads as read-some-reads
 
 abbrev Inv-loop : tie.InvT-loop
 Inv-loop table₀ at₀ table at = (at ≤ length table₀) × (length table ≡ length table₀)

@@ -1,15 +1,12 @@
 -- The laws of a reader's step. Assumes nothing.
 use Prim.Native.Nat.{ℕ, _+_, _≤_, _<_}
 use native.Mathlib.Omega.{arith}
-use mathlib.Core.Path.{_≡_, refl, sym, ap, _∙_, subst}
-use mathlib.Core.Bool.{Bool, true, false, cond}
+use mathlib.Core.Path.{_≡_, refl, sym, _∙_}
+use mathlib.Core.Bool.{true, false}
 use mathlib.Core.List.{List}
 use lib.ListN.{drop}
-use lib.Dec.{ltb}
 use borrow.Author.Tests.{lt-ltb, le-ltb, eq-eqb, ne-eqb}
 use Rattle.bitstream.specs.Bits.{wordsOf, stream}
-use Rattle.row_format.specs.Table.{tableNumber, maxItemBits}
-use Rattle.row_format.specs.Calls.{checked}
 use Rattle.row_format.specs.Row as row
 use Rattle.row_format.specs.Reading.{Reading, item, fault, readItem}
 use Rattle.row_item.specs.declared.Item.{Item}

@@ -11,11 +11,11 @@ use lib.Seq.{take-suc, drop-cons, set-at, append-snoc, length-take-le}
 use lib.Dec.{eqb}
 use borrow.Author.Tests.{ne-eqb, lt-ltb, le-ltb}
 use Rattle.answer.specs.declared.Answer.{Answer}
-use Rattle.answer.specs.Outcome.{Outcome, answerOf, outcome, refused, _orElse_, unless, countUnless}
+use Rattle.answer.specs.Outcome.{Outcome, answerOf, outcome, refused, _orElse_, unless}
 use Rattle.bitstream.specs.Bits.{numOf, flat, bytesOf, wordsOf, stream, wordsFor}
 use Rattle.bitstream.specs.Bits.Laws.{Below, below-head, below-tail, below-take, length-cut}
 use Rattle.row_format.specs.Lists.{any}
-use Rattle.row_format.specs.Table.{tableNumber, maxItemBits}
+use Rattle.row_format.specs.Table.{tableNumber}
 use Rattle.row_format.specs.Row.{fresh, pixelsOf}
 use Rattle.row_format.specs.Reading.{Run, done, stop, readItems, stray}
 use Rattle.row_format.specs.Calls.{checked, afterRun, usedByRun, unpackNumber, unpacked}

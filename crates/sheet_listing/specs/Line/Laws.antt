@@ -1,13 +1,11 @@
 -- The laws of the lister's lines. Assumes nothing.
 use Prim.Native.Nat.{ℕ, zero, suc, _/_, _≤_}
 use native.Mathlib.Omega.{arith}
-use mathlib.Core.Path.{_≡_, refl, sym, ap, _∙_}
+use mathlib.Core.Path.{_≡_, refl}
 use mathlib.Core.Bool.{false, cond}
 use mathlib.Core.List.{List, []}
 use lib.ListN.{length}
 use Rattle.bitstream.specs.Bits.{wordsOf}
-use Rattle.answer.specs.declared.Answer.{Answer}
-use Rattle.answer.specs.Outcome.{countUnless}
 use Rattle.row_format.specs.Lists.Laws.{cond-zero-test}
 use Rattle.row_format.specs.Table.{wrongSize, wrongCodeword, clash, codewords, verdict, tableNumber, maxItemBits}
 use Rattle.row_format.specs.Table.Laws.{tableNumber-whole, tableNumber-verdict}

@@ -1,15 +1,14 @@
 -- The ways out of reading a plain row. Assumes nothing.
-use Prim.Native.Nat.{ℕ, suc, _+_, _*_, _/_, _≤_, _<_}
+use Prim.Native.Nat.{ℕ, _*_, _≤_, _<_}
 use native.Mathlib.Omega.{arith}
 use mathlib.Core.Path.{_≡_, refl, sym, ap, _∙_}
 use mathlib.Core.Bool.{true, false}
-use mathlib.Core.List.{List, [], _∷_, _++_}
-use lib.ListN.{length, take, drop, length-drop}
-use lib.Seq.{take-all, drop-drop}
+use mathlib.Core.List.{List, [], _++_}
+use lib.ListN.{length, take, drop}
+use lib.Seq.{take-all}
 use lib.Dec.{ltb}
 use borrow.Author.Tests.{lt-ltb, le-ltb}
-use Rattle.bitstream.specs.Bits.{numberOf, cut, halvesOf}
-use Rattle.bitstream.specs.Bits.Laws.{flat-take, flat-drop}
+use Rattle.bitstream.specs.Bits.{halvesOf}
 use Rattle.answer.specs.Outcome.{_orElse_, refuseIf}
 use Rattle.row_format.specs.Lists.{any}
 use Rattle.sheet_format.specs.declared.SheetState.{SheetState}

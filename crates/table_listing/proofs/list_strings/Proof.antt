@@ -11,11 +11,6 @@ use Rattle.table_listing.specs.Listing.Laws.{accepted-whole, strings-mos
 use borrow.Author.Needs.{needs}
 use Rattle.table_listing.proofs.list_strings.Statement.{statement}
 use Rattle.table_listing.proofs.list_strings.Tie as tie
-use Rattle.table_listing.proofs.list_strings.Reads as reads
-use Rattle.table_listing.proofs.list_strings.Lts as lts
-use Rattle.table_listing.proofs.arrange.arrange.Reads as arrange-reads
-use Rattle.table_listing.proofs.arrange.number.Reads as number-reads
-use Rattle.table_listing.proofs.block.list_lines.Reads as list-lines-reads
 
 -- the part of the list that is lent has a place for each string
 count : (start : tie.Start) → let n = length (start .args .table .now) / 4 - 3 in length (take n (start .args .list .now)) ≡ n

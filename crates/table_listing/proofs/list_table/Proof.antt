@@ -7,11 +7,6 @@ use Rattle.table_listing.specs.Listing.Laws.{refused-block}
 use borrow.Author.Needs.{needs}
 use Rattle.table_listing.proofs.list_table.Statement.{statement}
 use Rattle.table_listing.proofs.list_table.Tie as tie
-use Rattle.table_listing.proofs.list_table.Reads as reads
-use Rattle.table_listing.proofs.list_table.Lts as lts
-use Rattle.code_table.proofs.check.check.Reads as check-reads
-use Rattle.table_listing.proofs.block.list_refusal.Reads as list-refusal-reads
-use Rattle.table_listing.proofs.list_strings.Reads as list-strings-reads
 
 -- src/lib.rt:30:9
 check-requires : tie.Need-check-requires

@@ -1,17 +1,15 @@
 -- The laws of a block of lines on the way. Assumes nothing.
-use Prim.Native.Nat.{ℕ, zero, suc, _+_, _-_, _≤_, _<_}
+use Prim.Native.Nat.{ℕ, suc, _+_, _-_, _≤_, _<_}
 use native.Mathlib.Nat.{zero-add, add-zero}
 use native.Mathlib.Numerals.{add-one}
 use native.Mathlib.Omega.{arith}
 use mathlib.Core.Path.{_≡_, refl, sym, ap, _∙_}
-use mathlib.Core.Bool.{true, false}
 use mathlib.Core.List.{List, [], _∷_, _++_, append-nil, append-assoc, map}
 use lib.ListN.{length, take, drop, getD, length-append, length-drop, length-map, drop-of-length-le}
 use lib.Seq.{take-suc, drop-cons, getD-drop}
 use lib.Dec.{leb}
 use borrow.Author.Tests.{le-leb, lt-leb, leb-true, leb-false}
 use Rattle.row_format.specs.Lists.Laws.{by-test}
-use Rattle.bitstream.specs.Memory.Laws.{length-overwritten}
 use Rattle.text.specs.Put.{Put}
 use Rattle.text.specs.Put.Laws.{put-none, put-put}
 use Rattle.text.specs.Text.{ascii, field}

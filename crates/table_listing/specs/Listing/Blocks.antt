@@ -1,9 +1,8 @@
 -- The blocks of a listing make it up, and with room for 128 bytes each has a line. Assumes nothing.
-use Prim.Native.Nat.{ℕ, zero, suc, _+_, _-_, _/_, _%_, _≤_, _<_}
+use Prim.Native.Nat.{ℕ, zero, suc, _+_, _-_, _%_, _≤_, _<_}
 use native.Mathlib.Nat.{zero-add}
 use native.Mathlib.Omega.{arith}
 use mathlib.Core.Path.{_≡_, refl, sym, ap, _∙_}
-use mathlib.Core.Bool.{Bool, true, false, cond}
 use mathlib.Core.List.{List, [], _∷_, _++_, append-assoc, map}
 use lib.ListN.{length, take, drop, getD, length-append, length-drop, length-map, take-append-drop, List·getD-eq-default}
 use lib.Seq.{drop-drop, getD-drop}
@@ -13,7 +12,7 @@ use Rattle.bitstream.specs.Bits.{wordsOf}
 use Rattle.bitstream.specs.Memory.{overwritten}
 use Rattle.bitstream.specs.Memory.Laws.{take-overwritten}
 use Rattle.row_format.specs.Lists.Laws.{by-test}
-use Rattle.row_format.specs.Table.{codewordAt, tableSize, lowLimit, entryDifference, wrongSize, wrongCodeword, clash, codewords, verdict, tableNumber}
+use Rattle.row_format.specs.Table.{codewordAt, wrongSize, wrongCodeword, clash, codewords, verdict, tableNumber}
 use Rattle.code_table.specs.Check.Laws.{length-words, whole-table-words}
 use Rattle.text.specs.Text.{ascii, field, decimal}
 use Rattle.text.specs.Text.Laws.{length-decimal}

@@ -2,7 +2,6 @@
 use Prim.Native.Nat.{ℕ, zero, suc, _+_, _-_, _≤_, _<_}
 use native.Mathlib.Omega.{arith}
 use mathlib.Core.Path.{_≡_, refl, sym, ap, _∙_}
-use mathlib.Core.Bool.{Bool, true, false, cond}
 use mathlib.Core.List.{
   List,
   [],
@@ -20,11 +19,11 @@ use mathlib.Core.List.{
   Permᴰ·middle,
 }
 use lib.ListN.{length, take, drop, getD, length-append, take-append-drop}
-use lib.Dec.{leb, ltb, eqb}
+use lib.Dec.{leb, eqb}
 use borrow.Author.Tests.{le-leb, lt-leb, eq-eqb, ne-eqb, eqb-true, eqb-false}
-use Rattle.bitstream.specs.Bits.Laws.{Below, below-nil, below-cons, below-head, below-tail, below-append}
+use Rattle.bitstream.specs.Bits.Laws.{Below, below-cons, below-head, below-tail}
 use Rattle.row_format.specs.Lists.Laws.{by-test}
-use Rattle.table_listing.specs.Order.{way, picked, order, places}
+use Rattle.table_listing.specs.Order.{way, picked, order}
 
 -- ---- the three ways
 pub way-ended : (d : ℕ) (bits : List ℕ) → length bits ≤ d → way d bits ≡ 0

@@ -1,6 +1,5 @@
 -- The ways out of the item call. Assumes nothing.
 use Prim.Native.Nat.{ℕ, zero, suc}
-use native.Mathlib.Omega.{arith}
 use mathlib.Core.Path.{_≡_, refl, sym, ap, _∙_}
 use lib.IntN.{ℤ, pos}
 use Rattle.row_reader.specs.declared.step.ItemRead.{ItemRead}

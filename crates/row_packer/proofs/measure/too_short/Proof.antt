@@ -2,7 +2,7 @@
 -- nothing.
 use borrow.Author.Needs.{needs}
 use native.Mathlib.Omega.{arith}
-use mathlib.Core.Path.{sym, ap, _∙_}
+use mathlib.Core.Path.{ap, _∙_}
 use lib.Dec.{ltb}
 use Rattle.bitstream.specs.Bits.{wordsFor}
 use Rattle.row_packer.specs.Measure.Laws.{longest-most, rowBits-most, longest-fits}

@@ -4,12 +4,6 @@ use Rattle.row_reader.specs.Step.Laws.{step-unopened, step-all, step-pas
 use borrow.Author.Needs.{needs}
 use Rattle.row_reader.proofs.step.item_at.Statement.{statement}
 use Rattle.row_reader.proofs.step.item_at.Tie as tie
-use Rattle.row_reader.proofs.step.item_at.Reads as reads
-use Rattle.row_reader.proofs.step.item_at.Lts as lts
-use Rattle.row_item.proofs.after.Reads as after-reads
-use Rattle.row_reader.proofs.step.refused.Reads as refused-reads
-use Rattle.row_reader.proofs.step.settled.Reads as settled-reads
-use Rattle.row_unpacker.proofs.item.read_item.Reads as read-item-reads
 
 -- src/step.rt:55:9
 refused-requires : tie.Need-refused-requires

@@ -1,8 +1,6 @@
 use Rattle.row_reader.specs.Step.Laws.{settled-begun, settled-fresh}
 use Rattle.row_reader.proofs.step.settled.Statement.{statement}
 use Rattle.row_reader.proofs.step.settled.Tie as tie
-use Rattle.row_reader.proofs.step.settled.Reads as reads
-use Rattle.row_reader.proofs.step.settled.Lts as lts
 
 -- src/step.rt:76:9
 returns : tie.Need-returns

@@ -7,10 +7,6 @@ use Rattle.row_format.specs.Calls.Laws.{checked-number}
 use borrow.Author.Needs.{needs}
 use Rattle.row_reader.proofs.step.start.Statement.{statement}
 use Rattle.row_reader.proofs.step.start.Tie as tie
-use Rattle.row_reader.proofs.step.start.Reads as reads
-use Rattle.row_reader.proofs.step.start.Lts as lts
-use Rattle.code_table.proofs.check.check.Reads as check-reads
-use Rattle.row_item.proofs.start.Reads as start-reads
 
 -- src/step.rt:37:18
 check-requires : tie.Need-check-requires

@@ -1,8 +1,7 @@
 -- The proof of the cycle of calls {arrange}. The measure is the bits that the tree still goes deeper. Assumes nothing.
-use Prim.Native.Nat.{ℕ, _+_, _-_, _<_}
+use Prim.Native.Nat.{ℕ, _-_, _<_}
 use native.Mathlib.Omega.{arith}
-use mathlib.Core.Path.{_≡_, sym, ap, _∙_}
-use mathlib.Core.List.{List, _++_}
+use mathlib.Core.Path.{_≡_, sym}
 use borrow.Author.Needs.{needs}
 use borrow.Fn.Kinds.{In, Out}
 use borrow.Rule.Slice.PartMut.{putMid, same-len-mid}
@@ -10,8 +9,7 @@ use borrow.Fn.PlainCycle.{Measures, is, falls, and}
 use lib.ListN.{length, drop, length-take, length-drop}
 use Rattle.bitstream.specs.Bits.{wordsOf}
 use Rattle.row_format.specs.Table.{codewordAt}
-use Rattle.table_listing.specs.Order.{order, picked}
-use Rattle.table_listing.specs.Order.Laws.{order-end, order-few, order-step}
+use Rattle.table_listing.specs.Order.Laws.{order-end, order-few}
 use Rattle.table_listing.specs.Strings.{codewordAt-bits}
 use Rattle.table_listing.specs.Pick.Laws.{Bounds, parted-bounds, step}
 use Rattle.table_listing.proofs.arrange.arrange.Reads as arrange

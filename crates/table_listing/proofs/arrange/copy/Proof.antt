@@ -7,8 +7,6 @@ use Rattle.table_listing.specs.Pick.{Copying}
 use Rattle.table_listing.specs.Pick.Laws.{copying-none, copying-more, copying-all}
 use Rattle.table_listing.proofs.arrange.copy.Statement.{statement}
 use Rattle.table_listing.proofs.arrange.copy.Tie as tie
-use Rattle.table_listing.proofs.arrange.copy.Reads as reads
-use Rattle.table_listing.proofs.arrange.copy.Lts as lts
 
 abbrev Inv-loop : tie.InvT-loop
 Inv-loop from to₀ i₀ to i = Copying from i to

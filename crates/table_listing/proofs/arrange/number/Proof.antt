@@ -11,8 +11,6 @@ use Rattle.table_listing.specs.Pick.{Copying}
 use Rattle.table_listing.specs.Pick.Laws.{copying-none, copying-more, copying-all}
 use Rattle.table_listing.proofs.arrange.number.Statement.{statement}
 use Rattle.table_listing.proofs.arrange.number.Tie as tie
-use Rattle.table_listing.proofs.arrange.number.Reads as reads
-use Rattle.table_listing.proofs.arrange.number.Lts as lts
 
 abbrev Inv-loop : tie.InvT-loop
 Inv-loop list₀ i₀ list i = (i ≤ length list₀) × (length list ≡ length list₀) × Copying (places (length list₀)) i list

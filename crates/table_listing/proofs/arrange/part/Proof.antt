@@ -5,10 +5,6 @@ use lib.Seq.{length-take-le}
 use borrow.Author.Needs.{needs}
 use Rattle.table_listing.proofs.arrange.part.Statement.{statement}
 use Rattle.table_listing.proofs.arrange.part.Tie as tie
-use Rattle.table_listing.proofs.arrange.part.Reads as reads
-use Rattle.table_listing.proofs.arrange.part.Lts as lts
-use Rattle.table_listing.proofs.arrange.copy.Reads as copy-reads
-use Rattle.table_listing.proofs.arrange.pick_each.Reads as pick-each-reads
 
 -- src/arrange.rt:59:16
 slice-relend-prefix-from : tie.Need-slice-relend-prefix-from

@@ -11,9 +11,6 @@ use Rattle.table_listing.specs.Pick.{Picking}
 use Rattle.table_listing.specs.Pick.Laws.{picking-none, picking-some, picking-other, picking-all, picking-room}
 use Rattle.table_listing.proofs.arrange.pick.Statement.{statement}
 use Rattle.table_listing.proofs.arrange.pick.Tie as tie
-use Rattle.table_listing.proofs.arrange.pick.Reads as reads
-use Rattle.table_listing.proofs.arrange.pick.Lts as lts
-use Rattle.table_listing.proofs.string.way_of.Reads as way-of-reads
 
 abbrev Inv-loop : tie.InvT-loop
 Inv-loop table from d k out₀ at next₀ i₀ out next i = Picking (codewordAt (wordsOf table)) d k from out₀ at i next out

@@ -7,9 +7,6 @@ use Rattle.table_listing.specs.Pick.Laws.{picked-length, parted-all}
 use borrow.Author.Needs.{needs}
 use Rattle.table_listing.proofs.arrange.pick_each.Statement.{statement}
 use Rattle.table_listing.proofs.arrange.pick_each.Tie as tie
-use Rattle.table_listing.proofs.arrange.pick_each.Reads as reads
-use Rattle.table_listing.proofs.arrange.pick_each.Lts as lts
-use Rattle.table_listing.proofs.arrange.pick.Reads as pick-reads
 
 -- src/arrange.rt:70:9
 pick-requires : tie.Need-pick-requires

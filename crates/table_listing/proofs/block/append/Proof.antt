@@ -3,9 +3,6 @@ use Rattle.table_listing.specs.Fill.Laws.{append-fits, append-stays}
 use borrow.Author.Needs.{needs}
 use Rattle.table_listing.proofs.block.append.Statement.{statement}
 use Rattle.table_listing.proofs.block.append.Tie as tie
-use Rattle.table_listing.proofs.block.append.Reads as reads
-use Rattle.table_listing.proofs.block.append.Lts as lts
-use Rattle.text.proofs.put.put_bytes.Reads as put-bytes-reads
 
 -- src/block.rt:85:22
 sub-if1 : tie.Need-sub-if1

@@ -6,10 +6,6 @@ use Rattle.text.specs.Put.Laws.{put-front}
 use borrow.Author.Needs.{needs}
 use Rattle.table_listing.proofs.block.append_line.Statement.{statement}
 use Rattle.table_listing.proofs.block.append_line.Tie as tie
-use Rattle.table_listing.proofs.block.append_line.Reads as reads
-use Rattle.table_listing.proofs.block.append_line.Lts as lts
-use Rattle.table_listing.proofs.block.append.Reads as append-reads
-use Rattle.table_listing.proofs.line.put_line.Reads as put-line-reads
 
 -- src/block.rt:66:22
 slice-aggregate-put-line : tie.Need-slice-aggregate-put-line

@@ -6,10 +6,6 @@ use Rattle.text.specs.Put.Laws.{put-front}
 use borrow.Author.Needs.{needs}
 use Rattle.table_listing.proofs.block.append_refused.Statement.{statement}
 use Rattle.table_listing.proofs.block.append_refused.Tie as tie
-use Rattle.table_listing.proofs.block.append_refused.Reads as reads
-use Rattle.table_listing.proofs.block.append_refused.Lts as lts
-use Rattle.table_listing.proofs.block.append.Reads as append-reads
-use Rattle.text.proofs.line.put_refused_line.Reads as put-refused-line-reads
 
 -- src/block.rt:76:30
 slice-aggregate-put-refused-line : tie.Need-slice-aggregate-put-refused-line

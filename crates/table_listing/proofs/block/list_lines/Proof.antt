@@ -13,9 +13,6 @@ use Rattle.table_listing.specs.Fill.{Filling}
 use Rattle.table_listing.specs.Fill.Laws.{filling-none, filling-all, turn-stop, turn-more, line-at, length-lines}
 use Rattle.table_listing.proofs.block.list_lines.Statement.{statement}
 use Rattle.table_listing.proofs.block.list_lines.Tie as tie
-use Rattle.table_listing.proofs.block.list_lines.Reads as reads
-use Rattle.table_listing.proofs.block.list_lines.Lts as lts
-use Rattle.table_listing.proofs.block.append_line.Reads as append-line-reads
 
 abbrev Inv-loop : tie.InvT-loop
 Inv-loop table list first out₀ at₀ i₀ out at i = (first ≤ i) × Filling (drop first (map (line (wordsOf table)) list)) out₀ (i - first) at out

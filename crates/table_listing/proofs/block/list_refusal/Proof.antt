@@ -4,9 +4,6 @@ use Rattle.table_listing.specs.Fill.Laws.{refused-some, alone-past, alon
 use borrow.Author.Needs.{needs}
 use Rattle.table_listing.proofs.block.list_refusal.Statement.{statement}
 use Rattle.table_listing.proofs.block.list_refusal.Tie as tie
-use Rattle.table_listing.proofs.block.list_refusal.Reads as reads
-use Rattle.table_listing.proofs.block.list_refusal.Lts as lts
-use Rattle.table_listing.proofs.block.append_refused.Reads as append-refused-reads
 
 -- src/block.rt:49:9
 returns : tie.Need-returns

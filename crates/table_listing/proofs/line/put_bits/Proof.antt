@@ -12,8 +12,6 @@ use Rattle.text.specs.Put.Laws.{putting-none, putting-more, putting-all}
 use Rattle.table_listing.specs.Line.Laws.{length-bits, getD-bits}
 use Rattle.table_listing.proofs.line.put_bits.Statement.{statement}
 use Rattle.table_listing.proofs.line.put_bits.Tie as tie
-use Rattle.table_listing.proofs.line.put_bits.Reads as reads
-use Rattle.table_listing.proofs.line.put_bits.Lts as lts
 
 abbrev Inv-loop : tie.InvT-loop
 Inv-loop out₀ at w n i₀ out i = (i ≤ w % 32) × (length out ≡ length out₀) × Putting out₀ at (map digit (codeword w)) i out

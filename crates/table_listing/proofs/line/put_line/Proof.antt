@@ -5,12 +5,6 @@ use Rattle.table_listing.specs.Line.Laws.{put-parts}
 use borrow.Author.Needs.{needs}
 use Rattle.table_listing.proofs.line.put_line.Statement.{statement}
 use Rattle.table_listing.proofs.line.put_line.Tie as tie
-use Rattle.table_listing.proofs.line.put_line.Reads as reads
-use Rattle.table_listing.proofs.line.put_line.Lts as lts
-use Rattle.table_listing.proofs.line.put_bits.Reads as put-bits-reads
-use Rattle.table_listing.proofs.line.put_name.Reads as put-name-reads
-use Rattle.table_listing.proofs.string.string_word.Reads as string-word-reads
-use Rattle.text.proofs.put.put_bytes.Reads as put-bytes-reads
 
 -- src/line.rt:24:9
 put-name-requires : tie.Need-put-name-requires

@@ -7,11 +7,6 @@ use Rattle.table_listing.specs.Line.Laws.{name-raw, name-pixel, name-bia
 use borrow.Author.Needs.{needs}
 use Rattle.table_listing.proofs.line.put_name.Statement.{statement}
 use Rattle.table_listing.proofs.line.put_name.Tie as tie
-use Rattle.table_listing.proofs.line.put_name.Reads as reads
-use Rattle.table_listing.proofs.line.put_name.Lts as lts
-use Rattle.code_table.proofs.entry.difference_of.Reads as difference-of-reads
-use Rattle.text.proofs.number.put_integer.Reads as put-integer-reads
-use Rattle.text.proofs.put.put_bytes.Reads as put-bytes-reads
 
 -- src/line.rt:39:35
 slice-aggregate-put-bytes : tie.Need-slice-aggregate-put-bytes

@@ -4,9 +4,6 @@ use Rattle.table_listing.specs.Strings.{word-none}
 use borrow.Author.Needs.{needs}
 use Rattle.table_listing.proofs.string.string_word.Statement.{statement}
 use Rattle.table_listing.proofs.string.string_word.Tie as tie
-use Rattle.table_listing.proofs.string.string_word.Reads as reads
-use Rattle.table_listing.proofs.string.string_word.Lts as lts
-use Rattle.code_table.proofs.header.word_at.Reads as word-at-reads
 
 -- src/string.rt:14:13
 add-i : tie.Need-add-i

@@ -4,9 +4,6 @@ use Rattle.table_listing.specs.Strings.{way-word-ended, way-word-on}
 use borrow.Author.Needs.{needs}
 use Rattle.table_listing.proofs.string.way_of.Statement.{statement}
 use Rattle.table_listing.proofs.string.way_of.Tie as tie
-use Rattle.table_listing.proofs.string.way_of.Reads as reads
-use Rattle.table_listing.proofs.string.way_of.Lts as lts
-use Rattle.table_listing.proofs.string.string_word.Reads as string-word-reads
 
 -- src/string.rt:26:9
 string-word-requires : tie.Need-string-word-requires

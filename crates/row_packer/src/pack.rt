@@ -50,8 +50,9 @@ fn pack_row(table: &[u8], most: u32, pixels: &[u8], words: &mut [u8]) -> Answer
             count: 0,
         };
     }
+    let bits = write(table, header, pixels, words);
     Answer {
         number: 0,
-        count: write(table, header, pixels, words),
+        count: bits,
     }
 }

@@ -7,7 +7,7 @@ use lib.ListN.{length, take, drop}
 use lib.Dec.{leb, ltb, eqb}
 use Rattle.bitstream.specs.Bits.{numOf, begins, wordsFor}
 use Rattle.row_format.specs.Lists.{any, least}
-use Rattle.row_format.specs.Table.{lowLimit, codewords, codewordAt}
+use Rattle.row_format.specs.Table.{codewords, codewordAt, entryDifference}
 use Rattle.row_format.specs.Row.{Item, difference, badPixel, badBias, escape, State, fresh, previous, after, byDifference}
 pub mod Laws
 
@@ -52,7 +52,7 @@ unfoldable pub matched : List ℕ → State → List ℕ → ℕ → ℕ → Rea
 matched t s r zero n = rawHeight n r
 matched t s r (suc zero) n = item badPixel n
 matched t s r (suc (suc zero)) n = item badBias n
-matched t s r (suc (suc (suc i))) n = cond (inside s (i + lowLimit t)) (item (difference (i + lowLimit t)) n) (fault 8 n)
+matched t s r (suc (suc (suc i))) n = cond (inside s (entryDifference t i)) (item (difference (entryDifference t i)) n) (fault 8 n)
 
 abbrev pub taken : List ℕ → State → List ℕ → Match → Reading
 taken t s r none = unmatched (codewords t) r

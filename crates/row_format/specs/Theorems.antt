@@ -17,9 +17,9 @@ use Rattle.answer.specs.Outcome.{answerOf, wrote}
 use Rattle.row_format.specs.Lists.{any}
 use Rattle.row_format.specs.Table.{lowLimit, tableSize, codewordAt, escapeLength, signed, entryDifference, hasDifference, verdict, tableNumber, maxItemBits}
 use Rattle.row_format.specs.Table.Laws.{Accepted, accepted, verdict-accepted, signed-least, signed-most, signed-differenceTo, length-codewordAt, escapeLength-least, codewordAt-least, codewordAt-most, codewordAt-only, entryDifference-most, maxItemBits-least, maxItemBits-most}
-use Rattle.row_format.specs.Row.{Item, escape, State, fresh, previous, differenceTo, byDifference, itemFor, itemsFor, pixelsOf, bits, rowBits}
-use Rattle.row_format.specs.Row.Laws.{itemFor-escape}
-use Rattle.row_format.specs.Reading.{readItem, done, readItems, stray, anyNeedless}
+use Rattle.row_format.specs.Row.{Item, difference, escape, State, fresh, previous, differenceTo, byDifference, itemFor, pixelOf, itemBits, itemsFor, pixelsOf, bits, rowBits}
+use Rattle.row_format.specs.Row.Laws.{itemFor-escape, length-pixelsOf}
+use Rattle.row_format.specs.Reading.{inside, readItem, done, readItems, stray, anyNeedless}
 use Rattle.row_format.specs.Calls.{packed, unpacked, bitsUsed, room}
 use Rattle.row_format.specs.Calls.Laws.{Packable, packable, packed-number, packed-done, packed-front, rowBytes}
 use Bounds.{bitsOfReading, readItem-uses, bitsUsed-most, length-rowBits}
@@ -27,13 +27,16 @@ use RoundTrip.{pixelsOf-itemsFor, unpacked-rowBytes, unpacked-packed}
 use Locality.{unpacked-alike}
 use Room.{packNumber-five, packNumber-done, room-done, packNumber-room}
 use Tightness.{steep, length-steep, any-steep, longest-escape, length-rowBits-steep}
-use OwnWords.{own-words, own-words-packed}
+use Differences.{entry-for, itemBits-entry, leads, pixelOf-differenceTo}
+use Standing.{readItems-stands}
+use OwnWords.{own-words, own-words-packed, any-pixelsOf}
 use Memory.{Kept, Within, packed-kept, packed-within, unpacked-kept, unpacked-within}
 use Numbers.{packNumber-in, unpacked-in}
 use Done.{unpacked-accepts, unpacked-count, bitsUsed-count}
 pub mod Search
 pub mod Bounds
 pub mod Items
+pub mod Differences
 pub mod RoundTrip
 pub mod Words
 pub mod Locality
@@ -74,6 +77,13 @@ module _ (t : List ℕ) (ok : verdict t ≡ 0) where
       let k = entryDifference t i in
       (signed-least k, signed-most k (entryDifference-most t (accepted t ok) i h))
 
+  -- "If the table has the step": some entry stands for it; and "its string" is that entry's. (Of any table's words)
+  pub has-difference : (k : ℕ) → (hasDifference t k ≡ true) ↔ ((i : ℕ) × (i < tableSize t) × (entryDifference t i ≡ k))
+  has-difference = entry-for t
+
+  pub entry-codeword : (i : ℕ) → itemBits t (difference (entryDifference t i)) ≡ codewordAt t (3 + i)
+  entry-codeword = itemBits-entry t
+
   -- "No string equals or begins another, the three special ones included": no two can begin the same bits
   pub codewords-apart : (i j : ℕ) (r : List ℕ) → i < 3 + tableSize t → j < 3 + tableSize t
       → begins (codewordAt t i) r ≡ true → begins (codewordAt t j) r ≡ true → i ≡ j
@@ -86,6 +96,15 @@ module _ (t : List ℕ) (ok : verdict t ≡ 0) where
 -- "step = pixel - previous height"
 pub difference-signed : (s : State) (p : ℕ) → previous s ≤ 4093 → signed (differenceTo s p) ≡ pos p -ℤ pos (previous s)
 difference-signed s p h = signed-differenceTo p (previous s) h
+
+-- 8 is "a step leads outside 0 to 4093": a step leads inside exactly when it is that of some height, and then it stands for
+-- that height
+pub difference-leads : (s : State) (k : ℕ) → previous s ≤ 4093
+    → (inside s k ≡ true) ↔ ((p : ℕ) × (p ≤ 4093) × (k ≡ differenceTo s p))
+difference-leads = leads
+
+pub difference-pixel : (s : State) (p : ℕ) → previous s ≤ 4093 → pixelOf s (difference (differenceTo s p)) ≡ p
+difference-pixel = pixelOf-differenceTo
 
 -- "a step that the table lacks must come back as the height itself"
 pub lacking-difference : (t : List ℕ) (s : State) (p : ℕ) → p ≤ 4093 → byDifference t s p ≡ false → itemFor t s p ≡ escape p
@@ -112,6 +131,13 @@ module _ (tb pb m : List ℕ) (bytes : Below 256 pb) (packs : packed tb pb m .an
       → unpacked tb (packed tb pb m .memory) (length (halvesOf pb)) m′
       ≡ wrote (packed tb pb m .answer .count) (take (2 * length (halvesOf pb)) pb) m′
   round-trip-memory m′ room = unpacked-packed tb pb m m′ bytes (sym (packed-number tb pb m) ∙ packs) room
+
+-- what is read is a row: no pixel of it is above 4095, and n are given
+pub read-pixels : (t : List ℕ) → verdict t ≡ 0 → (n : ℕ) (r : List ℕ) → Below 2 r → (is : List Item) (u : ℕ)
+    → readItems t n r ≡ done is u → (length (pixelsOf fresh is) ≡ n) × (any (ltb 4095) (pixelsOf fresh is) ≡ false)
+read-pixels t ok n r bits is u e =
+    let stands = readItems-stands t (accepted t ok) n r is u bits e in
+    (length-pixelsOf fresh is ∙ stands .count, any-pixelsOf t fresh is (stands .fits))
 
 -- "The used words of an accepted reading are the very words packing would write exactly when no raw item was needless"
 pub used-words-own : (t : List ℕ) → verdict t ≡ 0 → (wb : List ℕ) → Below 256 wb → (n : ℕ) (is : List Item) (u : ℕ)

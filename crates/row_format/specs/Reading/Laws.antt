@@ -9,7 +9,7 @@ use borrow.Author.Tests.{ltb-true, ltb-false}
 use Rattle.bitstream.specs.Bits.{numOf, begins}
 use Rattle.row_format.specs.Lists.{any, least}
 use Rattle.row_format.specs.Lists.Laws.{by-test}
-use Rattle.row_format.specs.Table.{lowLimit}
+use Rattle.row_format.specs.Table.{entryDifference}
 use Rattle.row_format.specs.Row.{difference, escape, State}
 use Rattle.row_format.specs.Reading.{Reading, item, fault, unmatched, rawHeight, inside, matched}
 
@@ -37,8 +37,8 @@ module _ (P : Reading → Type 0) where
       (λ d. rw d (nine (ltb-false (length r) (n + 12) e) (ltb-false h 4094 d)))))
 
   pub matched-cases : (t : List ℕ) (s : State) (r : List ℕ) (i n : ℕ)
-      → (inside s (i + lowLimit t) ≡ true → P (item (difference (i + lowLimit t)) n))
-      → (inside s (i + lowLimit t) ≡ false → P (fault 8 n))
+      → (inside s (entryDifference t i) ≡ true → P (item (difference (entryDifference t i)) n))
+      → (inside s (entryDifference t i) ≡ false → P (fault 8 n))
       → P (matched t s r (suc (suc (suc i))) n)
   unfolding matched
-  matched-cases t s r i n step eight = by-test (inside s (i + lowLimit t)) (λ e. rw e (step e)) (λ e. rw e (eight e))
+  matched-cases t s r i n step eight = by-test (inside s (entryDifference t i)) (λ e. rw e (step e)) (λ e. rw e (eight e))

@@ -104,7 +104,7 @@ pub record Right (t : List ℕ) (s : State) (p : ℕ) (i : Item) : Type 0 where
   pub fits : Fits t s i
   pub pixel : pixelOf s i ≡ p
 
-inside-differenceTo : (s : State) (p : ℕ) → previous s ≤ 4093 → p ≤ 4093 → inside s (differenceTo s p) ≡ true
+pub inside-differenceTo : (s : State) (p : ℕ) → previous s ≤ 4093 → p ≤ 4093 → inside s (differenceTo s p) ≡ true
 inside-differenceTo s p height low =
     let to = previous s + differenceTo s p in
     rw (le-leb 4093 to (omega arith), le-leb to 8186 (omega arith))

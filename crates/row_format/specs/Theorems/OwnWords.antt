@@ -69,7 +69,7 @@ pixelOf-most t s badPixel fits = omega arith
 pixelOf-most t s badBias fits = omega arith
 pixelOf-most t s (escape h) fits = omega arith
 
-any-pixelsOf : (t : List ℕ) (s : State) (is : List Item) → FitAll t s is → any (ltb 4095) (pixelsOf s is) ≡ false
+pub any-pixelsOf : (t : List ℕ) (s : State) (is : List Item) → FitAll t s is → any (ltb 4095) (pixelsOf s is) ≡ false
 unfolding pixelsOf any
 any-pixelsOf t s [] fits = refl
 any-pixelsOf t s (i ∷ is) fits =

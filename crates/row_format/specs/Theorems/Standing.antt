@@ -1,22 +1,22 @@
 -- What is read stands there: under an accepted table the bits that a reading uses are those of its items. Assumes nothing.
-use Prim.Native.Nat.{ℕ, zero, suc, _+_, _-_, _≤_, _<_}
+use Prim.Native.Nat.{ℕ, zero, suc, _+_, _≤_}
 use native.Mathlib.Omega.{arith}
 use mathlib.Core.Path.{_≡_, refl, sym, ap, _∙_, subst}
 use mathlib.Core.Bool.{true}
 use mathlib.Core.List.{List, _++_, append-assoc}
 use lib.ListN.{length, take, drop, length-append, length-drop, take-append-drop}
 use lib.Seq.{drop-drop, length-take-le}
-use borrow.Author.Tests.{lt-ltb, le-leb}
 use Rattle.bitstream.specs.Bits.{digits, numOf, begins}
 use Rattle.bitstream.specs.Bits.Laws.{Below, below-take, below-drop, length-digits, digits-numOf}
 use Rattle.row_format.specs.BitLaws.{begins-drop}
-use Rattle.row_format.specs.Table.{lowLimit, tableSize, hasDifference, codewords, codewordAt}
+use Rattle.row_format.specs.Table.{entryDifference, codewords, codewordAt}
 use Rattle.row_format.specs.Table.Laws.{Accepted, getD-codewords, length-codewords-size}
 use Rattle.row_format.specs.Row.{Item, difference, State, fresh, after, itemBits, bits}
 use Rattle.row_format.specs.Reading.Laws.{unmatched-cases, rawHeight-cases, matched-cases}
 use Rattle.row_format.specs.Reading.{Match, none, found, find, Reading, item, fault, rawHeight, unmatched, matched, taken, readItem, Run, done, stop, prepend, follow, readBy, readItems}
 use Rattle.row_format.specs.Theorems.Search.{Found, find-found}
 use Rattle.row_format.specs.Theorems.Items.{Fits, FitAll}
+use Rattle.row_format.specs.Theorems.Differences.{hasDifference-entry, itemBits-entry}
 
 -- ---- one item
 -- an item's bits stand at the front of the rest, and are u
@@ -54,15 +54,6 @@ rawHeight-stands t s r bin p = rawHeight-cases (Stands t s r) (length (codewordA
     (λ long height. (height, field-front (codewordAt t 0) r 12 bin p long))
     (λ long high. tt)
 
--- entry i's string, at place 3 + i, is that of its difference
-itemBits-entry : (t : List ℕ) (i : ℕ) → itemBits t (difference (i + lowLimit t)) ≡ codewordAt t (suc (suc (suc i)))
-itemBits-entry t i = let place : 3 + (i + lowLimit t - lowLimit t) ≡ suc (suc (suc i)) = omega arith in rw place
-
-hasDifference-entry : (t : List ℕ) (i : ℕ) → i < tableSize t → hasDifference t (i + lowLimit t) ≡ true
-hasDifference-entry t i h =
-    let k = i + lowLimit t in
-    rw (le-leb (lowLimit t) k (omega arith)) (lt-ltb k (lowLimit t + tableSize t) (omega arith))
-
 module _ (t : List ℕ) (ok : Accepted t) where
   taken-stands : (s : State) (r : List ℕ) → Below 2 r → (m : Match) → Found (codewords t) r m → Stands t s r (taken t s r m)
   unfolding matched unmatched
@@ -72,9 +63,10 @@ module _ (t : List ℕ) (ok : Accepted t) where
   taken-stands s r bin (found (suc (suc zero))) q = (tt, front-of (codewordAt t 2) r (rw (getD-codewords t 2) at (q .1)))
   taken-stands s r bin (found (suc (suc (suc i)))) q =
       let j = suc (suc (suc i)) in
+      let place : 3 + i ≡ j = omega arith in
       let has = hasDifference-entry t i (omega (arith, q .0, length-codewords-size t ok)) in
-      let front : Front (itemBits t (difference (i + lowLimit t))) r (length (codewordAt t j)) =
-      rw (itemBits-entry t i) (front-of (codewordAt t j) r (rw (getD-codewords t j) at (q .1))) in
+      let front : Front (itemBits t (difference (entryDifference t i))) r (length (codewordAt t j)) =
+      rw (itemBits-entry t i, place) (front-of (codewordAt t j) r (rw (getD-codewords t j) at (q .1))) in
       matched-cases (Stands t s r) t s r i (length (codewordAt t j)) (λ leads. ((has, leads), front)) (λ eight. tt)
 
   pub readItem-stands : (s : State) (r : List ℕ) → Below 2 r → Stands t s r (readItem t s r)

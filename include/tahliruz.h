@@ -14,7 +14,7 @@
  *  - each pointer is valid for its length in bytes, or the length is 0 and the
  *    pointer is any, null too;
  *  - memory lent for writing overlaps no other argument;
- *  - 96 KiB of stack are free at the call.
+ *  - 64 KiB of stack are free at the call.
  *
  * Tables, words and pixels are little-endian bytes: a table or packed row is
  * made of 4-byte words, a pixel has 2 bytes. All lengths are in bytes. An

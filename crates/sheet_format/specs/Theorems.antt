@@ -10,12 +10,13 @@ use mathlib.Core.Logic.{_↔_}
 use lib.ListN.{length, take, drop, getD}
 use lib.Dec.{ltb, eqb}
 use Rattle.bitstream.specs.Bits.Laws.{Below}
+use Rattle.answer.specs.Outcome.Laws.{lessNumber-none, lessNumber-given, refuseIf-in}
 use Rattle.row_format.specs.Lists.{any}
 use Rattle.row_format.specs.Table.{tableNumber}
 use Rattle.sheet_format.specs.declared.SheetState.{SheetState}
 use Rattle.sheet_format.specs.declared.RecordRead.{RecordRead}
 use Rattle.sheet_format.specs.Record.{lengthField, kindOf, lengthNumber, nothing, lent, recordSpan}
-use Rattle.sheet_format.specs.Record.Laws.{lessNumber-none, lessNumber-given, right-length}
+use Rattle.sheet_format.specs.Record.Laws.{right-length}
 use Rattle.sheet_format.specs.Reading.{newSheet, answerBytes, recordContent, recordJudged, recordRead, readDone}
 use Rattle.sheet_format.specs.Reading.Laws.{recordJudged-number, recordRead-number}
 use Rattle.sheet_format.specs.Writing.{recordWritten, recordFor}
@@ -31,7 +32,7 @@ use Room.{recordRead-granted, recordRead-full, recordRead-within}
 use Rising.{sheetRead-rising}
 use TableFirst.{table-accepted, sheetRead-table-first}
 use Sheets.{sheetRead-written}
-use Numbers.{refuseIf-in, recordNumber-in, writeNumber-in}
+use Numbers.{recordNumber-in, writeNumber-in}
 pub mod Given
 pub mod Bodies
 pub mod ReadBack
@@ -192,7 +193,7 @@ read-numbers tb r st m =
     let known : ℕ → Type 0 = λ e. any (eqb e) (5 ∷ judgedNumbers) ≡ true in
     rw (recordRead-number tb r st m)
     (recordNumber-in known refl refl refl refl refl refl refl refl refl refl refl refl refl refl refl refl
-    (lent (length m)) (λ n. refuseIf-in known refl (ltb (length m) n) 5 refl) tb r st)
+    (lent (length m)) (λ n. refuseIf-in known (ltb (length m) n) 5 refl refl) tb r st)
 
 pub written-numbers : (code row : ℕ) (tb c : List ℕ) (st : SheetState) (m : List ℕ)
     → any (eqb (recordWritten code row tb c st m .answer .number)) (0 ∷ 15 ∷ 16 ∷ 1 ∷ 2 ∷ 3 ∷ 11 ∷ 4 ∷ 5 ∷ []) ≡ true

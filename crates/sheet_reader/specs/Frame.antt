@@ -5,6 +5,7 @@ use mathlib.Core.Path.{_≡_, refl, sym, _∙_}
 use mathlib.Core.List.{List, []}
 use lib.ListN.{length, take, drop, length-take}
 use borrow.Author.Tests.{lt-ltb, le-ltb}
+use Rattle.answer.specs.Outcome.Laws.{given-first}
 use Rattle.sheet_format.specs.declared.SheetState.{SheetState}
 use Rattle.sheet_format.specs.declared.RecordRead.{RecordRead}
 use Rattle.sheet_format.specs.Record.{lengthField, kindField, tableRecord, packedRecord, plainRecord, lineRecord, unknown, kindOf, lengthNumber, kindNumber, lent, bodyNumber, leftoverNumber, lastRoomNumber, contentNumber, recordNumber}
@@ -12,7 +13,7 @@ use Rattle.sheet_format.specs.Record.Laws.{RightLength, lengthNumber-right, rig
 use Rattle.sheet_format.specs.Theorems.Judged.{recordNumber-enough}
 use Rattle.sheet_format.specs.Reading.{refusedRecord, held, recordHeld, recordContent, recordJudged, recordRead}
 use Rattle.sheet_reader.specs.Leaves.{readOutcome, ContentLeaves, BodyLeaves, RecordLeaves, tableJudged}
-use Rattle.sheet_reader.specs.Leaves.Laws.{given-first, readUnless-nothing, refuses}
+use Rattle.sheet_reader.specs.Leaves.Laws.{readUnless-nothing, refuses}
 
 -- ---- the length
 pub length-missing : (r : List ℕ) → length r < 4 → 14 ≡ lengthNumber r

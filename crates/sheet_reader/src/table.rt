@@ -1,12 +1,13 @@
 // A table in a record.
 use crate::answers::held;
 use crate::answers::refused;
-use code_table::check::check;
+use row_unpacker::unpack::unpack;
 use sheet_format::RecordRead;
 use sheet_format::SheetState;
 ghost use mathlib.Core.Path.{_≡_};
 ghost use Prim.Native.Nat.{_≤_};
 ghost use lib.ListN.{length};
+ghost use Rattle.row_format.specs.Table.{tableNumber};
 ghost use Rattle.sheet_reader.specs.Leaves.{tableJudged};
 
 pub fn read_table(body: &[u8], whole: u32, state: SheetState) -> RecordRead
@@ -19,8 +20,7 @@ pub fn read_table(body: &[u8], whole: u32, state: SheetState) -> RecordRead
     if state.tables != 0 {
         return refused(16, state);
     }
-    let checked = check(body);
-    let number = checked.number;
+    let number = table_number(body);
     if number != 0 {
         return refused(number, state);
     }
@@ -29,4 +29,14 @@ pub fn read_table(body: &[u8], whole: u32, state: SheetState) -> RecordRead
         least: state.least,
     };
     held(1, 0, (body.len() / 4) as u32, 0, whole, after)
+}
+
+// An unpacking of no pixels is refused exactly as its table is. The check is asked for in this way so that its copy of the
+// strings has one place on the stack, below unpacking, and none in the frame of the record call.
+fn table_number(table: &[u8]) -> u32
+    ensures { λ r. ⌜ r ≡ tableNumber (now (table .entry)) ⌝ }
+{
+    let mut pixels = [0u8; 1];
+    let unpacked = unpack(table, table, 0, &mut pixels);
+    unpacked.number
 }

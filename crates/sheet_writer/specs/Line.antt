@@ -5,13 +5,12 @@ use mathlib.Core.Path.{_≡_, refl}
 use mathlib.Core.List.{List, []}
 use lib.ListN.{length}
 use borrow.Author.Tests.{lt-ltb, le-ltb, eq-eqb, ne-eqb}
+use Rattle.answer.specs.Outcome.Laws.{lessNumber-zero, orElse-zero-right}
 use Rattle.sheet_format.specs.declared.SheetState.{SheetState}
 use Rattle.sheet_format.specs.Line.{lineBytes}
 use Rattle.sheet_format.specs.Line.Laws.{length-lineBytes}
 use Rattle.sheet_format.specs.Record.{lineRecord, kindNumber, placeNumber}
-use Rattle.sheet_format.specs.Record.Laws.{lessNumber-zero}
 use Rattle.sheet_format.specs.Writing.{givenNumbers, bodyFor, givenNumber}
-use Rattle.row_format.specs.Calls.Laws.{orElse-zero-right}
 use Rattle.sheet_writer.specs.Outcome.{judged}
 use Rattle.sheet_writer.specs.Fields.{lineFields}
 use Rattle.sheet_writer.specs.Fields.Laws.{length-lineFields, line-fields}

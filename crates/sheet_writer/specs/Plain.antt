@@ -10,13 +10,12 @@ use lib.Dec.{ltb}
 use borrow.Author.Tests.{lt-ltb, le-ltb}
 use Rattle.bitstream.specs.Bits.{halvesOf}
 use Rattle.answer.specs.Outcome.{_orElse_}
+use Rattle.answer.specs.Outcome.Laws.{lessNumber-zero, orElse-zero-left, orElse-zero-right}
 use Rattle.row_format.specs.Lists.{any}
 use Rattle.row_format.specs.Calls.{tooMany}
-use Rattle.row_format.specs.Calls.Laws.{orElse-zero-left, orElse-zero-right}
 use Rattle.row_pixels.specs.Pixels.{length-halves}
 use Rattle.sheet_format.specs.declared.SheetState.{SheetState}
 use Rattle.sheet_format.specs.Record.{packedRecord, plainRecord, kindNumber, placeNumber}
-use Rattle.sheet_format.specs.Record.Laws.{lessNumber-zero}
 use Rattle.sheet_format.specs.Writing.{bodyFor, givenNumber, tooHigh}
 use Rattle.sheet_writer.specs.Outcome.{judged}
 use Rattle.sheet_writer.specs.Outcome.Laws.{judged-placed}

@@ -1,15 +1,13 @@
 -- The ways out of writing a table. Assumes nothing.
 use Prim.Native.Nat.{ℕ, _+_, _≤_}
 use native.Mathlib.Omega.{arith}
-use mathlib.Core.Path.{_≡_, refl, ap, _∙_}
+use mathlib.Core.Path.{_≡_, refl, _∙_}
 use mathlib.Core.List.{List, []}
 use lib.ListN.{length}
 use borrow.Author.Tests.{eq-eqb, ne-eqb}
-use Rattle.answer.specs.declared.Answer.{Answer}
+use Rattle.answer.specs.Outcome.Laws.{orElse-zero-right}
 use Rattle.row_format.specs.Table.{tableNumber}
 use Rattle.row_format.specs.Table.Laws.{tableNumber-whole}
-use Rattle.row_format.specs.Calls.{checked}
-use Rattle.row_format.specs.Calls.Laws.{orElse-zero-right, checked-number}
 use Rattle.code_table.specs.Check.Laws.{length-words}
 use Rattle.row_packer.specs.Calls.{accepted-table}
 use Rattle.sheet_format.specs.declared.SheetState.{SheetState}
@@ -31,9 +29,9 @@ module _ (c : List ℕ) (st : SheetState) where
   table-second h = rw (ne-eqb (st .tables) 0 h)
 
   -- 1, 2, 3 or none
-  pub table-checked : st .tables ≡ 0 → (a : Answer) → a ≡ checked c → a .number ≡ judged tableRecord 0 [] c st
+  pub table-checked : st .tables ≡ 0 → {n : ℕ} → n ≡ tableNumber c → n ≡ judged tableRecord 0 [] c st
   unfolding judged placeNumber givenNumber
-  table-checked e a is = ap (λ (x : Answer). x .number) is ∙ checked-number c ∙ rw (eq-eqb (st .tables) 0 e)
+  table-checked e is = is ∙ rw (eq-eqb (st .tables) 0 e)
 
   -- an accepted table has at most 8193 words
   pub table-most : judged tableRecord 0 [] c st ≡ 0 → length c ≤ 32772

@@ -3,7 +3,7 @@ use crate::done::refused;
 use crate::done::written;
 use crate::fields::put_record_fields;
 use bytes::copy;
-use code_table::check::check;
+use row_packer::pack::pack;
 use sheet_format::RecordWritten;
 use sheet_format::SheetState;
 ghost use mathlib.Core.Path.{_≡_};
@@ -42,6 +42,9 @@ fn table_number(content: &[u8], state: SheetState) -> u32
     if state.tables != 0 {
         return 16;
     }
-    let checked = check(content);
-    checked.number
+    // A packing of no pixels is refused exactly as its table is. The check is asked for in this way so that its copy of the
+    // strings has one place on the stack, below packing, and none in the frame of the record call.
+    let mut words = [0u8; 1];
+    let packed = pack(content, &content[..0], &mut words);
+    packed.number
 }

@@ -1,35 +1,23 @@
 -- The laws of the calls' numbers: when each refusal is given. Assumes nothing.
-use Prim.Native.Nat.{ℕ, zero, suc, _*_, _/_, _≤_}
+use Prim.Native.Nat.{ℕ, suc, _*_, _/_, _≤_}
 use native.Mathlib.Omega.{arith}
 use mathlib.Core.Path.{_≡_, refl, sym, _∙_}
 use mathlib.Core.Bool.{false}
-use mathlib.Core.List.{List}
+use mathlib.Core.List.{List, []}
 use lib.ListN.{length, take, drop}
 use lib.Seq.{take-at}
 use lib.Dec.{ltb}
 use borrow.Author.Tests.{ltb-false, le-ltb}
-use Rattle.bitstream.specs.Bits.{wordsOf, halvesOf, bytesOf, wordsFor}
+use Rattle.bitstream.specs.Bits.{cut, wordsOf, halvesOf, bytesOf, wordsFor}
 use Rattle.bitstream.specs.Bits.Laws.{length-cut}
-use Rattle.answer.specs.Outcome.{Outcome, _orElse_, refuseIf, refused, wrote, unless}
-use Rattle.answer.specs.Outcome.Laws.{countUnless-number}
+use Rattle.answer.specs.Outcome.{_orElse_, refuseIf, refused, wrote}
+use Rattle.answer.specs.Outcome.Laws.{countUnless-number, orElse-none, orElse-zero-left, orElse-zero-right, unless-number}
 use Rattle.row_format.specs.Lists.{any}
 use Rattle.row_format.specs.Lists.Laws.{cond-zero-test}
 use Rattle.row_format.specs.Table.{tableNumber, maxItemBits}
-use Rattle.row_format.specs.Row.{rowBits}
-use Rattle.row_format.specs.Calls.{checked, tooMany, packNumber, packedRow, packed, unpackNumber}
-
--- ---- refusals in order: none is given exactly where none of the parts is
-pub orElse-zero-left : (a b : ℕ) → a orElse b ≡ 0 → a ≡ 0
-orElse-zero-left zero b e = refl
-orElse-zero-left (suc a) b e = absurd (omega arith)
-
-pub orElse-zero-right : (a b : ℕ) → a orElse b ≡ 0 → b ≡ 0
-orElse-zero-right zero b e = e
-orElse-zero-right (suc a) b e = absurd (omega arith)
-
-pub unless-number : (e : ℕ) (m : List ℕ) (o : Outcome) → o .answer .number ≡ 0 → unless e m o .answer .number ≡ e
-unless-number zero m o h = h
-unless-number (suc e) m o h = refl
+use Rattle.row_format.specs.Row.{bits, itemsFor, rowBits}
+use Rattle.row_format.specs.Reading.{readBy, readItems, stray}
+use Rattle.row_format.specs.Calls.{checked, tooMany, packNumber, packedRow, packed, unpackNumber, unpacked}
 
 tooMany-zero : (n : ℕ) → tooMany n ≡ 0 → n ≤ 4096
 tooMany-zero n e = ltb-false 4096 n (cond-zero-test (ltb 4096 n) 10 0 e)
@@ -38,6 +26,18 @@ tooMany-zero n e = ltb-false 4096 n (cond-zero-test (ltb 4096 n) 10 0 e)
 pub checked-number : (tb : List ℕ) → checked tb .number ≡ tableNumber tb
 unfolding checked
 checked-number tb = countUnless-number (tableNumber tb) (maxItemBits (wordsOf tb))
+
+-- ---- of no pixels: the table's number alone
+pub packed-nothing : (tb pb m : List ℕ) → length pb ≡ 0 → packed tb pb m .answer .number ≡ tableNumber tb
+unfolding packed packNumber packedRow rowBits itemsFor bits any cut
+packed-nothing tb pb m none =
+    let no-pixels : halvesOf pb ≡ [] = rw none in
+    rw (no-pixels, le-ltb (length m / 4) 0 (omega arith), orElse-none (tableNumber tb)) (unless-number (tableNumber tb) m _ refl)
+
+pub unpacked-nothing : (tb wb m : List ℕ) → unpacked tb wb 0 m .answer .number ≡ tableNumber tb
+unfolding unpacked unpackNumber readItems readBy stray any
+unpacked-nothing tb wb m =
+    rw (le-ltb (length m / 2) 0 (omega arith), orElse-none (tableNumber tb)) (unless-number (tableNumber tb) m _ refl)
 
 -- ---- packing
 -- what the refusals before the one for room ask of a table and a row

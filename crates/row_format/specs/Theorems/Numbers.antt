@@ -1,12 +1,12 @@
 -- Demand 1: packing and unpacking answer a number from document 01, and only those that it lists for the call. Each law is
 -- over any property P that these numbers have. Assumes nothing.
 use Prim.Native.Nat.{ℕ, zero, suc, _/_, _%_}
-use mathlib.Core.Bool.{Bool, true, false}
 use mathlib.Core.List.{List}
 use lib.ListN.{length, drop}
 use lib.Dec.{ltb, eqb}
 use Rattle.bitstream.specs.Bits.{wordsOf, stream, wordsFor}
-use Rattle.answer.specs.Outcome.{Outcome, _orElse_, refuseIf, unless}
+use Rattle.answer.specs.Outcome.{refuseIf}
+use Rattle.answer.specs.Outcome.Laws.{refuseIf-in, orElse-in, unless-in}
 use Rattle.row_format.specs.Lists.{any}
 use Rattle.row_format.specs.Lists.Laws.{by-test}
 use Rattle.row_format.specs.Table.{wrongSize, wrongCodeword, clash, codewords, codewordAt, verdict, tableNumber}
@@ -16,35 +16,23 @@ use Rattle.row_format.specs.Reading.{Match, none, found, find, Reading, 
 use Rattle.row_format.specs.Calls.{tooMany, packNumber, unpackNumber, afterRun, unpacked}
 
 module _ (P : ℕ → Type 0) where
-  refuseIf-in : (b : Bool) (e : ℕ) → P 0 → P e → P (refuseIf b e)
-  refuseIf-in true e none′ given = given
-  refuseIf-in false e none′ given = none′
-
-  orElse-in : (a b : ℕ) → P a → P b → P (a orElse b)
-  orElse-in zero b first second = second
-  orElse-in (suc a) b first second = first
-
-  unless-in : (e : ℕ) (m : List ℕ) (o : Outcome) → P e → P (o .answer .number) → P (unless e m o .answer .number)
-  unless-in zero m o refusal rest = rest
-  unless-in (suc e) m o refusal rest = refusal
-
-  tableNumber-in : (b : List ℕ) → P 0 → P 1 → P 2 → P 3 → P (tableNumber b)
+  pub tableNumber-in : (b : List ℕ) → P 0 → P 1 → P 2 → P 3 → P (tableNumber b)
   unfolding tableNumber verdict
   tableNumber-in b p0 p1 p2 p3 =
       let t = wordsOf b in
       by-test (eqb (length b % 4) 0)
       (λ e. rw e (by-test (wrongSize t) (λ d. rw d p1)
-      (λ d. rw d (by-test (wrongCodeword t) (λ c. rw c p2) (λ c. rw c (refuseIf-in (clash (codewords t)) 3 p0 p3))))))
+      (λ d. rw d (by-test (wrongCodeword t) (λ c. rw c p2) (λ c. rw c (refuseIf-in P (clash (codewords t)) 3 p0 p3))))))
       (λ e. rw e p1)
 
   pub packNumber-in : (tb ps : List ℕ) (roomWords : ℕ) → P 0 → P 1 → P 2 → P 3 → P 11 → P 4 → P 5
       → P (packNumber tb ps roomWords)
   unfolding packNumber
   packNumber-in tb ps roomWords p0 p1 p2 p3 p11 p4 p5 =
-      orElse-in (tableNumber tb) _ (tableNumber-in tb p0 p1 p2 p3)
-      (orElse-in (tooMany (length ps)) _ (refuseIf-in (ltb 4096 (length ps)) 11 p0 p11)
-      (orElse-in (refuseIf (any (ltb 4095) ps) 4) _ (refuseIf-in (any (ltb 4095) ps) 4 p0 p4)
-      (refuseIf-in (ltb roomWords (wordsFor (length (rowBits (wordsOf tb) ps)))) 5 p0 p5)))
+      orElse-in P (tableNumber tb) _ (tableNumber-in tb p0 p1 p2 p3)
+      (orElse-in P (tooMany (length ps)) _ (refuseIf-in P (ltb 4096 (length ps)) 11 p0 p11)
+      (orElse-in P (refuseIf (any (ltb 4095) ps) 4) _ (refuseIf-in P (any (ltb 4095) ps) 4 p0 p4)
+      (refuseIf-in P (ltb roomWords (wordsFor (length (rowBits (wordsOf tb) ps)))) 5 p0 p5)))
 
   -- ---- reading
   abbrev pub FaultIn : Reading → Type 0
@@ -86,14 +74,14 @@ module _ (P : ℕ → Type 0) where
     readItems-in t n r = readBy-in t fresh n r
 
     afterRun-in : (r : List ℕ) (n : ℕ) (m : List ℕ) (x : Run) → P 0 → P 10 → StopIn x → P (afterRun r n m x .answer .number)
-    afterRun-in r n m (done is u) p0 p10 h = unless-in (refuseIf (stray u r) 10) m _ (refuseIf-in (stray u r) 10 p0 p10) p0
+    afterRun-in r n m (done is u) p0 p10 h = unless-in P (refuseIf (stray u r) 10) m _ (refuseIf-in P (stray u r) 10 p0 p10) p0
     afterRun-in r n m (stop e at u) p0 p10 h = h
 
     pub unpacked-in : (tb wb : List ℕ) (n : ℕ) (m : List ℕ) → P 0 → P 1 → P 2 → P 3 → P 11 → P 5 → P 10
         → P (unpacked tb wb n m .answer .number)
     unfolding unpacked unpackNumber
     unpacked-in tb wb n m p0 p1 p2 p3 p11 p5 p10 =
-        unless-in (unpackNumber tb n (length m / 2)) m _
-        (orElse-in (tableNumber tb) _ (tableNumber-in tb p0 p1 p2 p3)
-        (orElse-in (tooMany n) _ (refuseIf-in (ltb 4096 n) 11 p0 p11) (refuseIf-in (ltb (length m / 2) n) 5 p0 p5)))
+        unless-in P (unpackNumber tb n (length m / 2)) m _
+        (orElse-in P (tableNumber tb) _ (tableNumber-in tb p0 p1 p2 p3)
+        (orElse-in P (tooMany n) _ (refuseIf-in P (ltb 4096 n) 11 p0 p11) (refuseIf-in P (ltb (length m / 2) n) 5 p0 p5)))
         (afterRun-in (stream wb) n m (readItems (wordsOf tb) n (stream wb)) p0 p10 (readItems-in (wordsOf tb) n (stream wb)))

@@ -1,24 +1,20 @@
 -- Demand 3: when a packing is refused for room, and that the room question's answer is always enough. Assumes nothing.
-use Prim.Native.Nat.{ℕ, suc, _*_, _≤_, _<_}
+use Prim.Native.Nat.{ℕ, _*_, _≤_, _<_}
 use native.Mathlib.Omega.{arith}
-use mathlib.Core.Path.{_≡_, refl, sym, _∙_}
-use mathlib.Core.Bool.{Bool, true, false}
+use mathlib.Core.Path.{_≡_, sym, _∙_}
 use mathlib.Core.List.{List}
 use mathlib.Core.Logic.{_↔_}
 use lib.ListN.{length}
 use lib.Dec.{ltb}
 use borrow.Author.Tests.{ltb-true, lt-ltb, le-ltb}
 use Rattle.bitstream.specs.Bits.{wordsOf, wordsFor}
-use Rattle.answer.specs.Outcome.{answerOf, refuseIf}
+use Rattle.answer.specs.Outcome.{answerOf}
+use Rattle.answer.specs.Outcome.Laws.{refuseIf-given}
 use Rattle.row_format.specs.Table.{tableNumber, maxItemBits}
 use Rattle.row_format.specs.Row.{rowBits}
 use Rattle.row_format.specs.Calls.{packNumber, room}
 use Rattle.row_format.specs.Calls.Laws.{Packable, packNumber-packable}
 use Rattle.row_format.specs.Theorems.Bounds.{length-rowBits}
-
-refuseIf-given : (b : Bool) (e : ℕ) → refuseIf b (suc e) ≡ suc e → b ≡ true
-refuseIf-given true e h = refl
-refuseIf-given false e h = absurd (omega arith)
 
 -- 5 exactly when the bits, rounded up to whole words, exceed the words lent
 pub packNumber-five : (tb ps : List ℕ) (roomWords : ℕ) → Packable tb ps

@@ -11,7 +11,8 @@ use lib.Seq.{take-suc, drop-cons, set-at, append-snoc, length-take-le}
 use lib.Dec.{eqb}
 use borrow.Author.Tests.{ne-eqb, lt-ltb, le-ltb}
 use Rattle.answer.specs.declared.Answer.{Answer}
-use Rattle.answer.specs.Outcome.{Outcome, answerOf, outcome, refused, _orElse_, unless}
+use Rattle.answer.specs.Outcome.{Outcome, answerOf, outcome, refused}
+use Rattle.answer.specs.Outcome.Laws.{unless-first}
 use Rattle.bitstream.specs.Bits.{numOf, flat, bytesOf, wordsOf, stream, wordsFor}
 use Rattle.bitstream.specs.Bits.Laws.{Below, below-head, below-tail, below-take, length-cut}
 use Rattle.row_format.specs.Lists.{any}
@@ -101,11 +102,6 @@ module _ (r : List ℕ) (n : ℕ) (m out : List ℕ) (x : RowRead) where
   pub row-refused : (number place : ℕ) → x ≡ Refused number place → (run : Run) → RowIs n out x (reached n fresh run) → refused number m ≡ afterRun r n m run
   row-refused number place e (done is u) h = absurd (let z : _≡_ {A = ℕ} 0 1 = cc (h .0) in omega arith)
   row-refused number place e (stop k at u) h = let same : k ≡ number = cc in rw same
-
--- ---- the whole call
-unless-first : (e d : ℕ) (m : List ℕ) (o : Outcome) → (e ≡ 0 → ⊥) → unless (e orElse d) m o ≡ refused e m
-unless-first zero d m o n = absurd (n refl)
-unless-first (suc e) d m o n = refl
 
 module _ (tb wb : List ℕ) (n : ℕ) (m : List ℕ) (a : Answer) (is : a ≡ checked tb) where
   number-checked : a .number ≡ tableNumber tb

@@ -5,45 +5,16 @@ use native.Mathlib.Decide.{decLt}
 use native.Mathlib.Omega.{arith}
 use mathlib.Core.Path.{_≡_, refl, sym, ap, _∙_}
 use mathlib.Core.Logic.{by-cases}
-use mathlib.Core.Bool.{Bool, true, false, not}
+use mathlib.Core.Bool.{Bool, true, false}
 use mathlib.Core.List.{List, [], _∷_}
 use lib.ListN.{length, take, drop}
 use lib.Seq.{take-nil}
-use lib.Dec.{ltb, eqb}
-use borrow.Author.Tests.{ltb-false, lt-ltb, le-ltb, eqb-true, eq-eqb, ne-eqb, not-false}
+use lib.Dec.{ltb}
+use borrow.Author.Tests.{lt-ltb, le-ltb}
 use Rattle.answer.specs.Outcome.{_orElse_, refuseIf}
-use Rattle.row_format.specs.Lists.Laws.{cond-zero-test}
-use Rattle.row_format.specs.Calls.Laws.{orElse-zero-left, orElse-zero-right}
+use Rattle.answer.specs.Outcome.Laws.{lessNumber-zero, orElse-zero-left, orElse-zero-right}
 use Rattle.sheet_format.specs.declared.SheetState.{SheetState}
 use Rattle.sheet_format.specs.Record.{lengthField, kindField, bodyOf, Kind, unknown, kindOf, rowNumber, lengthNumber, kindNumber, fixedNumber, placeNumber, Lent, bodyNumber, leftoverNumber, lastRoomNumber, contentNumber, recordNumber}
-
--- ---- refusals in order
--- after a refusal what follows is not looked at
-pub orElse-same : (a x y : ℕ) → (a ≡ 0 → x ≡ y) → a orElse x ≡ a orElse y
-orElse-same zero x y h = h refl
-orElse-same (suc a) x y h = refl
-
--- ---- one refusal
-pub refuseIf-zero : (b : Bool) (e : ℕ) → refuseIf b (suc e) ≡ 0 → b ≡ false
-refuseIf-zero b e h = cond-zero-test b e 0 h
-
-pub lessNumber-zero : (a b e : ℕ) → refuseIf (ltb a b) (suc e) ≡ 0 → b ≤ a
-lessNumber-zero a b e h = ltb-false a b (refuseIf-zero (ltb a b) e h)
-
-pub unequalNumber-zero : (a b e : ℕ) → refuseIf (not (eqb a b)) (suc e) ≡ 0 → a ≡ b
-unequalNumber-zero a b e h = eqb-true a b (not-false (eqb a b) (refuseIf-zero (not (eqb a b)) e h))
-
-pub lessNumber-none : (a b e : ℕ) → b ≤ a → refuseIf (ltb a b) e ≡ 0
-lessNumber-none a b e h = rw (le-ltb a b h)
-
-pub lessNumber-given : (a b e : ℕ) → a < b → refuseIf (ltb a b) e ≡ e
-lessNumber-given a b e h = rw (lt-ltb a b h)
-
-pub unequalNumber-none : (a b e : ℕ) → a ≡ b → refuseIf (not (eqb a b)) e ≡ 0
-unequalNumber-none a b e h = rw (eq-eqb a b h)
-
-pub unequalNumber-given : (a b e : ℕ) → (a ≡ b → ⊥) → refuseIf (not (eqb a b)) e ≡ e
-unequalNumber-given a b e h = rw (ne-eqb a b h)
 
 -- ---- the length
 pub record RightLength (r : List ℕ) : Type 0 where

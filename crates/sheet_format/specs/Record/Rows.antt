@@ -11,12 +11,12 @@ use lib.Dec.{ltb}
 use borrow.Author.Tests.{lt-ltb, le-ltb}
 use Rattle.bitstream.specs.Bits.{wordsOf, stream}
 use Rattle.answer.specs.Outcome.{Outcome, refused, wrote, _orElse_, refuseIf, unless}
+use Rattle.answer.specs.Outcome.Laws.{lessNumber-zero, lessNumber-none, orElse-same}
 use Rattle.row_format.specs.Table.{tableNumber}
 use Rattle.row_format.specs.Reading.{Run, done, stop}
 use Rattle.row_format.specs.Calls.{tooMany, afterRun, unpackNumber, unpacked}
 use Rattle.row_format.specs.Theorems.Numbers.{StopIn, readItems-in}
 use Rattle.sheet_format.specs.Record.{pixelCount, rowContent, runOf, bitsOfRun, nothing, lent, runNumber, packedNumber}
-use Rattle.sheet_format.specs.Record.Laws.{orElse-same, lessNumber-zero, lessNumber-none}
 use Rattle.sheet_format.specs.Reading.{pixelBytes}
 
 -- room counted in pixels and in bytes

@@ -12,6 +12,7 @@ use lib.Dec.{ltb}
 use borrow.Author.Tests.{eq-eqb}
 use Rattle.bitstream.specs.Bits.{bitsOf, halvesOf, wordsOf, stream, wordsFor}
 use Rattle.bitstream.specs.Bits.Laws.{Below, below-flat, below-cut, length-cut}
+use Rattle.answer.specs.Outcome.Laws.{lessNumber-none, unequalNumber-none}
 use Rattle.row_format.specs.Lists.{any}
 use Rattle.row_format.specs.BitLaws.{stream-bytesOf}
 use Rattle.row_format.specs.Table.{tableNumber}
@@ -26,7 +27,7 @@ use Rattle.sheet_format.specs.declared.SheetState.{SheetState}
 use Rattle.sheet_format.specs.Line.{lineBytes, numbers, readLine}
 use Rattle.sheet_format.specs.Line.Laws.{in-range-signedOf, readLine-lineBytes, length-lineBytes, map-wordOf-signedOf, bytesOf-wordsOf}
 use Rattle.sheet_format.specs.Record.{Kind, tableRecord, packedRecord, plainRecord, lineRecord, rowNumber, pixelCount, rowContent, numberCount, lineContent, runOf, lineOf, fixedNumber, placeNumber, Lent, roomNumber, bodyNumber, leftoverNumber, lastRoomNumber}
-use Rattle.sheet_format.specs.Record.Laws.{Passed, lessNumber-none, unequalNumber-none}
+use Rattle.sheet_format.specs.Record.Laws.{Passed}
 use Rattle.sheet_format.specs.Reading.{stateAfter, rowHeld, countHeld, bitsHeld, contentHeld}
 use Rattle.sheet_format.specs.Writing.{givenPixels, givenNumbers, twoBytes, bodyFor}
 use Rattle.sheet_format.specs.Writing.Laws.{numberOf-twoBytes, length-twoBytes, take-twoBytes, drop-twoBytes}

@@ -11,18 +11,18 @@ use lib.Dec.{ltb, eqb}
 use Rattle.bitstream.specs.Bits.{flat, halvesOf, wordsOf, stream}
 use Rattle.bitstream.specs.Bits.Laws.{length-cut}
 use Rattle.answer.specs.Outcome.{_orElse_, refuseIf}
+use Rattle.answer.specs.Outcome.Laws.{lessNumber-zero, lessNumber-none, unequalNumber-zero, orElse-zero-left, orElse-zero-right, orElse-same}
 use Rattle.row_format.specs.Lists.{any}
 use Rattle.row_format.specs.Table.{tableNumber}
 use Rattle.row_format.specs.Row.{fresh, pixelsOf}
 use Rattle.row_format.specs.Reading.{Run, done, stop}
 use Rattle.row_format.specs.Calls.{tooMany}
-use Rattle.row_format.specs.Calls.Laws.{orElse-zero-left, orElse-zero-right}
 use Rattle.row_format.specs.Theorems.Numbers.{StopIn, readItems-in}
 use Rattle.sheet_format.specs.declared.SheetState.{SheetState}
 use Rattle.sheet_format.specs.Line.{Line, numbers, faulty, wordOf}
 use Rattle.sheet_format.specs.Line.Laws.{Gives, readLine-gives}
 use Rattle.sheet_format.specs.Record.{kindField, bodyOf, Kind, tableRecord, packedRecord, plainRecord, lineRecord, unknown, kindOf, rowNumber, pixelCount, rowContent, numberCount, lineContent, runOf, lineOf, fixedNumber, placeNumber, Lent, nothing, lent, roomNumber, runNumber, packedNumber, plainNumber, faultNumber, lineNumber, bodyNumber, leftoverNumber, lastRoomNumber, contentNumber, recordNumber}
-use Rattle.sheet_format.specs.Record.Laws.{orElse-same, lessNumber-zero, lessNumber-none, unequalNumber-zero, Passed}
+use Rattle.sheet_format.specs.Record.Laws.{Passed}
 use Rattle.sheet_format.specs.Record.Rows.{packedNumber-enough}
 use Rattle.sheet_format.specs.Reading.{countHeld, contentBytes, contentHeld, pixelBytes, numberBytes, recordJudged, recordRead}
 use Rattle.sheet_format.specs.Reading.Laws.{recordRead-answer}

@@ -1,19 +1,20 @@
 -- The record calls answer a number from document 01, and only those that it lists for the call. Each law is over any property
 -- P that these numbers have. Assumes nothing.
 use Prim.Native.Nat.{ℕ, zero, suc, _+_, _*_, _%_}
-use mathlib.Core.Bool.{Bool, true, false, not}
+use mathlib.Core.Bool.{not}
 use mathlib.Core.List.{List, [], _∷_}
 use lib.ListN.{length, drop}
 use lib.Dec.{ltb, leb, eqb}
 use lib.IntN.{ℤ}
 use Rattle.bitstream.specs.Bits.{halvesOf, wordsOf, stream, wordsFor}
-use Rattle.answer.specs.Outcome.{_orElse_, refuseIf}
+use Rattle.answer.specs.Outcome.{refuseIf}
+use Rattle.answer.specs.Outcome.Laws.{refuseIf-in, orElse-in}
 use Rattle.row_format.specs.Lists.{any}
 use Rattle.row_format.specs.Lists.Laws.{by-test}
-use Rattle.row_format.specs.Table.{wrongSize, wrongCodeword, clash, codewords, verdict, tableNumber}
+use Rattle.row_format.specs.Table.{tableNumber}
 use Rattle.row_format.specs.Reading.{Run, done, stop, stray}
 use Rattle.row_format.specs.Calls.{tooMany}
-use Rattle.row_format.specs.Theorems.Numbers.{StopIn, readItems-in}
+use Rattle.row_format.specs.Theorems.Numbers.{tableNumber-in, StopIn, readItems-in}
 use Rattle.adaptive.specs.Number.{Front, whole, fault, before, front, Reading, accepted, rejected, signed, judged, readAs}
 use Rattle.sheet_format.specs.declared.SheetState.{SheetState}
 use Rattle.sheet_format.specs.Line.{Line, numbers, faulty, prepend, follow, readLine}
@@ -21,23 +22,6 @@ use Rattle.sheet_format.specs.Record.{lengthField, kindField, bodyOf, Ki
 use Rattle.sheet_format.specs.Writing.{givenPixels, givenNumbers, bodyFor, recordBytes, givenNumber, writeNumber}
 
 module _ (P : ℕ → Type 0) (p0 : P 0) where
-  pub refuseIf-in : (b : Bool) (e : ℕ) → P e → P (refuseIf b e)
-  refuseIf-in true e given = given
-  refuseIf-in false e given = p0
-
-  orElse-in : (a b : ℕ) → P a → P b → P (a orElse b)
-  orElse-in zero b first second = second
-  orElse-in (suc a) b first second = first
-
-  tableNumber-in : (b : List ℕ) → P 1 → P 2 → P 3 → P (tableNumber b)
-  unfolding tableNumber verdict
-  tableNumber-in b p1 p2 p3 =
-      let t = wordsOf b in
-      by-test (eqb (length b % 4) 0)
-      (λ e. rw e (by-test (wrongSize t) (λ d. rw d p1)
-      (λ d. rw d (by-test (wrongCodeword t) (λ c. rw c p2) (λ c. rw c (refuseIf-in (clash (codewords t)) 3 p3))))))
-      (λ e. rw e p1)
-
   kindNumber-in : P 15 → (k : Kind) → P (kindNumber k)
   unfolding kindNumber
   kindNumber-in p15 tableRecord = p0
@@ -48,27 +32,27 @@ module _ (P : ℕ → Type 0) (p0 : P 0) where
 
   placeNumber-in : P 16 → (k : Kind) (row : ℕ) (st : SheetState) → P (placeNumber k row st)
   unfolding placeNumber
-  placeNumber-in p16 tableRecord row st = refuseIf-in (not (eqb (st .tables) 0)) 16 p16
+  placeNumber-in p16 tableRecord row st = refuseIf-in P (not (eqb (st .tables) 0)) 16 p0 p16
   placeNumber-in p16 packedRecord row st =
-      orElse-in (noTable st) _ (refuseIf-in (eqb (st .tables) 0) 16 p16) (refuseIf-in (ltb row (st .least)) 16 p16)
+      orElse-in P (noTable st) _ (refuseIf-in P (eqb (st .tables) 0) 16 p0 p16) (refuseIf-in P (ltb row (st .least)) 16 p0 p16)
   placeNumber-in p16 plainRecord row st =
-      orElse-in (noTable st) _ (refuseIf-in (eqb (st .tables) 0) 16 p16) (refuseIf-in (ltb row (st .least)) 16 p16)
-  placeNumber-in p16 lineRecord row st = refuseIf-in (eqb (st .tables) 0) 16 p16
+      orElse-in P (noTable st) _ (refuseIf-in P (eqb (st .tables) 0) 16 p0 p16) (refuseIf-in P (ltb row (st .least)) 16 p0 p16)
+  placeNumber-in p16 lineRecord row st = refuseIf-in P (eqb (st .tables) 0) 16 p0 p16
   placeNumber-in p16 unknown row st = p0
 
   -- ---- writing
   module _ (p1 : P 1) (p2 : P 2) (p3 : P 3) (p4 : P 4) (p5 : P 5) (p11 : P 11) (p15 : P 15) (p16 : P 16) where
     givenNumber-in : (k : Kind) (tb c : List ℕ) → P (givenNumber k tb c)
     unfolding givenNumber
-    givenNumber-in tableRecord tb c = tableNumber-in c p1 p2 p3
+    givenNumber-in tableRecord tb c = tableNumber-in P c p0 p1 p2 p3
     givenNumber-in packedRecord tb c =
-        orElse-in (tableNumber tb) _ (tableNumber-in tb p1 p2 p3)
-        (orElse-in (tooMany (length (givenPixels c))) _ (refuseIf-in (ltb 4096 (length (givenPixels c))) 11 p11)
-        (refuseIf-in (any (ltb 4095) (givenPixels c)) 4 p4))
+        orElse-in P (tableNumber tb) _ (tableNumber-in P tb p0 p1 p2 p3)
+        (orElse-in P (tooMany (length (givenPixels c))) _ (refuseIf-in P (ltb 4096 (length (givenPixels c))) 11 p0 p11)
+        (refuseIf-in P (any (ltb 4095) (givenPixels c)) 4 p0 p4))
     givenNumber-in plainRecord tb c =
-        orElse-in (tooMany (length (givenPixels c))) _ (refuseIf-in (ltb 4096 (length (givenPixels c))) 11 p11)
-        (refuseIf-in (any (ltb 4095) (givenPixels c)) 4 p4)
-    givenNumber-in lineRecord tb c = refuseIf-in (ltb 4096 (length (givenNumbers c))) 11 p11
+        orElse-in P (tooMany (length (givenPixels c))) _ (refuseIf-in P (ltb 4096 (length (givenPixels c))) 11 p0 p11)
+        (refuseIf-in P (any (ltb 4095) (givenPixels c)) 4 p0 p4)
+    givenNumber-in lineRecord tb c = refuseIf-in P (ltb 4096 (length (givenNumbers c))) 11 p0 p11
     givenNumber-in unknown tb c = p0
 
     pub writeNumber-in : (code row : ℕ) (tb c : List ℕ) (st : SheetState) (roomBytes : ℕ)
@@ -76,10 +60,10 @@ module _ (P : ℕ → Type 0) (p0 : P 0) where
     unfolding writeNumber
     writeNumber-in code row tb c st roomBytes =
         let k = kindOf code in
-        orElse-in (kindNumber k) _ (kindNumber-in p15 k)
-        (orElse-in (placeNumber k row st) _ (placeNumber-in p16 k row st)
-        (orElse-in (givenNumber k tb c) _ (givenNumber-in k tb c)
-        (refuseIf-in (ltb roomBytes (length (recordBytes code (bodyFor k row tb c)))) 5 p5)))
+        orElse-in P (kindNumber k) _ (kindNumber-in p15 k)
+        (orElse-in P (placeNumber k row st) _ (placeNumber-in p16 k row st)
+        (orElse-in P (givenNumber k tb c) _ (givenNumber-in k tb c)
+        (refuseIf-in P (ltb roomBytes (length (recordBytes code (bodyFor k row tb c)))) 5 p0 p5)))
 
   -- ---- a line's faults
   module _ (p12 : P 12) (p13 : P 13) where
@@ -131,44 +115,44 @@ module _ (P : ℕ → Type 0) (p0 : P 0) where
     lengthNumber-in : (r : List ℕ) → P (lengthNumber r)
     unfolding lengthNumber
     lengthNumber-in r =
-        orElse-in (refuseIf (ltb (length r) 4) 14) _ (refuseIf-in (ltb (length r) 4) 14 p14)
-        (orElse-in (refuseIf (ltb (lengthField r) 2) 14) _ (refuseIf-in (ltb (lengthField r) 2) 14 p14)
-        (orElse-in (refuseIf (ltb 32774 (lengthField r)) 14) _ (refuseIf-in (ltb 32774 (lengthField r)) 14 p14)
-        (refuseIf-in (ltb (length r) (4 + lengthField r)) 14 p14)))
+        orElse-in P (refuseIf (ltb (length r) 4) 14) _ (refuseIf-in P (ltb (length r) 4) 14 p0 p14)
+        (orElse-in P (refuseIf (ltb (lengthField r) 2) 14) _ (refuseIf-in P (ltb (lengthField r) 2) 14 p0 p14)
+        (orElse-in P (refuseIf (ltb 32774 (lengthField r)) 14) _ (refuseIf-in P (ltb 32774 (lengthField r)) 14 p0 p14)
+        (refuseIf-in P (ltb (length r) (4 + lengthField r)) 14 p0 p14)))
 
     fixedNumber-in : (k : Kind) (b : List ℕ) → P (fixedNumber k b)
     unfolding fixedNumber
-    fixedNumber-in tableRecord b = refuseIf-in (not (eqb (length b % 4) 0)) 14 p14
+    fixedNumber-in tableRecord b = refuseIf-in P (not (eqb (length b % 4) 0)) 14 p0 p14
     fixedNumber-in packedRecord b =
-        orElse-in (shorterThan 4 b) _ (refuseIf-in (ltb (length b) 4) 14 p14)
-        (refuseIf-in (not (eqb (length b % 4) 0)) 14 p14)
-    fixedNumber-in plainRecord b = refuseIf-in (ltb (length b) 4) 14 p14
-    fixedNumber-in lineRecord b = refuseIf-in (ltb (length b) 2) 14 p14
+        orElse-in P (shorterThan 4 b) _ (refuseIf-in P (ltb (length b) 4) 14 p0 p14)
+        (refuseIf-in P (not (eqb (length b % 4) 0)) 14 p0 p14)
+    fixedNumber-in plainRecord b = refuseIf-in P (ltb (length b) 4) 14 p0 p14
+    fixedNumber-in lineRecord b = refuseIf-in P (ltb (length b) 2) 14 p0 p14
     fixedNumber-in unknown b = p0
 
     runNumber-in : (r : List ℕ) (x : Run) → StopIn P x → P (runNumber r x)
-    runNumber-in r (done is u) h = refuseIf-in (stray u r) 10 p10
+    runNumber-in r (done is u) h = refuseIf-in P (stray u r) 10 p0 p10
     runNumber-in r (stop e at u) h = h
 
     tooMany-in : (n : ℕ) → P (tooMany n)
-    tooMany-in n = refuseIf-in (ltb 4096 n) 11 p11
+    tooMany-in n = refuseIf-in P (ltb 4096 n) 11 p0 p11
 
     bodyNumber-in : (k : Kind) (tb b : List ℕ) → P (bodyNumber k m tb b)
     unfolding bodyNumber
-    bodyNumber-in tableRecord tb b = tableNumber-in b p1 p2 p3
+    bodyNumber-in tableRecord tb b = tableNumber-in P b p0 p1 p2 p3
     bodyNumber-in packedRecord tb b =
-        orElse-in (tableNumber tb) _ (tableNumber-in tb p1 p2 p3)
-        (orElse-in (tooMany (pixelCount b)) _ (tooMany-in (pixelCount b))
-        (orElse-in (roomNumber m (2 * pixelCount b)) _ (room (2 * pixelCount b))
+        orElse-in P (tableNumber tb) _ (tableNumber-in P tb p0 p1 p2 p3)
+        (orElse-in P (tooMany (pixelCount b)) _ (tooMany-in (pixelCount b))
+        (orElse-in P (roomNumber m (2 * pixelCount b)) _ (room (2 * pixelCount b))
         (runNumber-in (stream (rowContent b)) (runOf tb b)
         (readItems-in P p6 p7 p8 p9 (wordsOf tb) (pixelCount b) (stream (rowContent b))))))
     bodyNumber-in plainRecord tb b =
-        orElse-in (tooMany (pixelCount b)) _ (tooMany-in (pixelCount b))
-        (orElse-in (refuseIf (not (eqb (length (rowContent b)) (2 * pixelCount b))) 14) _
-        (refuseIf-in (not (eqb (length (rowContent b)) (2 * pixelCount b))) 14 p14)
-        (refuseIf-in (any (ltb 4095) (halvesOf (rowContent b))) 4 p4))
+        orElse-in P (tooMany (pixelCount b)) _ (tooMany-in (pixelCount b))
+        (orElse-in P (refuseIf (not (eqb (length (rowContent b)) (2 * pixelCount b))) 14) _
+        (refuseIf-in P (not (eqb (length (rowContent b)) (2 * pixelCount b))) 14 p0 p14)
+        (refuseIf-in P (any (ltb 4095) (halvesOf (rowContent b))) 4 p0 p4))
     bodyNumber-in lineRecord tb b =
-        orElse-in (tooMany (numberCount b)) _ (tooMany-in (numberCount b))
+        orElse-in P (tooMany (numberCount b)) _ (tooMany-in (numberCount b))
         (readLine-in p12 p13 (numberCount b) (lineContent b))
     bodyNumber-in unknown tb b = p0
 
@@ -176,9 +160,9 @@ module _ (P : ℕ → Type 0) (p0 : P 0) where
     unfolding leftoverNumber
     leftoverNumber-in tableRecord tb b = p0
     leftoverNumber-in packedRecord tb b =
-        refuseIf-in (ltb (4 * wordsFor (bitsOfRun (runOf tb b))) (length (rowContent b))) 14 p14
+        refuseIf-in P (ltb (4 * wordsFor (bitsOfRun (runOf tb b))) (length (rowContent b))) 14 p0 p14
     leftoverNumber-in plainRecord tb b = p0
-    leftoverNumber-in lineRecord tb b = refuseIf-in (ltb (bytesOfLine (lineOf b)) (length (lineContent b))) 14 p14
+    leftoverNumber-in lineRecord tb b = refuseIf-in P (ltb (bytesOfLine (lineOf b)) (length (lineContent b))) 14 p0 p14
     leftoverNumber-in unknown tb b = p0
 
     lastRoomNumber-in : (k : Kind) (b : List ℕ) → P (lastRoomNumber k m b)
@@ -194,9 +178,9 @@ module _ (P : ℕ → Type 0) (p0 : P 0) where
     recordNumber-in tb r st =
         let k = kindOf (kindField r) in
         let b = bodyOf r in
-        orElse-in (lengthNumber r) _ (lengthNumber-in r)
-        (orElse-in (kindNumber k) _ (kindNumber-in p15 k)
-        (orElse-in (fixedNumber k b) _ (fixedNumber-in k b)
-        (orElse-in (placeNumber k (rowNumber b) st) _ (placeNumber-in p16 k (rowNumber b) st)
-        (orElse-in (bodyNumber k m tb b) _ (bodyNumber-in k tb b)
-        (orElse-in (leftoverNumber k tb b) _ (leftoverNumber-in k tb b) (lastRoomNumber-in k b))))))
+        orElse-in P (lengthNumber r) _ (lengthNumber-in r)
+        (orElse-in P (kindNumber k) _ (kindNumber-in p15 k)
+        (orElse-in P (fixedNumber k b) _ (fixedNumber-in k b)
+        (orElse-in P (placeNumber k (rowNumber b) st) _ (placeNumber-in p16 k (rowNumber b) st)
+        (orElse-in P (bodyNumber k m tb b) _ (bodyNumber-in k tb b)
+        (orElse-in P (leftoverNumber k tb b) _ (leftoverNumber-in k tb b) (lastRoomNumber-in k b))))))

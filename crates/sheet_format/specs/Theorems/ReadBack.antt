@@ -7,13 +7,13 @@ use lib.ListN.{length}
 use lib.Dec.{ltb}
 use Rattle.bitstream.specs.Bits.Laws.{Below}
 use Rattle.answer.specs.Outcome.{_orElse_}
+use Rattle.answer.specs.Outcome.Laws.{refuseIf-zero, lessNumber-zero, lessNumber-none, orElse-zero-left, orElse-zero-right}
 use Rattle.row_format.specs.Lists.{any}
 use Rattle.row_format.specs.Table.{tableNumber}
 use Rattle.row_format.specs.Calls.{tooMany}
-use Rattle.row_format.specs.Calls.Laws.{orElse-zero-left, orElse-zero-right}
 use Rattle.sheet_format.specs.declared.SheetState.{SheetState}
 use Rattle.sheet_format.specs.Record.{bodyOf, Kind, tableRecord, packedRecord, plainRecord, lineRecord, unknown, kindOf, kindNumber, Lent, nothing, lent, roomNumber, recordNumber}
-use Rattle.sheet_format.specs.Record.Laws.{refuseIf-zero, lessNumber-zero, lessNumber-none, kindOf-known, contentNumber-passed}
+use Rattle.sheet_format.specs.Record.Laws.{kindOf-known, contentNumber-passed}
 use Rattle.sheet_format.specs.Reading.{recordHeld, recordContent, recordJudged, recordRead, readDone}
 use Rattle.sheet_format.specs.Writing.{givenPixels, givenNumbers, bodyFor, tooHigh, givenNumber, recordFor}
 use Rattle.sheet_format.specs.Writing.Laws.{Fields, fields-recordBytes, length-recordBytes, Writable, doneAnswer}

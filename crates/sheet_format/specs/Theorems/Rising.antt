@@ -7,10 +7,10 @@ use mathlib.Core.Path.{_≡_, sym, _∙_}
 use mathlib.Core.List.{List, [], _∷_}
 use lib.ListN.{length, getD}
 use Rattle.answer.specs.Outcome.{_orElse_}
-use Rattle.row_format.specs.Calls.Laws.{orElse-zero-right}
+use Rattle.answer.specs.Outcome.Laws.{lessNumber-zero, orElse-zero-right}
 use Rattle.sheet_format.specs.declared.SheetState.{SheetState}
 use Rattle.sheet_format.specs.Record.{bodyOf, Kind, tableRecord, packedRecord, plainRecord, lineRecord, unknown, kindOf, kindField, rowNumber, noTable, notRisen, placeNumber, nothing}
-use Rattle.sheet_format.specs.Record.Laws.{lessNumber-zero, recordNumber-read}
+use Rattle.sheet_format.specs.Record.Laws.{recordNumber-read}
 use Rattle.sheet_format.specs.Reading.{newSheet, stateAfter, rowHeld, recordHeld, recordJudged}
 use Rattle.sheet_format.specs.Reading.Laws.{recordJudged-number, recordJudged-done}
 use Rattle.sheet_format.specs.Sheet.{recordsFrom, sheetRead, withRow, rowNumbers}

@@ -6,12 +6,12 @@ use mathlib.Core.List.{List}
 use lib.ListN.{length}
 use Rattle.bitstream.specs.Bits.{stream}
 use Rattle.answer.specs.Outcome.{_orElse_}
+use Rattle.answer.specs.Outcome.Laws.{lessNumber-zero, lessNumber-none, lessNumber-given, orElse-zero-left, orElse-zero-right}
 use Rattle.row_format.specs.Table.{tableNumber}
 use Rattle.row_format.specs.Calls.{tooMany}
-use Rattle.row_format.specs.Calls.Laws.{orElse-zero-left, orElse-zero-right}
 use Rattle.sheet_format.specs.declared.SheetState.{SheetState}
 use Rattle.sheet_format.specs.Record.{kindField, bodyOf, Kind, tableRecord, packedRecord, plainRecord, lineRecord, unknown, kindOf, pixelCount, rowContent, runOf, nothing, lent, runNumber, packedNumber, bodyNumber, lastRoomNumber, contentNumber, recordNumber}
-use Rattle.sheet_format.specs.Record.Laws.{lessNumber-zero, lessNumber-none, lessNumber-given, lengthNumber-right, Passed, Read, recordNumber-read, read-recordNumber}
+use Rattle.sheet_format.specs.Record.Laws.{lengthNumber-right, Passed, Read, recordNumber-read, read-recordNumber}
 use Rattle.sheet_format.specs.Reading.{countHeld, contentBytes, answerBytes, recordHeld, recordContent, recordJudged, recordRead, readDone}
 use Rattle.sheet_format.specs.Theorems.Memory.{Within, within-front, recordRead-refused}
 use Rattle.sheet_format.specs.Theorems.Judged.{passed-content, passed-other}

@@ -6,11 +6,12 @@ use mathlib.Core.Path.{_≡_, refl, sym, ap, _∙_}
 use mathlib.Core.Logic.{_↔_}
 use mathlib.Core.List.{List, [], _∷_}
 use lib.ListN.{take, drop, length, getD}
+use Rattle.answer.specs.Outcome.Laws.{unequalNumber-zero}
 use Rattle.row_format.specs.Table.{tableNumber}
 use Rattle.sheet_format.specs.declared.SheetState.{SheetState}
 use Rattle.sheet_format.specs.declared.RecordRead.{RecordRead}
 use Rattle.sheet_format.specs.Record.{bodyOf, Kind, tableRecord, packedRecord, plainRecord, lineRecord, unknown, kindOf, kindField, rowNumber, kindNumber, placeNumber, nothing, bodyNumber}
-use Rattle.sheet_format.specs.Record.Laws.{bodyOf-whole, unequalNumber-zero, Read, recordNumber-read}
+use Rattle.sheet_format.specs.Record.Laws.{bodyOf-whole, Read, recordNumber-read}
 use Rattle.sheet_format.specs.Reading.{newSheet, stateAfter, recordHeld, recordJudged}
 use Rattle.sheet_format.specs.Reading.Laws.{recordJudged-number, recordJudged-done}
 use Rattle.sheet_format.specs.Sheet.{recordsFrom, sheetRead, recordKinds}

@@ -12,11 +12,10 @@ use Rattle.bitstream.specs.Bits.{digits, numberOf, bytesOf}
 use Rattle.bitstream.specs.Bits.Laws.{length-digits, below-digits, flat-cut, numOf-digits, length-cut}
 use Rattle.row_format.specs.BitLaws.{pad-within}
 use Rattle.answer.specs.Outcome.{refuseIf}
-use Rattle.row_format.specs.Calls.Laws.{orElse-zero-left, orElse-zero-right}
+use Rattle.answer.specs.Outcome.Laws.{lessNumber-zero, orElse-zero-left, orElse-zero-right}
 use Rattle.sheet_format.specs.declared.SheetState.{SheetState}
 use Rattle.sheet_format.specs.declared.RecordWritten.{RecordWritten}
 use Rattle.sheet_format.specs.Record.{lengthField, kindField, bodyOf, kindOf, lengthNumber, kindNumber, placeNumber}
-use Rattle.sheet_format.specs.Record.Laws.{lessNumber-zero}
 use Rattle.sheet_format.specs.Reading.{stateAfter}
 use Rattle.sheet_format.specs.Writing.{twoBytes, fourBytes, bodyFor, recordBytes, givenNumber, writeNumber, writtenUnless, recordWritten, recordFor}
 

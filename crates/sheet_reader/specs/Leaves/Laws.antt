@@ -3,28 +3,10 @@ use Prim.Native.Nat.{ℕ, zero, suc, _≤_}
 use mathlib.Core.Path.{_≡_, refl, sym, _∙_}
 use mathlib.Core.List.{List, [], _++_}
 use lib.ListN.{length, drop}
-use Rattle.answer.specs.Outcome.{_orElse_}
 use Rattle.sheet_format.specs.declared.SheetState.{SheetState}
 use Rattle.sheet_format.specs.declared.RecordRead.{RecordRead}
 use Rattle.sheet_format.specs.Reading.{refusedRecord, heldUnless, readUnless}
 use Rattle.sheet_reader.specs.Leaves.{readOutcome, Leaves}
-
--- ---- refusals in order
-pub orElse-assoc : (a b d : ℕ) → (a orElse b) orElse d ≡ a orElse (b orElse d)
-orElse-assoc zero b d = refl
-orElse-assoc (suc a) b d = refl
-
-pub orElse-none : (a : ℕ) → a orElse 0 ≡ a
-orElse-none zero = refl
-orElse-none (suc a) = refl
-
--- n is the first number that is not 0
-pub given-first : {n : ℕ} (e d : ℕ) → n ≡ e → (n ≡ 0 → ⊥) → n ≡ e orElse d
-given-first zero d h some = absurd (some h)
-given-first (suc e) d h some = h
-
-pub given-next : {n e d : ℕ} → e ≡ 0 → n ≡ d → n ≡ e orElse d
-given-next none h = rw none h
 
 -- ---- what is answered of a refused record, and what its reading leaves
 heldUnless-refused : (e : ℕ) (st : SheetState) (a : RecordRead) → (e ≡ 0 → ⊥) → heldUnless e st a ≡ refusedRecord e st

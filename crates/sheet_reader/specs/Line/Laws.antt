@@ -17,8 +17,8 @@ use Rattle.bitstream.specs.Bits.Laws.{length-cut}
 use Rattle.bitstream.specs.Memory.{overwritten}
 use Rattle.bitstream.specs.Memory.Laws.{length-overwritten}
 use Rattle.answer.specs.Outcome.{_orElse_, refuseIf}
+use Rattle.answer.specs.Outcome.Laws.{lessNumber-zero, orElse-zero-right, given-first, given-next}
 use Rattle.row_format.specs.Calls.{tooMany}
-use Rattle.row_format.specs.Calls.Laws.{orElse-zero-right}
 use Rattle.adaptive.specs.declared.SignedRead.{SignedRead}
 use Rattle.adaptive.specs.Calls.{signedRead}
 use Rattle.adaptive.specs.Calls.Laws.{signedRead-used}
@@ -27,13 +27,13 @@ use Rattle.sheet_format.specs.Line.Steps.{LineSoFar, line-start, line-more, lin
 use Rattle.sheet_format.specs.declared.SheetState.{SheetState}
 use Rattle.sheet_format.specs.declared.RecordRead.{RecordRead}
 use Rattle.sheet_format.specs.Record.{lineRecord, numberCount, lineOf, fixedNumber, placeNumber, lent, roomNumber, faultNumber, lineNumber, bodyNumber, bytesOfLine, leftoverNumber, lastRoomNumber, contentNumber}
-use Rattle.sheet_format.specs.Record.Laws.{lessNumber-zero, Passed, passed}
+use Rattle.sheet_format.specs.Record.Laws.{Passed, passed}
 use Rattle.sheet_format.specs.Theorems.Judged.{Content, passed-content}
 use Rattle.sheet_format.specs.Reading.{numberBytes, refusedRecord}
 use Rattle.sheet_reader.specs.declared.numbers.LineJudged.{LineJudged}
 use Rattle.sheet_reader.specs.Part.{partFrom, partFrom-drop}
 use Rattle.sheet_reader.specs.Leaves.{ContentLeaves}
-use Rattle.sheet_reader.specs.Leaves.Laws.{given-first, given-next, refuses, holds}
+use Rattle.sheet_reader.specs.Leaves.Laws.{refuses, holds}
 use Rattle.sheet_reader.specs.Line.{lineJudged, Walked, Kept, LineAccepted}
 
 -- ---- two's complement as a remainder: v and 2 to the power 32 is the number raised v

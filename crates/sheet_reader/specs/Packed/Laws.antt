@@ -11,20 +11,20 @@ use borrow.Author.Tests.{lt-ltb, le-ltb}
 use Rattle.bitstream.specs.Bits.{stream, wordsFor}
 use Rattle.answer.specs.declared.Answer.{Answer}
 use Rattle.answer.specs.Outcome.{Outcome, outcome, wrote, _orElse_}
+use Rattle.answer.specs.Outcome.Laws.{lessNumber-zero, lessNumber-none, lessNumber-given, unequalNumber-none, unequalNumber-given, orElse-assoc, orElse-none, orElse-zero-left, orElse-zero-right, orElse-same, given-first, given-next}
 use Rattle.row_format.specs.Table.{tableNumber}
 use Rattle.row_format.specs.Calls.{tooMany, unpacked}
-use Rattle.row_format.specs.Calls.Laws.{orElse-zero-left, orElse-zero-right}
 use Rattle.sheet_format.specs.declared.SheetState.{SheetState}
 use Rattle.sheet_format.specs.declared.RecordRead.{RecordRead}
 use Rattle.sheet_format.specs.Record.{packedRecord, plainRecord, rowNumber, pixelCount, rowContent, runOf, fixedNumber, shorterThan, placeNumber, lent, roomNumber, runNumber, packedNumber, bitsOfRun, bodyNumber, leftoverNumber, lastRoomNumber, contentNumber}
-use Rattle.sheet_format.specs.Record.Laws.{orElse-same, lessNumber-zero, lessNumber-none, lessNumber-given, unequalNumber-none, unequalNumber-given, passed}
+use Rattle.sheet_format.specs.Record.Laws.{passed}
 use Rattle.sheet_format.specs.Record.Rows.{unpacked-record-number, unpacked-does}
 use Rattle.sheet_format.specs.Theorems.Judged.{passed-content}
 use Rattle.sheet_format.specs.Reading.{pixelBytes, refusedRecord, stateAfter}
 use Rattle.sheet_reader.specs.declared.row.RowFields.{RowFields}
 use Rattle.sheet_reader.specs.Part.{partFrom, partFrom-drop}
 use Rattle.sheet_reader.specs.Leaves.{ContentLeaves}
-use Rattle.sheet_reader.specs.Leaves.Laws.{orElse-assoc, orElse-none, given-first, given-next, refuses, holds}
+use Rattle.sheet_reader.specs.Leaves.Laws.{refuses, holds}
 use Rattle.sheet_reader.specs.Row.{FieldsOf}
 use Rattle.sheet_reader.specs.Packed.{RowRead, Unpacked, PackedAccepted}
 

@@ -10,17 +10,18 @@ use lib.Dec.{ltb}
 use borrow.Author.Tests.{lt-ltb, le-ltb}
 use Rattle.bitstream.specs.Bits.{halvesOf}
 use Rattle.answer.specs.Outcome.{_orElse_, refuseIf}
+use Rattle.answer.specs.Outcome.Laws.{lessNumber-zero, unequalNumber-none, unequalNumber-given, orElse-assoc, given-first, given-next}
 use Rattle.row_format.specs.Lists.{any}
 use Rattle.sheet_format.specs.declared.SheetState.{SheetState}
 use Rattle.sheet_format.specs.declared.RecordRead.{RecordRead}
 use Rattle.sheet_format.specs.Record.{plainRecord, rowNumber, pixelCount, rowContent, fixedNumber, placeNumber, lent, roomNumber, plainNumber, bodyNumber, leftoverNumber, lastRoomNumber, contentNumber}
-use Rattle.sheet_format.specs.Record.Laws.{lessNumber-zero, unequalNumber-none, unequalNumber-given, passed}
+use Rattle.sheet_format.specs.Record.Laws.{passed}
 use Rattle.sheet_format.specs.Theorems.Judged.{passed-content}
 use Rattle.sheet_format.specs.Reading.{refusedRecord, stateAfter}
 use Rattle.sheet_reader.specs.declared.row.RowFields.{RowFields}
 use Rattle.sheet_reader.specs.Part.{partFrom, partFrom-drop}
 use Rattle.sheet_reader.specs.Leaves.{ContentLeaves}
-use Rattle.sheet_reader.specs.Leaves.Laws.{orElse-assoc, given-first, given-next, refuses, holds}
+use Rattle.sheet_reader.specs.Leaves.Laws.{refuses, holds}
 use Rattle.sheet_reader.specs.Row.{FieldsOf}
 use Rattle.sheet_reader.specs.Plain.{PlainAccepted}
 

@@ -7,15 +7,15 @@ use lib.ListN.{length, take, drop, length-append, length-drop, drop-of-length-le
 use lib.Seq.{take-all, take-length, drop-at, drop-drop, length-take-le}
 use lib.Dec.{ltb}
 use Rattle.answer.specs.Outcome.{_orElse_, refuseIf}
+use Rattle.answer.specs.Outcome.Laws.{lessNumber-none, lessNumber-given, orElse-assoc}
 use Rattle.sheet_format.specs.declared.SheetState.{SheetState}
 use Rattle.sheet_format.specs.declared.RecordWritten.{RecordWritten}
 use Rattle.sheet_format.specs.Record.{kindOf, placeNumber}
-use Rattle.sheet_format.specs.Record.Laws.{lessNumber-none, lessNumber-given}
 use Rattle.sheet_format.specs.Reading.{stateAfter}
 use Rattle.sheet_format.specs.Writing.{bodyFor, recordBytes, givenNumber, writeNumber, recordWritten}
 use Rattle.sheet_format.specs.Writing.Laws.{recordWritten-done, recordWritten-refused}
 use Rattle.sheet_writer.specs.Outcome.{outcome, judged}
-use Rattle.sheet_writer.specs.Outcome.Laws.{orElse-assoc, orElse-given}
+use Rattle.answer.specs.Outcome.Laws.{given-first}
 use Rattle.sheet_writer.specs.Frame.{Frame, partFrom, withPart}
 
 -- ---- the memory from a place on, lent and given back
@@ -59,7 +59,7 @@ module _ {code row : ℕ} {tb c h b : List ℕ} {k : ℕ} (f : Frame code row tb
           → a ≡ record { number = e; count = 0; state = st } → outcome a m ≡ recordWritten code row tb c st m
       frame-refused e is given =
           refused-number code row tb c st m a e
-          (orElse-given e _ given ∙ ap (_orElse refuseIf (ltb (length m) (k + length b)) 5) is ∙ sym (frame-number (length m))) given
+          (given-first e _ refl given ∙ ap (_orElse refuseIf (ltb (length m) (k + length b)) 5) is ∙ sym (frame-number (length m))) given
 
       module _ (passed : judged (kindOf code) row tb c st ≡ 0) where
         pub frame-full : length m < k + length b → a ≡ record { number = 5; count = 0; state = st }

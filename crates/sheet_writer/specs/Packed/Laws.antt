@@ -15,6 +15,7 @@ use Rattle.bitstream.specs.Bits.Laws.{length-cut}
 use Rattle.answer.specs.declared.Answer.{Answer}
 use Rattle.answer.specs.Outcome as answers
 use Rattle.answer.specs.Outcome.{_orElse_, refuseIf}
+use Rattle.answer.specs.Outcome.Laws.{lessNumber-none, lessNumber-given, orElse-assoc}
 use Rattle.row_format.specs.Row.{rowBits}
 use Rattle.row_format.specs.Calls.{packNumber}
 use Rattle.row_format.specs.Calls.Laws.{Packable, packable, packed-done, packed-number}
@@ -25,11 +26,10 @@ use Rattle.row_packer.specs.Calls.{accepted-table}
 use Rattle.sheet_format.specs.declared.SheetState.{SheetState}
 use Rattle.sheet_format.specs.declared.RecordWritten.{RecordWritten}
 use Rattle.sheet_format.specs.Record.{packedRecord, kindNumber}
-use Rattle.sheet_format.specs.Record.Laws.{lessNumber-none, lessNumber-given}
 use Rattle.sheet_format.specs.Reading.{stateAfter}
 use Rattle.sheet_format.specs.Writing.{bodyFor, givenNumber, writeNumber, recordWritten}
 use Rattle.sheet_writer.specs.Outcome.{outcome, judged}
-use Rattle.sheet_writer.specs.Outcome.Laws.{orElse-assoc, orElse-given}
+use Rattle.answer.specs.Outcome.Laws.{given-first}
 use Rattle.sheet_writer.specs.Fields.{rowFields}
 use Rattle.sheet_writer.specs.Fields.Laws.{length-rowFields, row-fields}
 use Rattle.sheet_writer.specs.Frame.{Frame, partFrom, withPart}
@@ -92,7 +92,7 @@ module _ {row : ℕ} {tb c : List ℕ} {st : SheetState} {m : List ℕ} {start :
       let same : y ≡ partFrom start m = ap (λ x. x .memory) (ran .packs) ∙ kept .memory in
       ap (outcome a) (ap (withPart start m) same ∙ put-same start (length m - start) m)
       ∙ refused-number 2 row tb c st m a (r .number)
-      (orElse-given (r .number) _ given ∙ ap (_orElse refuseIf (ltb start 10) 5) pack-number ∙ sym write-number) given e
+      (given-first (r .number) _ refl given ∙ ap (_orElse refuseIf (ltb start 10) 5) pack-number ∙ sym write-number) given e
 
   module _ (done : r .number ≡ 0) where
     none : packNumber tb (halvesOf c) (length (partFrom start m) / 4) ≡ 0

@@ -24,20 +24,20 @@ returns-2 c =
     table-second (at-start .args .body .now) (at-start .args .whole) (at-start .args .state) (at-if1 .if1 .left)
     (c .before .if2 .taken) (c .refused2 .ensures)
 
-check-requires : tie.Need-check-requires
-check-requires c κs = search needs
+table-number-requires : tie.Need-table-number-requires
+table-number-requires c κs = search needs
 
 refused-requires-3 : tie.Need-refused-requires-3
 refused-requires-3 c κs = search needs
 
 returns-3 : tie.Need-returns-3
 returns-3 c =
-    let at-check = c .before .before in
-    let at-if2 = at-check .before in
+    let at-number = c .before .before in
+    let at-if2 = at-number .before in
     let at-if1 = at-if2 .before .before in
     let at-start = at-if1 .before .before in
     table-refused (at-start .args .body .now) (at-start .args .whole) (at-start .args .state) (at-if1 .if1 .left)
-    (at-if2 .if2 .left) (at-check .check .ensures) (c .before .if3 .taken) (c .refused3 .ensures)
+    (at-if2 .if2 .left) (at-number .table-number .ensures) (c .before .if3 .taken) (c .refused3 .ensures)
 
 cast-held : tie.Need-cast-held
 cast-held c = search needs
@@ -47,12 +47,12 @@ held-requires c κs = search needs
 
 returns-4 : tie.Need-returns-4
 returns-4 c =
-    let at-check = c .before .before in
-    let at-if2 = at-check .before in
+    let at-number = c .before .before in
+    let at-if2 = at-number .before in
     let at-if1 = at-if2 .before .before in
     let at-start = at-if1 .before .before in
     table-held (at-start .args .body .now) (at-start .args .whole) (at-start .args .state) (at-if1 .if1 .left)
-    (at-if2 .if2 .left) (at-check .check .ensures) (c .before .if3 .left) (c .held .ensures)
+    (at-if2 .if2 .left) (at-number .table-number .ensures) (c .before .if3 .left) (c .held .ensures)
 
 pub read-table-spec : {M : Type 1} → statement M
 read-table-spec =
@@ -62,7 +62,7 @@ read-table-spec =
     returns
     refused-requires-2
     returns-2
-    check-requires
+    table-number-requires
     refused-requires-3
     returns-3
     cast-held

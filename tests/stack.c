@@ -1,0 +1,176 @@
+/*
+ * The stack that each call takes, on the inputs that take most: a table of 8190 strings of up to 27 bits, a row of 4096
+ * pixels, a record of each kind. A call runs on a thread whose stack was painted before; what is no longer painted was used.
+ * It fails where a call takes more than the header asks for. With an argument it prints the bytes of each call.
+ */
+#define _POSIX_C_SOURCE 200809L
+#include <pthread.h>
+#include <stdint.h>
+#include <stdio.h>
+#include <stdlib.h>
+#include <string.h>
+#include <unistd.h>
+
+#include "tahliruz.h"
+
+#define ASKED 65536u /* the header's "64 KiB of stack" */
+#define STACK (1u << 20)
+#define PAINT 0xA5
+#define ENTRIES 8187
+#define PIXELS 4096
+
+static uint8_t table[4 * (6 + ENTRIES)], pixels[2 * PIXELS], words[16384], numbers[4 * PIXELS], record[32778], content[16384];
+static size_t record_len;
+
+static void put_word(size_t i, uint32_t w)
+{
+    for (int k = 0; k < 4; k++)
+        table[4 * i + k] = (uint8_t)(w >> 8 * k);
+}
+
+/* A string of `ones` ones, and after them `more` bits. */
+static void put_string(size_t i, uint32_t ones, uint32_t more, uint32_t bits)
+{
+    put_word(i, ((bits << ones | ((1u << ones) - 1)) << 5) | (ones + more));
+}
+
+static void make_inputs(void)
+{
+    put_word(0, 1);
+    put_word(1, 0);
+    put_word(2, ENTRIES);
+    for (size_t i = 0; i < 14; i++)
+        put_string(3 + i, (uint32_t)i, 1, 0);
+    for (size_t i = 14; i < 3 + ENTRIES; i++)
+        put_string(3 + i, 14, 13, (uint32_t)(i - 14));
+    for (size_t i = 0; i < PIXELS; i++) {
+        uint32_t pixel = (uint32_t)i * 2654435761u >> 20;
+        pixels[2 * i] = (uint8_t)pixel;
+        pixels[2 * i + 1] = (uint8_t)(pixel >> 8);
+        memset(numbers + 4 * i, (int)i, 4);
+    }
+}
+
+static void expect(const char *call, uint32_t number)
+{
+    if (number != 0) {
+        printf("%s answered %u\n", call, number);
+        exit(1);
+    }
+}
+
+static void write_kind(uint32_t kind, const uint8_t *given, size_t given_len)
+{
+    struct tahliruz_sheet state = { kind != 1, 0 };
+    struct tahliruz_written w =
+        tahliruz_write_record(kind, 7, given, given_len, table, sizeof table, state, record, sizeof record);
+    expect("write_record", w.number);
+    record_len = w.count;
+}
+
+static void read_kind(uint32_t kind)
+{
+    struct tahliruz_sheet state = { kind != 1, 0 };
+    expect("read_record", tahliruz_read_record(table, sizeof table, record, record_len, state, content, sizeof content).number);
+}
+
+static void judge_kind(uint32_t kind)
+{
+    struct tahliruz_sheet state = { kind != 1, 0 };
+    expect("judge_record", tahliruz_judge_record(table, sizeof table, record, record_len, state).number);
+}
+
+static void nothing(void) {}
+static void check(void) { expect("check", tahliruz_check(table, sizeof table).number); }
+static void plain(void) { expect("plain_table", tahliruz_plain_table(content, sizeof content).number); }
+static void pack(void)
+{
+    expect("pack", tahliruz_pack(table, sizeof table, pixels, sizeof pixels, words, sizeof words).number);
+}
+static void unpack(void)
+{
+    expect("unpack", tahliruz_unpack(table, sizeof table, words, sizeof words, PIXELS, content, sizeof content).number);
+}
+static void room(void) { expect("room", tahliruz_room(table, sizeof table, PIXELS).number); }
+static void next(void)
+{
+    struct tahliruz_place place = tahliruz_open(table, sizeof table);
+    expect("next", tahliruz_next(table, sizeof table, words, sizeof words, place).number);
+}
+static void adaptive(void)
+{
+    expect("write_signed", tahliruz_write_signed(-2147483647 - 1, content, sizeof content).number);
+    expect("read_signed", tahliruz_read_signed(content, sizeof content).number);
+}
+static void write_table(void) { write_kind(1, table, sizeof table); }
+static void write_packed(void) { write_kind(2, pixels, sizeof pixels); }
+static void write_plain(void) { write_kind(3, pixels, sizeof pixels); }
+static void write_line(void) { write_kind(4, numbers, sizeof numbers); }
+static void judge_table(void) { judge_kind(1); }
+static void judge_packed(void) { judge_kind(2); }
+static void judge_plain(void) { judge_kind(3); }
+static void judge_line(void) { judge_kind(4); }
+static void read_table(void) { read_kind(1); }
+static void read_packed(void) { read_kind(2); }
+static void read_plain(void) { read_kind(3); }
+static void read_line(void) { read_kind(4); }
+
+static const struct {
+    const char *name;
+    void (*call)(void);
+} calls[] = {
+    { "check", check },           { "plain_table", plain },      { "pack", pack },
+    { "unpack", unpack },         { "room", room },              { "open and next", next },
+    { "adaptive", adaptive },     { "write a table", write_table }, { "judge a table", judge_table },
+    { "read a table", read_table }, { "write a packed row", write_packed }, { "judge a packed row", judge_packed },
+    { "read a packed row", read_packed }, { "write a plain row", write_plain }, { "judge a plain row", judge_plain },
+    { "read a plain row", read_plain }, { "write a line", write_line }, { "judge a line", judge_line },
+    { "read a line", read_line },
+};
+
+static void *run(void *call)
+{
+    (*(void (**)(void))call)();
+    return NULL;
+}
+
+/* The bytes of a painted stack that a call on its thread has changed. */
+static size_t used(void (*call)(void), uint8_t *stack)
+{
+    pthread_attr_t attr;
+    pthread_t thread;
+    memset(stack, PAINT, STACK);
+    if (pthread_attr_init(&attr) || pthread_attr_setstack(&attr, stack, STACK) || pthread_create(&thread, &attr, run, &call)
+        || pthread_join(thread, NULL)) {
+        printf("no thread\n");
+        exit(1);
+    }
+    pthread_attr_destroy(&attr);
+    size_t clean = 0;
+    while (clean < STACK && stack[clean] == PAINT)
+        clean++;
+    return STACK - clean;
+}
+
+int main(int argc, char **argv)
+{
+    void *stack;
+    size_t worst = 0;
+    (void)argv;
+    if (posix_memalign(&stack, (size_t)sysconf(_SC_PAGESIZE), STACK) != 0)
+        return 1;
+    make_inputs();
+    size_t thread_alone = used(nothing, stack);
+    for (size_t i = 0; i < sizeof calls / sizeof *calls; i++) {
+        size_t bytes = used(calls[i].call, stack) - thread_alone;
+        if (argc > 1)
+            printf("%6zu %s\n", bytes, calls[i].name);
+        if (bytes > ASKED)
+            printf("%s takes %zu bytes of stack\n", calls[i].name, bytes);
+        worst = bytes > worst ? bytes : worst;
+    }
+    if (worst <= ASKED)
+        printf("no call takes more than %u bytes of stack\n", ASKED);
+    free(stack);
+    return worst > ASKED;
+}

@@ -1,4 +1,6 @@
 // What the papers say of sheets. The definitions are in specs/; here are the types and limits that the code shares.
+ghost use mathlib.Core.Path.{_≡_};
+ghost use Rattle.sheet_format.specs.Reading.{refusedRecord};
 
 // Document 01: "The length is 2 to 32,774": a record is four bytes more.
 pub const MAX_RECORD_BYTES: usize = 32778;
@@ -23,6 +25,22 @@ pub struct RecordRead {
     pub words: u32,
     pub length: u32,
     pub state: SheetState,
+}
+
+// What reading answers for a refused record: "Every refusal returns 0 for all counts and values"; the state is as given.
+pub fn refused(number: u32, state: SheetState) -> RecordRead
+    ensures { λ r. ⌜ r ≡ refusedRecord number state ⌝ }
+{
+    RecordRead {
+        number,
+        kind: 0,
+        row: 0,
+        count: 0,
+        bits: 0,
+        words: 0,
+        length: 0,
+        state,
+    }
 }
 
 // What writing a record answers: the number, and where it is 0 the bytes written and the state after the record. A refusal

@@ -9,11 +9,11 @@ use line::put_last_line;
 use line::put_record_line;
 use sheet_format::RecordRead;
 use sheet_format::SheetState;
+use sheet_format::refused;
 use sheet_reader::judge_record;
 ghost use mathlib.Core.Path.{_≡_};
 ghost use Rattle.answer.specs.Outcome.{outcome};
 ghost use Rattle.row_format.specs.Table.{tableNumber};
-ghost use Rattle.sheet_format.specs.Reading.{refusedRecord};
 ghost use Rattle.sheet_listing.specs.Line.{answerLine, lastLine};
 ghost use Rattle.sheet_listing.specs.Listed.{lineGiven, left, lineListed, recordListed};
 
@@ -55,22 +55,6 @@ fn list_accepted(read: RecordRead, body: &[u8], state: SheetState, out: &mut [u8
         };
     }
     Listed { read, count }
-}
-
-// "Every refusal returns 0 for all counts and values"; the state is as given.
-fn refused(number: u32, state: SheetState) -> RecordRead
-    ensures { λ r. ⌜ r ≡ refusedRecord number state ⌝ }
-{
-    RecordRead {
-        number,
-        kind: 0,
-        row: 0,
-        count: 0,
-        bits: 0,
-        words: 0,
-        length: 0,
-        state,
-    }
 }
 
 // The last line of a listing: `done rows N` where the number is 0, else `refused N at record K`, where K is the index. It is

@@ -1,25 +1,8 @@
-// What is answered of a record that is refused, and of one that is not.
+// What is answered of a record that is accepted.
 use sheet_format::RecordRead;
 use sheet_format::SheetState;
 ghost use mathlib.Core.Path.{_≡_};
 ghost use Rattle.bitstream.specs.Bits.{wordsFor};
-ghost use Rattle.sheet_format.specs.Reading.{refusedRecord};
-
-// "Every refusal returns 0 for all counts and values"; the state is as given.
-pub fn refused(number: u32, state: SheetState) -> RecordRead
-    ensures { λ r. ⌜ r ≡ refusedRecord number state ⌝ }
-{
-    RecordRead {
-        number,
-        kind: 0,
-        row: 0,
-        count: 0,
-        bits: 0,
-        words: 0,
-        length: 0,
-        state,
-    }
-}
 
 // `whole` is the record's bytes, `after` the state after it.
 pub fn held(kind: u32, row: u32, count: u32, bits: u32, whole: u32, after: SheetState) -> RecordRead

@@ -1,5 +1,4 @@
 // The frame of a record: its length and its kind.
-use crate::answers::refused;
 use crate::line::read_line;
 use crate::packed::read_packed;
 use crate::plain::read_plain;
@@ -8,6 +7,7 @@ use bitstream::number::read_u16;
 use bitstream::number::read_u32;
 use sheet_format::RecordRead;
 use sheet_format::SheetState;
+use sheet_format::refused;
 ghost use mathlib.Core.Path.{_≡_};
 ghost use Prim.Native.Nat.{_≤_};
 ghost use lib.ListN.{length};

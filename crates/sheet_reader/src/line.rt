@@ -1,11 +1,11 @@
 // A contour line in a record.
 use crate::answers::held;
-use crate::answers::refused;
 use crate::numbers::judge_numbers;
 use crate::numbers::keep_numbers;
 use bitstream::number::read_u16;
 use sheet_format::RecordRead;
 use sheet_format::SheetState;
+use sheet_format::refused;
 ghost use mathlib.Core.Path.{_≡_};
 ghost use mathlib.Core.List.{[]};
 ghost use Prim.Native.Nat.{_≤_};

@@ -1,6 +1,5 @@
 // A packed row in a record.
 use crate::answers::held;
-use crate::answers::refused;
 use crate::keep::keep;
 use crate::row::after_row;
 use crate::row::row_fields;
@@ -8,6 +7,7 @@ use answer::Answer;
 use row_unpacker::unpack::unpack;
 use sheet_format::RecordRead;
 use sheet_format::SheetState;
+use sheet_format::refused;
 ghost use mathlib.Core.Path.{_≡_};
 ghost use Prim.Native.Nat.{_≤_, min};
 ghost use lib.ListN.{length};

@@ -1,12 +1,12 @@
 // A plain row in a record: two bytes a pixel, unpacked.
 use crate::answers::held;
-use crate::answers::refused;
 use crate::keep::keep;
 use crate::row::after_row;
 use crate::row::row_fields;
 use row_pixels::any_above;
 use sheet_format::RecordRead;
 use sheet_format::SheetState;
+use sheet_format::refused;
 ghost use mathlib.Core.Path.{_≡_};
 ghost use mathlib.Core.List.{[]};
 ghost use Prim.Native.Nat.{_≤_};

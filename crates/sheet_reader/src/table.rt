@@ -1,9 +1,9 @@
 // A table in a record.
 use crate::answers::held;
-use crate::answers::refused;
 use row_unpacker::unpack::unpack;
 use sheet_format::RecordRead;
 use sheet_format::SheetState;
+use sheet_format::refused;
 ghost use mathlib.Core.Path.{_≡_};
 ghost use Prim.Native.Nat.{_≤_};
 ghost use lib.ListN.{length};

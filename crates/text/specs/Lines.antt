@@ -8,29 +8,29 @@ abbrev pub newline : List ℕ
 newline = ascii "\n"
 
 -- `table 1 low 3837 size 512 worst 14`
-unfoldable pub tableLine : ℕ → ℕ → ℕ → ℕ → List ℕ
-tableLine id low size worst = fields (ascii "table ") id (ascii " low ") low ++ fields (ascii " size ") size (ascii " worst ") worst ++ newline
+abbrev pub tableLine : ℕ → ℕ → ℕ → ℕ → List ℕ
+tableLine id low size worst = fields (ascii "table ") id (ascii " low ") low ++ (fields (ascii " size ") size (ascii " worst ") worst ++ newline)
 
 -- `row 0 pixels 2 bits 13 words 1`: a row of kind 2
-unfoldable pub packedLine : ℕ → ℕ → ℕ → ℕ → List ℕ
-packedLine row pixels bits words = fields (ascii "row ") row (ascii " pixels ") pixels ++ fields (ascii " bits ") bits (ascii " words ") words ++ newline
+abbrev pub packedLine : ℕ → ℕ → ℕ → ℕ → List ℕ
+packedLine row pixels bits words = fields (ascii "row ") row (ascii " pixels ") pixels ++ (fields (ascii " bits ") bits (ascii " words ") words ++ newline)
 
 -- `row R pixels P plain`: a row of kind 3
-unfoldable pub plainLine : ℕ → ℕ → List ℕ
+abbrev pub plainLine : ℕ → ℕ → List ℕ
 plainLine row pixels = fields (ascii "row ") row (ascii " pixels ") pixels ++ ascii " plain\n"
 
 -- `line numbers C`: a contour line
-unfoldable pub contourLine : ℕ → List ℕ
+abbrev pub contourLine : ℕ → List ℕ
 contourLine numbers = field (ascii "line numbers ") numbers ++ newline
 
 -- `done rows 2`
-unfoldable pub doneLine : ℕ → List ℕ
+abbrev pub doneLine : ℕ → List ℕ
 doneLine rows = field (ascii "done rows ") rows ++ newline
 
 -- `refused N at record K`
-unfoldable pub refusedAtLine : ℕ → ℕ → List ℕ
+abbrev pub refusedAtLine : ℕ → ℕ → List ℕ
 refusedAtLine number index = fields (ascii "refused ") number (ascii " at record ") index ++ newline
 
 -- `refused N`, which the table lister prints
-unfoldable pub refusedLine : ℕ → List ℕ
+abbrev pub refusedLine : ℕ → List ℕ
 refusedLine number = field (ascii "refused ") number ++ newline

@@ -115,7 +115,6 @@ length-lines t list first = length-drop first (map (line t) list) ∙ ap (_- fir
 
 -- ---- one line alone
 pub refused-some : (e : ℕ) → 1 ≤ length (refusedLine e)
-unfolding refusedLine
 refused-some e = rw (length-append (field (ascii "refused ") e) newline) (omega arith)
 
 module _ (l m : List ℕ) (first : ℕ) where

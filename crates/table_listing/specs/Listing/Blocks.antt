@@ -57,7 +57,6 @@ tableNumber-most b =
     (λ e. rw e (omega arith))
 
 refusedLine-most : (e : ℕ) → e ≤ 3 → length (refusedLine e) ≤ 128
-unfolding refusedLine
 refusedLine-most e h =
     rw (length-append (field (ascii "refused ") e) newline, length-append (ascii "refused ") (decimal e)) (omega (arith, length-decimal 0 e (omega arith)))
 

@@ -5,15 +5,15 @@ use Rattle.text.specs.Text.{ascii, decimal, spelled, integer}
 use Rattle.text.specs.Lines.{tableLine, packedLine, doneLine}
 
 table-case : tableLine 1 3837 512 14 ≡ ascii "table 1 low 3837 size 512 worst 14\n"
-unfolding tableLine decimal spelled
+unfolding decimal spelled
 table-case = refl
 
 packed-case : packedLine 0 2 13 1 ≡ ascii "row 0 pixels 2 bits 13 words 1\n"
-unfolding packedLine decimal spelled
+unfolding decimal spelled
 packed-case = refl
 
 done-case : doneLine 2 ≡ ascii "done rows 2\n"
-unfolding doneLine decimal spelled
+unfolding decimal spelled
 done-case = refl
 
 integer-case : integer (negsuc 4092) ≡ ascii "-4093"

@@ -1,3 +1,4 @@
 pub mod Bits
 pub mod Memory
+pub mod Part
 pub mod Writer

@@ -1,4 +1,3 @@
-pub mod Part
 pub mod Leaves
 pub mod Frame
 pub mod Table

@@ -1,10 +1,9 @@
 -- How a record stands in the lent memory: k bytes of fields, h, and behind them the content b. Definitions only. Assumes
 -- nothing.
-use Prim.Native.Nat.{ℕ, _-_}
+use Prim.Native.Nat.{ℕ}
 use mathlib.Core.Path.{_≡_}
 use mathlib.Core.List.{List, _++_}
 use lib.ListN.{length}
-use borrow.Rule.Slice.PartMut.{midOf, putMid}
 use Rattle.sheet_format.specs.Record.{kindOf, kindNumber}
 use Rattle.sheet_format.specs.Writing.{bodyFor, recordBytes}
 pub mod Laws
@@ -13,10 +12,3 @@ pub record Frame (code row : ℕ) (tb c h b : List ℕ) (k : ℕ) : Type 0 where
   pub known : kindNumber (kindOf code) ≡ 0
   pub bytes : recordBytes code (bodyFor (kindOf code) row tb c) ≡ h ++ b
   pub fields : length h ≡ k
-
--- the memory m from the place a on, as it is lent; and m when y comes back for it
-abbrev pub partFrom : ℕ → List ℕ → List ℕ
-partFrom a m = midOf a (length m - a) m
-
-abbrev pub withPart : ℕ → List ℕ → List ℕ → List ℕ
-withPart a m y = putMid a (length m - a) m y

@@ -5,13 +5,13 @@ use mathlib.Core.Path.{_≡_}
 use mathlib.Core.List.{List}
 use lib.ListN.{length}
 use Rattle.bitstream.specs.Bits.{halvesOf, wordsOf}
+use Rattle.bitstream.specs.Part.{partFrom}
 use Rattle.answer.specs.declared.Answer.{Answer}
 use Rattle.answer.specs.Outcome.{outcome}
 use Rattle.row_format.specs.Calls.{packed}
 use Rattle.row_format.specs.Calls.Laws.{rowBytes}
 use Rattle.sheet_format.specs.declared.SheetState.{SheetState}
 use Rattle.sheet_format.specs.Record.{packedRecord, placeNumber}
-use Rattle.sheet_writer.specs.Frame.{partFrom}
 pub mod Laws
 
 -- the words of the content's pixels under the sheet's table

@@ -16,6 +16,7 @@ use Rattle.bitstream.specs.Bits.{digits, cut, bytesOf}
 use Rattle.bitstream.specs.Bits.Laws.{length-cut}
 use Rattle.bitstream.specs.Memory.{overwritten}
 use Rattle.bitstream.specs.Memory.Laws.{length-overwritten}
+use Rattle.bitstream.specs.Part.{partFrom, part-is}
 use Rattle.answer.specs.Outcome.{_orElse_, refuseIf}
 use Rattle.answer.specs.Outcome.Laws.{lessNumber-zero, orElse-zero-right, given-first, given-next}
 use Rattle.row_format.specs.Calls.{tooMany}
@@ -31,7 +32,6 @@ use Rattle.sheet_format.specs.Record.Laws.{Passed, passed}
 use Rattle.sheet_format.specs.Theorems.Judged.{Content, passed-content}
 use Rattle.sheet_format.specs.Reading.{numberBytes, refusedRecord}
 use Rattle.sheet_reader.specs.declared.numbers.LineJudged.{LineJudged}
-use Rattle.sheet_reader.specs.Part.{partFrom, partFrom-drop}
 use Rattle.sheet_reader.specs.Leaves.{ContentLeaves}
 use Rattle.sheet_reader.specs.Leaves.Laws.{refuses, holds}
 use Rattle.sheet_reader.specs.Line.{lineJudged, Walked, Kept, LineAccepted}
@@ -56,7 +56,7 @@ raised-word (negsuc m) h = omega arith
 -- ---- a pass over the numbers
 -- the next number is read from the rest of the bytes
 read-rest : (s : List ℕ) (at : ℕ) {r : SignedRead} → r ≡ signedRead (partFrom at s) → r ≡ signedRead (drop at s)
-read-rest s at read = read ∙ ap signedRead (partFrom-drop at s)
+read-rest s at read = read ∙ ap signedRead (part-is at s)
 
 pub walk-start : {n : ℕ} {s : List ℕ} → Walked n s 0 0
 walk-start {n} {s} =
@@ -149,7 +149,7 @@ module _ (b : List ℕ) (room : ℕ) {count : ℕ} (is : count ≡ numberCount b
 
   module _ (few : count ≤ 4096) {j : LineJudged} (judged : j ≡ lineJudged (readLine count (partFrom 2 b))) where
     judged-is : j ≡ lineJudged (lineOf b)
-    judged-is = judged ∙ rw (partFrom-drop 2 b, is)
+    judged-is = judged ∙ rw (part-is 2 b, is)
 
     fault-is : j .number ≡ lineNumber b
     fault-is = rw (← is, le-ltb 4096 count few) (ap (λ (x : LineJudged). x .number) judged-is ∙ rw is)
@@ -164,7 +164,7 @@ module _ (b : List ℕ) (room : ℕ) {count : ℕ} (is : count ≡ numberCount b
       past-fault : {n : ℕ} → n ≡ refuseIf (ltb (j .used) (length (partFrom 2 b))) 14 orElse roomNumber (lent room) (4 * count)
           → n ≡ numbersNumber b room
       unfolding leftoverNumber lastRoomNumber
-      past-fault h = given-next (sym fault-is ∙ none) (rw (used-is, ← partFrom-drop 2 b, ← is) h)
+      past-fault h = given-next (sym fault-is ∙ none) (rw (used-is, ← part-is 2 b, ← is) h)
 
       pub numbers-leftover : j .used < length (partFrom 2 b) → 14 ≡ numbersNumber b room
       numbers-leftover more = past-fault (rw (lt-ltb (j .used) (length (partFrom 2 b)) more))
@@ -209,7 +209,7 @@ module _ {b : List ℕ} {st : SheetState} {room count : ℕ} (ok : LineAccepted 
   line-content = passed-content (lent room) [] b st lineRecord line-passed
 
   same-line : readLine count (partFrom 2 b) ≡ lineOf b
-  same-line = rw (partFrom-drop 2 b, ok .count-is)
+  same-line = rw (part-is 2 b, ok .count-is)
 
   pub line-right : faultNumber (readLine count (partFrom 2 b)) ≡ 0
   unfolding bodyNumber

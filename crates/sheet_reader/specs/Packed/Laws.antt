@@ -9,6 +9,7 @@ use lib.ListN.{length, take, drop}
 use lib.Seq.{length-take-le, take-append-seam}
 use borrow.Author.Tests.{lt-ltb, le-ltb}
 use Rattle.bitstream.specs.Bits.{stream, wordsFor}
+use Rattle.bitstream.specs.Part.{partFrom, part-is}
 use Rattle.answer.specs.declared.Answer.{Answer}
 use Rattle.answer.specs.Outcome.{Outcome, outcome, wrote, _orElse_}
 use Rattle.answer.specs.Outcome.Laws.{lessNumber-zero, lessNumber-none, lessNumber-given, unequalNumber-none, unequalNumber-given, orElse-assoc, orElse-none, orElse-zero-left, orElse-zero-right, orElse-same, given-first, given-next}
@@ -22,7 +23,6 @@ use Rattle.sheet_format.specs.Record.Rows.{unpacked-record-number, unpacked-doe
 use Rattle.sheet_format.specs.Theorems.Judged.{passed-content}
 use Rattle.sheet_format.specs.Reading.{pixelBytes, refusedRecord, stateAfter}
 use Rattle.sheet_reader.specs.declared.row.RowFields.{RowFields}
-use Rattle.sheet_reader.specs.Part.{partFrom, partFrom-drop}
 use Rattle.sheet_reader.specs.Leaves.{ContentLeaves}
 use Rattle.sheet_reader.specs.Leaves.Laws.{refuses, holds}
 use Rattle.sheet_reader.specs.Row.{FieldsOf}
@@ -47,7 +47,7 @@ pub unpacked-row : {room : ℕ} {tb b : List ℕ} {a : Answer} {out : List ℕ} 
 unpacked-row {tb = tb} {b = b} {size = size} row long size-is count-is told = record {
   m = take size row;
   size = length-take-le size row (omega arith) ∙ size-is;
-  told = told ∙ rw (partFrom-drop 4 b, count-is);
+  told = told ∙ rw (part-is 4 b, count-is);
 }
 
 module _ {room : ℕ} {tb b : List ℕ} {a : Answer} {out : List ℕ} (u : Unpacked room tb b a out) where
@@ -76,7 +76,7 @@ module _ {room : ℕ} {tb b : List ℕ} {a : Answer} {out : List ℕ} (u : Unpac
     row-leftover more = record {
       number =
           given-next accepted
-          (rw (← bits-is, ← partFrom-drop 4 b, lt-ltb (4 * wordsFor (a .count)) (length (partFrom 4 b)) more));
+          (rw (← bits-is, ← part-is 4 b, lt-ltb (4 * wordsFor (a .count)) (length (partFrom 4 b)) more));
       row = λ e. absurd (omega arith);
     }
 
@@ -91,7 +91,7 @@ module _ {room : ℕ} {tb b : List ℕ} {a : Answer} {out : List ℕ} (u : Unpac
         record {
           number =
               given-next accepted
-              (rw (← bits-is, ← partFrom-drop 4 b, le-ltb (4 * wordsFor (a .count)) (length (partFrom 4 b)) all));
+              (rw (← bits-is, ← part-is 4 b, le-ltb (4 * wordsFor (a .count)) (length (partFrom 4 b)) all));
           row = λ e. record {
             few = lessNumber-zero 4096 (pixelCount b) 10 (orElse-zero-left (tooMany (pixelCount b)) _ after-table);
             bits-are = bits-is;

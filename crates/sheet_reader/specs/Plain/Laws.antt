@@ -9,6 +9,7 @@ use lib.Seq.{take-all}
 use lib.Dec.{ltb}
 use borrow.Author.Tests.{lt-ltb, le-ltb}
 use Rattle.bitstream.specs.Bits.{halvesOf}
+use Rattle.bitstream.specs.Part.{partFrom, part-is}
 use Rattle.answer.specs.Outcome.{_orElse_, refuseIf}
 use Rattle.answer.specs.Outcome.Laws.{lessNumber-zero, unequalNumber-none, unequalNumber-given, orElse-assoc, given-first, given-next}
 use Rattle.row_format.specs.Lists.{any}
@@ -19,7 +20,6 @@ use Rattle.sheet_format.specs.Record.Laws.{passed}
 use Rattle.sheet_format.specs.Theorems.Judged.{passed-content}
 use Rattle.sheet_format.specs.Reading.{refusedRecord, stateAfter}
 use Rattle.sheet_reader.specs.declared.row.RowFields.{RowFields}
-use Rattle.sheet_reader.specs.Part.{partFrom, partFrom-drop}
 use Rattle.sheet_reader.specs.Leaves.{ContentLeaves}
 use Rattle.sheet_reader.specs.Leaves.Laws.{refuses, holds}
 use Rattle.sheet_reader.specs.Row.{FieldsOf}
@@ -36,7 +36,7 @@ module _ (b : List ℕ) (room : ℕ) {count : ℕ} (is : count ≡ pixelCount b)
   module _ (few : count ≤ 4096) where
     pub pixels-size : (length (partFrom 4 b) ≡ 2 * count → ⊥) → 14 ≡ pixelsNumber b room
     pixels-size wrong =
-        rw (← partFrom-drop 4 b, ← is, le-ltb 4096 count few, unequalNumber-given (length (partFrom 4 b)) (2 * count) 14 wrong)
+        rw (← part-is 4 b, ← is, le-ltb 4096 count few, unequalNumber-given (length (partFrom 4 b)) (2 * count) 14 wrong)
 
     module _ (size : length (partFrom 4 b) ≡ 2 * count) where
       past-size : {n : ℕ}
@@ -44,7 +44,7 @@ module _ (b : List ℕ) (room : ℕ) {count : ℕ} (is : count ≡ pixelCount b)
           → n ≡ pixelsNumber b room
       unfolding lastRoomNumber
       past-size h =
-          rw (← partFrom-drop 4 b, ← is, le-ltb 4096 count few, unequalNumber-none (length (partFrom 4 b)) (2 * count) 14 size) h
+          rw (← part-is 4 b, ← is, le-ltb 4096 count few, unequalNumber-none (length (partFrom 4 b)) (2 * count) 14 size) h
 
       pub pixels-above : true ≡ any (ltb 4095) (halvesOf (partFrom 4 b)) → 4 ≡ pixelsNumber b room
       pixels-above above = past-size (rw (← above))
@@ -91,7 +91,7 @@ module _ {b : List ℕ} {st : SheetState} {room : ℕ} {f : RowFields} where
     plain-size = rw (ok .fields .count) (ok .content .size)
 
     pub plain-long : 2 * f .count ≤ length (partFrom 4 b)
-    plain-long = rw (partFrom-drop 4 b, plain-size) (omega arith)
+    plain-long = rw (part-is 4 b, plain-size) (omega arith)
 
     pub plain-held : {whole : ℕ} {m : List ℕ} {x : RecordRead} {m′ : List ℕ} {after : SheetState} → after ≡ stateAfter plainRecord (f .row) st
         → x ≡ record { number = 0; kind = 3; row = f .row; count = f .count; bits = 0; words = 0; length = whole; state = after }
@@ -99,7 +99,7 @@ module _ {b : List ℕ} {st : SheetState} {room : ℕ} {f : RowFields} where
         → ContentLeaves plainRecord room 3 whole [] b st m x m′
     plain-held {m = m} {m′ = m′} after-is is kept =
         let front : take (2 * f .count) (partFrom 4 b) ≡ rowContent b =
-        ap (take (2 * f .count)) (partFrom-drop 4 b) ∙ take-all (2 * f .count) (rowContent b) (omega (arith, plain-size)) in
+        ap (take (2 * f .count)) (part-is 4 b) ∙ take-all (2 * f .count) (rowContent b) (omega (arith, plain-size)) in
         record {
           leaves = holds (ok .zero) (rw (← ok .fields .row, ← ok .fields .count, ← after-is) is)
               (2 * f .count) m′ plain-size (λ enough. kept enough ∙ ap (_++ drop (2 * f .count) m) front);

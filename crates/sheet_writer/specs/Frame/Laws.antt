@@ -1,11 +1,12 @@
 -- The ways out of a write, for every kind. Assumes nothing.
-use Prim.Native.Nat.{ℕ, zero, suc, _+_, _-_, _≤_, _<_}
+use Prim.Native.Nat.{ℕ, zero, suc, _+_, _≤_, _<_}
 use native.Mathlib.Omega.{arith}
 use mathlib.Core.Path.{_≡_, refl, sym, ap, _∙_}
-use mathlib.Core.List.{List, [], _++_, append-assoc, append-nil}
-use lib.ListN.{length, take, drop, length-append, length-drop, drop-of-length-le}
-use lib.Seq.{take-all, take-length, drop-at, drop-drop, length-take-le}
+use mathlib.Core.List.{List, _++_, append-assoc}
+use lib.ListN.{length, take, drop, length-append}
+use lib.Seq.{take-length, drop-at, drop-drop, length-take-le}
 use lib.Dec.{ltb}
+use Rattle.bitstream.specs.Part.{partFrom, withPart, part-is, part-back}
 use Rattle.answer.specs.Outcome.{_orElse_, refuseIf}
 use Rattle.answer.specs.Outcome.Laws.{lessNumber-none, lessNumber-given, orElse-assoc}
 use Rattle.sheet_format.specs.declared.SheetState.{SheetState}
@@ -16,17 +17,7 @@ use Rattle.sheet_format.specs.Writing.{bodyFor, recordBytes, givenNumber, write
 use Rattle.sheet_format.specs.Writing.Laws.{recordWritten-done, recordWritten-refused}
 use Rattle.sheet_writer.specs.Outcome.{outcome, judged}
 use Rattle.answer.specs.Outcome.Laws.{given-first}
-use Rattle.sheet_writer.specs.Frame.{Frame, partFrom, withPart}
-
--- ---- the memory from a place on, lent and given back
-pub part-is : (a : ℕ) (m : List ℕ) → partFrom a m ≡ drop a m
-part-is a m = take-all (length m - a) (drop a m) (omega (arith, length-drop a m))
-
-pub part-back : (a : ℕ) (m y : List ℕ) → withPart a m y ≡ take a m ++ y
-part-back a m y =
-    let short : length (drop a m) ≤ length m - a = omega (arith, length-drop a m) in
-    let none : drop (length m - a) (drop a m) ≡ [] = drop-of-length-le (drop a m) short in
-    rw (none, append-nil y)
+use Rattle.sheet_writer.specs.Frame.{Frame}
 
 -- what copying all of b leaves
 pub copied : (b m y : List ℕ) → y ≡ take (length b) b ++ drop (length b) m → y ≡ b ++ drop (length b) m

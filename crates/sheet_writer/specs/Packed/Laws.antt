@@ -12,6 +12,7 @@ use borrow.Author.Tests.{lt-ltb, le-ltb}
 use borrow.Rule.Slice.PartMut.{put-same}
 use Rattle.bitstream.specs.Bits.{halvesOf, wordsOf, wordsFor}
 use Rattle.bitstream.specs.Bits.Laws.{length-cut}
+use Rattle.bitstream.specs.Part.{partFrom, withPart, part-is, part-back}
 use Rattle.answer.specs.declared.Answer.{Answer}
 use Rattle.answer.specs.Outcome as answers
 use Rattle.answer.specs.Outcome.{_orElse_, refuseIf}
@@ -32,9 +33,9 @@ use Rattle.sheet_writer.specs.Outcome.{outcome, judged}
 use Rattle.answer.specs.Outcome.Laws.{given-first}
 use Rattle.sheet_writer.specs.Fields.{rowFields}
 use Rattle.sheet_writer.specs.Fields.Laws.{length-rowFields, row-fields}
-use Rattle.sheet_writer.specs.Frame.{Frame, partFrom, withPart}
+use Rattle.sheet_writer.specs.Frame.{Frame}
 use Rattle.sheet_writer.specs.Packed.{packedWords, Ran}
-use Rattle.sheet_writer.specs.Frame.Laws.{part-is, part-back, frame-number, frame-done, refused-number}
+use Rattle.sheet_writer.specs.Frame.Laws.{frame-number, frame-done, refused-number}
 
 -- ---- how the record stands
 length-packedWords : (tb c : List ℕ) → length (packedWords tb c) ≡ 4 * wordsFor (length (rowBits (wordsOf tb) (halvesOf c)))

@@ -6,12 +6,13 @@ use mathlib.Core.List.{[]}
 use mathlib.Core.Path.{_≡_, _∙_, sym}
 use lib.ListN.{length, length-drop}
 use borrow.Author.Needs.{needs}
+use Rattle.bitstream.specs.Part.{part-is}
 use Rattle.sheet_format.specs.Record.{lineRecord}
 use Rattle.sheet_format.specs.Line.{lineBytes}
 use Rattle.sheet_format.specs.Writing.{givenNumbers}
 use Rattle.sheet_writer.specs.Outcome.{judged}
 use Rattle.sheet_writer.specs.Line.{line-frame, line-few, line-most}
-use Rattle.sheet_writer.specs.Frame.Laws.{part-is, frame-refused, frame-full, frame-passed, frame-done}
+use Rattle.sheet_writer.specs.Frame.Laws.{frame-refused, frame-full, frame-passed, frame-done}
 use Rattle.sheet_writer.proofs.line.write_line.Statement.{statement}
 use Rattle.sheet_writer.proofs.line.write_line.Tie as tie
 

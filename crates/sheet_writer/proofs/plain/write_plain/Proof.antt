@@ -6,10 +6,11 @@ use mathlib.Core.List.{[]}
 use mathlib.Core.Path.{_≡_, _∙_, sym}
 use lib.ListN.{length, length-drop}
 use borrow.Author.Needs.{needs}
+use Rattle.bitstream.specs.Part.{part-is}
 use Rattle.sheet_format.specs.Record.{plainRecord}
 use Rattle.sheet_writer.specs.Outcome.{judged}
 use Rattle.sheet_writer.specs.Plain.{wholePixels, length-wholePixels, plain-frame, plain-few}
-use Rattle.sheet_writer.specs.Frame.Laws.{part-is, copied, frame-refused, frame-full, frame-passed, frame-done}
+use Rattle.sheet_writer.specs.Frame.Laws.{copied, frame-refused, frame-full, frame-passed, frame-done}
 use Rattle.sheet_writer.proofs.plain.write_plain.Statement.{statement}
 use Rattle.sheet_writer.proofs.plain.write_plain.Tie as tie
 

@@ -11,8 +11,3 @@ pub record Sound (p : Progress) (index : ℕ) (table block : List ℕ) : Type 0 
   pub kept : p .kept ≤ length table
   pub filled : p .filled ≤ length block
   pub rows : p .rows ≤ index
-
--- a listed record: its line is within the block, and its bytes are there
-pub record Here (r : List ℕ) (filled : ℕ) (block : List ℕ) (x : Listed) : Type 0 where
-  pub line : filled + x .count ≤ length block
-  pub bytes : x .read .number ≡ 0 → (6 ≤ x .read .length) × (x .read .length ≤ 32778) × (x .read .length ≤ length r)

@@ -24,6 +24,7 @@ fn main() {
 fn list_sheet(bytes: &mut [u8], table: &mut [u8], block: &mut [u8])
     requires { ⌜ 32778 ≤ length (now bytes) ⌝ }
     requires { ⌜ 32772 ≤ length (now table) ⌝ }
+    requires { ⌜ 128 ≤ length (now block) ⌝ }
 {
     let mut at = begin();
     let mut index: u64 = 0;

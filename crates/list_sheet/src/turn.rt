@@ -7,9 +7,15 @@ use sheet_listing::Listed;
 use sheet_listing::list_record;
 use text::put::put_bytes;
 ghost use mathlib.Core.Path.{_≡_};
-ghost use Prim.Native.Nat.{_+_, _≤_, _<_};
-ghost use lib.ListN.{length};
-ghost use Rattle.list_sheet.specs.Sound.{Sound, Here};
+ghost use mathlib.Core.Bool.{true, cond};
+ghost use Prim.Native.Nat.{_+_, _-_, _≤_, _<_};
+ghost use lib.ListN.{length, take, drop};
+ghost use lib.Dec.{eqb};
+ghost use Rattle.sheet_format.specs.Record.{kindOf};
+ghost use Rattle.sheet_format.specs.Reading.{newSheet, tableAfter};
+ghost use Rattle.sheet_listing.specs.Listing.{rowsOf};
+ghost use Rattle.list_sheet.specs.Sound.{Sound};
+ghost use Rattle.list_sheet.specs.Step.{Put, Turned};
 
 // What is carried from record to record.
 // state    what the sheet holds so far
@@ -35,7 +41,7 @@ pub struct Turn {
 }
 
 pub fn begin() -> Progress
-    ensures { λ r. ⌜ (r .kept ≡ 0) × (r .filled ≡ 0) × (r .rows ≡ 0) ⌝ }
+    ensures { λ r. ⌜ r ≡ record { state = newSheet; kept = 0; filled = 0; rows = 0 } ⌝ }
 {
     Progress {
         state: SheetState {
@@ -58,8 +64,10 @@ pub fn take_turn(
     requires { ⌜ 32778 ≤ length (now bytes) ⌝ }
     requires { ⌜ 32772 ≤ length (now table) ⌝ }
     requires { ⌜ index < 18446744073709551615 ⌝ }
+    requires { ⌜ 128 ≤ length (now block) ⌝ }
     requires { ⌜ Sound at index (now table) (now block) ⌝ }
-    ensures { λ r. ⌜ Sound (r .next) (index + 1) (now (table .exit)) (now (block .exit)) ⌝ }
+    ensures sound { λ r. ⌜ Sound (r .next) (index + 1) (now (table .exit)) (now (block .exit)) ⌝ }
+    ensures room { λ r. ⌜ (r .ended ≡ true → r .next .filled + 128 ≤ length (now (block .exit))) ⌝ }
 {
     let room = make_room(block, at.filled);
     let state = at.state;
@@ -84,12 +92,14 @@ pub fn take_turn(
 }
 
 // "A sheet with no records is refused 16".
-fn number_at_end(index: u64) -> u32 {
+fn number_at_end(index: u64) -> u32
+    ensures { λ r. ⌜ r ≡ cond (eqb index 0) 16 0 ⌝ }
+{
     if index == 0 { 16 } else { 0 }
 }
 
 fn last(number: u32, failed: bool, at: Progress) -> Turn
-    ensures { λ r. ⌜ r .next ≡ at ⌝ }
+    ensures { λ r. ⌜ r ≡ record { ended = true; failed = failed; number = number; next = at } ⌝ }
 {
     Turn {
         ended: true,
@@ -103,8 +113,11 @@ fn last(number: u32, failed: bool, at: Progress) -> Turn
 fn list_one(bytes: &[u8], table: &mut [u8], block: &mut [u8], at: Progress) -> Turn
     requires { ⌜ 32772 ≤ length (now table) ⌝ }
     requires { ⌜ at .rows < 18446744073709551615 ⌝ }
-    requires { ⌜ Sound at (at .rows) (now table) (now block) ⌝ }
-    ensures { λ r. ⌜ Sound (r .next) (at .rows + 1) (now (table .exit)) (now (block .exit)) ⌝ }
+    requires { ⌜ at .kept ≤ length (now table) ⌝ }
+    requires { ⌜ at .filled + 128 ≤ length (now block) ⌝ }
+    ensures sound { λ r. ⌜ Sound (r .next) (at .rows + 1) (now (table .exit)) (now (block .exit)) ⌝ }
+    ensures stays { λ r. ⌜ (r .ended ≡ true → r .next ≡ at) ⌝ }
+    ensures turned { λ r. ⌜ Turned (now (bytes .entry)) at (now (table .entry)) (now (block .entry)) r (now (table .exit)) (now (block .exit)) ⌝ }
 {
     let listed = put_line(bytes, table, block, at);
     let read = listed.read;
@@ -131,8 +144,8 @@ fn list_one(bytes: &[u8], table: &mut [u8], block: &mut [u8], at: Progress) -> T
 
 fn put_line(bytes: &[u8], table: &[u8], block: &mut [u8], at: Progress) -> Listed
     requires { ⌜ at .kept ≤ length (now table) ⌝ }
-    requires { ⌜ at .filled ≤ length (now block) ⌝ }
-    ensures { λ r. ⌜ Here (now (bytes .entry)) (at .filled) (now (block .entry)) r ⌝ }
+    requires { ⌜ at .filled + 128 ≤ length (now block) ⌝ }
+    ensures { λ r. ⌜ Put (now (bytes .entry)) at (now (table .entry)) (now (block .entry)) r (now (block .exit)) ⌝ }
 {
     let kept = at.kept;
     let filled = at.filled;
@@ -145,7 +158,8 @@ fn keep_table(read: RecordRead, bytes: &[u8], table: &mut [u8], kept: usize) -> 
     requires { ⌜ 32772 ≤ length (now table) ⌝ }
     requires { ⌜ kept ≤ length (now table) ⌝ }
     requires { ⌜ (6 ≤ read .length) × (read .length ≤ 32778) × (read .length ≤ length (now bytes)) ⌝ }
-    ensures { λ r. ⌜ r ≤ length (now (table .entry)) ⌝ }
+    ensures within { λ r. ⌜ r ≤ length (now (table .entry)) ⌝ }
+    ensures table { λ r. ⌜ take r (now (table .exit)) ≡ tableAfter (kindOf (read .kind)) (take kept (now (table .entry))) (take (read .length - 6) (drop 6 (now (bytes .entry)))) ⌝ }
 {
     if read.kind != 1 {
         return kept;
@@ -157,7 +171,7 @@ fn keep_table(read: RecordRead, bytes: &[u8], table: &mut [u8], kept: usize) -> 
 // Kinds 2 and 3 are rows.
 fn rows_after(kind: u32, rows: u64) -> u64
     requires { ⌜ rows < 18446744073709551615 ⌝ }
-    ensures { λ r. ⌜ r ≤ rows + 1 ⌝ }
+    ensures { λ r. ⌜ r ≡ rows + rowsOf (kindOf kind) ⌝ }
 {
     if kind == 2 {
         return rows + 1;

@@ -12,9 +12,13 @@ use sheet_format::SheetState;
 use sheet_format::refused;
 use sheet_reader::judge_record;
 ghost use mathlib.Core.Path.{_≡_};
+ghost use Prim.Native.Nat.{_≤_};
+ghost use lib.ListN.{length};
 ghost use Rattle.answer.specs.Outcome.{outcome};
 ghost use Rattle.row_format.specs.Table.{tableNumber};
-ghost use Rattle.sheet_listing.specs.Line.{answerLine, lastLine};
+ghost use Rattle.sheet_format.specs.Reading.{recordJudged};
+ghost use Rattle.sheet_format.specs.Sheet.Laws.{recordHere};
+ghost use Rattle.sheet_listing.specs.Line.{answerLine, recordLine, lastLine};
 ghost use Rattle.sheet_listing.specs.Listed.{lineGiven, left, lineListed, recordListed};
 
 // What listing a record answers: what judging it answers, and the bytes of its line. A refusal, 5 among them, has no line.
@@ -26,7 +30,8 @@ pub struct Listed {
 // The record at the front of `sheet` is judged, and its line put at the front of `out`; 5 where it does not fit. `table` is
 // the bytes of the sheet's table, `state` what the sheet holds so far. A line has at most 128 bytes.
 pub fn list_record(table: &[u8], sheet: &[u8], state: SheetState, out: &mut [u8]) -> Listed
-    ensures { λ r. ⌜ left r (now (out .exit)) ≡ recordListed (now (table .entry)) (now (sheet .entry)) state (now (out .entry)) ⌝ }
+    ensures listed { λ r. ⌜ left r (now (out .exit)) ≡ recordListed (now (table .entry)) (now (sheet .entry)) state (now (out .entry)) ⌝ }
+    ensures most { λ r. ⌜ (recordJudged (now (table .entry)) (now (sheet .entry)) state .number ≡ 0 → length (recordLine (recordHere (now (table .entry)) (now (sheet .entry)) state)) ≤ 128) ⌝ }
 {
     let read = judge_record(table, sheet, state);
     let number = read.number;
@@ -41,7 +46,8 @@ pub fn list_record(table: &[u8], sheet: &[u8], state: SheetState, out: &mut [u8]
 // The same of a record that is accepted.
 fn list_accepted(read: RecordRead, body: &[u8], state: SheetState, out: &mut [u8]) -> Listed
     requires { ⌜ (read .kind ≡ 1 → tableNumber (now body) ≡ 0) ⌝ }
-    ensures { λ r. ⌜ left r (now (out .exit)) ≡ lineListed (answerLine read (now (body .entry))) read state (now (out .entry)) ⌝ }
+    ensures listed { λ r. ⌜ left r (now (out .exit)) ≡ lineListed (answerLine read (now (body .entry))) read state (now (out .entry)) ⌝ }
+    ensures most { λ r. ⌜ length (answerLine read (now (body .entry))) ≤ 128 ⌝ }
 {
     let mut text = [0u8; 128];
     let n = put_record_line(&mut text, read, body);
@@ -60,7 +66,8 @@ fn list_accepted(read: RecordRead, body: &[u8], state: SheetState, out: &mut [u8
 // The last line of a listing: `done rows N` where the number is 0, else `refused N at record K`, where K is the index. It is
 // put at the front of `out`; 5 where it does not fit.
 pub fn list_end(number: u32, index: u64, rows: u64, out: &mut [u8]) -> Answer
-    ensures { λ r. ⌜ outcome r (now (out .exit)) ≡ lineGiven (lastLine number index rows) (now (out .entry)) ⌝ }
+    ensures given { λ r. ⌜ outcome r (now (out .exit)) ≡ lineGiven (lastLine number index rows) (now (out .entry)) ⌝ }
+    ensures most { λ r. ⌜ length (lastLine number index rows) ≤ 128 ⌝ }
 {
     let mut text = [0u8; 128];
     let n = put_last_line(&mut text, number, index, rows);

@@ -1,7 +1,8 @@
 -- `list_sheet::list_sheet` is safe and ends. What is carried on is within the memory, which keeps its lengths, and there are no more
 -- rows than records; the measure is what is left of a u64 for them. Assumes nothing.
 use Prim.Native.Nat.{_-_, _≤_}
-use mathlib.Core.Path.{_≡_}
+use native.Mathlib.Omega.{arith}
+use mathlib.Core.Path.{_≡_, refl}
 use lib.ListN.{length}
 use borrow.Author.Needs.{needs}
 use Rattle.list_sheet.specs.Sound.{Sound}
@@ -20,13 +21,17 @@ begin-requires : tie.Need-begin-requires Inv-loop μ-loop
 begin-requires c κs = search needs
 
 loop-holds : tie.Need-loop-holds Inv-loop μ-loop
-loop-holds c = search needs
+loop-holds c =
+    let begun = c .begin .ensures in
+    (refl, refl, refl, omega arith, record { kept = rw begun (omega arith); filled = rw begun (omega arith); rows = rw begun (omega arith) })
 
 take-turn-requires : tie.Need-take-turn-requires Inv-loop μ-loop
 take-turn-requires c κs = search needs
 
 finish-requires : tie.Need-finish-requires Inv-loop μ-loop
-finish-requires c κs = search needs
+finish-requires c κs =
+    let ended = c .before in
+    ended .before .before .before .before .before .before .before .take-turn .ensures .1 (ended .if1 .taken)
 
 same-length : tie.Need-same-length Inv-loop μ-loop
 same-length c = search needs

@@ -1,11 +1,11 @@
 -- The laws of a sheet's records: the equations that a reader expects, without the bound on their count. Assumes nothing.
-use Prim.Native.Nat.{ℕ, zero, suc, _≤_}
+use Prim.Native.Nat.{ℕ, zero, suc, _+_, _-_, _≤_}
 use native.Mathlib.Omega.{arith}
 use mathlib.Core.Path.{_≡_, refl, sym, ap, _∙_}
 use mathlib.Core.List.{List, [], _∷_}
 use lib.ListN.{length, take, drop, length-drop}
 use Rattle.sheet_format.specs.declared.SheetState.{SheetState}
-use Rattle.sheet_format.specs.Record.{bodyOf, kindOf, nothing}
+use Rattle.sheet_format.specs.Record.{lengthField, bodyOf, kindOf, nothing}
 use Rattle.sheet_format.specs.Record.Laws.{recordNumber-read}
 use Rattle.sheet_format.specs.Reading.{tableAfter, recordHeld, recordJudged}
 use Rattle.sheet_format.specs.Reading.Laws.{recordJudged-number, recordJudged-done}
@@ -19,6 +19,15 @@ judged-length tb r st ok =
     let e = sym (recordJudged-number tb r st) ∙ ok in
     let size = recordNumber-read nothing tb r st e .size in
     rw (recordJudged-done tb r st e) (omega (arith, size .least, size .most, size .there))
+
+-- and its body stands behind length and kind
+pub judged-body : (tb r : List ℕ) (st : SheetState) → recordJudged tb r st .number ≡ 0
+    → take (recordJudged tb r st .length - 6) (drop 6 r) ≡ bodyOf r
+unfolding recordHeld
+judged-body tb r st ok =
+    let e = sym (recordJudged-number tb r st) ∙ ok in
+    let size : 4 + lengthField r - 6 ≡ lengthField r - 2 = omega arith in
+    rw (recordJudged-done tb r st e) (ap (λ (k : ℕ). take k (drop 6 r)) size)
 
 -- at the end, refused, or accepted
 pub fromRecord-cases : (P : SheetRead → Type 0) (r : List ℕ) (e : ℕ) (x : SheetRecord) (rest : SheetRead)

@@ -45,10 +45,12 @@ returns c =
     let at-give = c .before .before .before .before in
     let at-put-record-line = at-give .before .before .before .before in
     let at-start = at-put-record-line .before .before .before .before in
-    rw (c .refused .ensures)
-    (listed-full (answerLine (at-start .args .read) (at-start .args .body .now)) (at-start .args .read) (at-start .args .state)
-    (at-start .args .out .now) (rw (put-front (at-put-record-line .put-record-line .ensures .0)) at (at-give .give .ensures))
-    (c .before .if1 .taken))
+    let put = at-put-record-line .put-record-line .ensures in (
+      rw (c .refused .ensures)
+          (listed-full (answerLine (at-start .args .read) (at-start .args .body .now)) (at-start .args .read) (at-start .args .state)
+          (at-start .args .out .now) (rw (put-front (put .0)) at (at-give .give .ensures)) (c .before .if1 .taken)),
+      omega (arith, put .0 .next, put .1),
+    )
 
 same-length-2 : tie.Need-same-length-2
 same-length-2 c = search needs
@@ -58,9 +60,11 @@ returns-2 c =
     let at-give = c .before .before .before in
     let at-put-record-line = at-give .before .before .before .before in
     let at-start = at-put-record-line .before .before .before .before in
-    listed-line (answerLine (at-start .args .read) (at-start .args .body .now)) (at-start .args .read) (at-start .args .state)
-    (at-start .args .out .now) (rw (put-front (at-put-record-line .put-record-line .ensures .0)) at (at-give .give .ensures))
-    (c .if1 .left)
+    let put = at-put-record-line .put-record-line .ensures in (
+      listed-line (answerLine (at-start .args .read) (at-start .args .body .now)) (at-start .args .read) (at-start .args .state)
+          (at-start .args .out .now) (rw (put-front (put .0)) at (at-give .give .ensures)) (c .if1 .left),
+      omega (arith, put .0 .next, put .1),
+    )
 
 pub list-accepted-spec : {M : Type 1} → statement M
 list-accepted-spec =

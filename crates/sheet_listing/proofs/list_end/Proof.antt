@@ -39,7 +39,8 @@ returns : tie.Need-returns
 returns c =
     let at-give = c .before .before in
     let at-put-last-line = at-give .before .before .before .before in
-    rw (put-front (at-put-last-line .put-last-line .ensures .0)) at (at-give .give .ensures)
+    let put = at-put-last-line .put-last-line .ensures in
+    (rw (put-front (put .0)) at (at-give .give .ensures), omega (arith, put .0 .next, put .1))
 
 pub list-end-spec : {M : Type 1} → statement M
 list-end-spec =

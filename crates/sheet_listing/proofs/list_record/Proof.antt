@@ -1,6 +1,6 @@
 -- `sheet_listing::list_record`: the record is refused, or its body is there and is listed. Assumes nothing.
-use mathlib.Core.Path.{_∙_}
-use Rattle.sheet_listing.specs.Listed.Laws.{listed-refused, body-start, body-there, body-table, listed-accepted}
+use mathlib.Core.Path.{ap, _∙_}
+use Rattle.sheet_listing.specs.Listed.Laws.{listed-refused, body-start, body-there, body-table, line-is, listed-accepted}
 use borrow.Author.Needs.{needs}
 use Rattle.sheet_listing.proofs.list_record.Statement.{statement}
 use Rattle.sheet_listing.proofs.list_record.Tie as tie
@@ -11,8 +11,11 @@ judge-record-requires c κs = search needs
 returns : tie.Need-returns
 returns c =
     let at-start = c .before .before .before .before .before in
-    listed-refused (at-start .args .table .now) (at-start .args .sheet .now) (at-start .args .state) (at-start .args .out .now) _
-    (c .before .judge-record .ensures) (c .if1 .taken)
+    let judged = c .before .judge-record .ensures in (
+      listed-refused (at-start .args .table .now) (at-start .args .sheet .now) (at-start .args .state) (at-start .args .out .now) _
+          judged (c .if1 .taken),
+      λ ok. absurd (c .if1 .taken (ap (λ a. a .number) judged ∙ ok)),
+    )
 
 cast-end : tie.Need-cast-end
 cast-end c = search needs
@@ -55,9 +58,14 @@ returns-2 c =
     let at-if1 = at-list-accepted .before .before .before .before in
     let at-judge-record = at-if1 .before in
     let at-start = at-judge-record .before .before .before .before in
-    at-list-accepted .list-accepted .ensures
-    ∙ listed-accepted (at-start .args .table .now) (at-start .args .sheet .now) (at-start .args .state) (at-start .args .out .now)
-    _ (at-judge-record .judge-record .ensures) (at-if1 .if1 .left)
+    let args = at-start .args in
+    let judged = at-judge-record .judge-record .ensures in
+    let listed = at-list-accepted .list-accepted .ensures in
+    let line = line-is (args .table .now) (args .sheet .now) (args .state) (args .out .now) _ judged (at-if1 .if1 .left) in (
+      listed .0
+          ∙ listed-accepted (args .table .now) (args .sheet .now) (args .state) (args .out .now) _ judged (at-if1 .if1 .left),
+      λ ok. rw line at (listed .1),
+    )
 
 pub list-record-spec : {M : Type 1} → statement M
 list-record-spec =

@@ -92,11 +92,27 @@ module _ (tb r : List ℕ) (st : SheetState) (m : List ℕ) (a : RecordRead) (ju
     pub body-table : a .kind ≡ 1 → tableNumber (take (a .length - 6) (drop 6 r)) ≡ 0
     body-table e = rw (← drop-take 6 (a .length) r, judged) (kept-table tb r st same-number (sym (ap (λ (x : RecordRead). x .kind) judged) ∙ e))
 
+    -- the line of the answer is the record's
+    pub line-is : answerLine a (take (a .length - 6) (drop 6 r)) ≡ recordLine (recordHere tb r st)
+    line-is = rw (← drop-take 6 (a .length) r, judged)
+
     pub listed-accepted : lineListed (answerLine a (take (a .length - 6) (drop 6 r))) a st m ≡ recordListed tb r st m
     unfolding recordListed
     listed-accepted = rw (← drop-take 6 (a .length) r, judged, same-number)
 
 -- ---- what a caller learns of a listed record
+unless-fits : (n : ℕ) (st : SheetState) (a : RecordRead) (l m : List ℕ) → n ≡ 0 → length l ≤ length m
+    → listedUnless (n orElse noRoom l m) st a l m ≡ left (record { read = a; count = length l }) (l ++ drop (length l) m)
+unless-fits n st a l m ok fits = rw (ok, le-ltb (length m) (length l) fits)
+
+module _ (tb r : List ℕ) (st : SheetState) (m : List ℕ) where
+  -- where its line fits, an accepted record is listed
+  pub recordListed-fits : recordJudged tb r st .number ≡ 0 → length (recordLine (recordHere tb r st)) ≤ length m
+      → recordListed tb r st m
+      ≡ (let l = recordLine (recordHere tb r st) in left (record { read = recordJudged tb r st; count = length l }) (l ++ drop (length l) m))
+  unfolding recordListed
+  recordListed-fits = unless-fits (recordJudged tb r st .number) st (recordJudged tb r st) (recordLine (recordHere tb r st)) m
+
 room-there : (n : ℕ) (l m : List ℕ) → n orElse noRoom l m ≡ 0 → length l ≤ length m
 room-there zero l m e = by-test (ltb (length m) (length l))
     (λ t. let n : 5 ≡ 0 = rw t at e in absurd (omega arith))

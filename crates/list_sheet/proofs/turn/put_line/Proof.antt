@@ -1,11 +1,9 @@
--- `list_sheet::turn::put_line`: the line is within the block, and an accepted record's bytes are there. Assumes nothing.
-use native.Mathlib.Omega.{arith}
-use mathlib.Core.Path.{_≡_, sym}
+-- `list_sheet::turn::put_line` meets its contract: the record's line is put behind the text that is not written yet. Assumes
+-- nothing.
+use mathlib.Core.Path.{sym}
 use lib.Seq.{length-take-le}
-use Prim.Native.Nat.{_-_}
-use lib.ListN.{length, take, drop, length-drop}
-use Rattle.sheet_listing.specs.Listed.Laws.{listed-count, listed-length}
 use borrow.Author.Needs.{needs}
+use Rattle.list_sheet.specs.Step.Laws.{put-line}
 use Rattle.list_sheet.proofs.turn.put_line.Statement.{statement}
 use Rattle.list_sheet.proofs.turn.put_line.Tie as tie
 
@@ -32,16 +30,9 @@ same-length c = search needs
 returns : tie.Need-returns
 returns c =
     let start = c .before .before .before .before .before .before .before .before .before in
-    let kept = take (start .args .at .kept) (start .args .table .now) in
-    let left = length (start .args .block .now) - start .args .at .filled in
-    let rest = drop (start .args .at .filled) (start .args .block .now) in
-    let size : length rest ≡ left = length-drop (start .args .at .filled) (start .args .block .now) in
-    let room = take left rest in
+    let args = start .args in
     let listed = c .before .before .list-record .ensures in
-    record {
-      line = omega (arith, start .pre .1, listed-count kept (start .args .bytes .now) (start .args .at .state) room listed, length-take-le left rest (omega arith));
-      bytes = listed-length kept (start .args .bytes .now) (start .args .at .state) room listed;
-    }
+    put-line (args .bytes .now) (args .at) (args .table .now) (args .block .now) (start .pre .1) (listed .0) (listed .1)
 
 pub put-line-spec : {M : Type 1} → statement M
 put-line-spec =

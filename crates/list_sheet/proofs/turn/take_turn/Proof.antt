@@ -19,9 +19,11 @@ returns : tie.Need-returns
 returns c =
     let at-make-room = c .before .before .before in
     let at-start = at-make-room .before .before .before .before .before in
-    rw (c .last .ensures)
-    (record
-    { kept = at-start .pre .1 .1 .1 .kept; filled = at-make-room .make-room .ensures; rows = omega (arith, at-start .pre .1 .1 .1 .rows) })
+    let room = at-make-room .make-room .ensures in
+    let sound = at-start .pre .1 .1 .1 .1 in (
+      rw (c .last .ensures) (record { kept = sound .kept; filled = omega (arith, room); rows = omega (arith, sound .rows) }),
+      λ e. rw (c .last .ensures) room,
+    )
 
 fill-requires : tie.Need-fill-requires
 fill-requires c κs = search needs
@@ -39,9 +41,11 @@ returns-2 : tie.Need-returns-2
 returns-2 c =
     let at-make-room = c .before .before .before .before .before .before .before .before in
     let at-start = at-make-room .before .before .before .before .before in
-    rw (c .last2 .ensures)
-    (record
-    { kept = at-start .pre .1 .1 .1 .kept; filled = at-make-room .make-room .ensures; rows = omega (arith, at-start .pre .1 .1 .1 .rows) })
+    let room = at-make-room .make-room .ensures in
+    let sound = at-start .pre .1 .1 .1 .1 in (
+      rw (c .last2 .ensures) (record { kept = sound .kept; filled = omega (arith, room); rows = omega (arith, sound .rows) }),
+      λ e. rw (c .last2 .ensures) room,
+    )
 
 number-at-end-requires : tie.Need-number-at-end-requires
 number-at-end-requires c κs = search needs
@@ -59,9 +63,11 @@ returns-3 : tie.Need-returns-3
 returns-3 c =
     let at-make-room = c .before .before .before .before .before .before .before .before .before .before in
     let at-start = at-make-room .before .before .before .before .before in
-    rw (c .last3 .ensures)
-    (record
-    { kept = at-start .pre .1 .1 .1 .kept; filled = at-make-room .make-room .ensures; rows = omega (arith, at-start .pre .1 .1 .1 .rows) })
+    let room = at-make-room .make-room .ensures in
+    let sound = at-start .pre .1 .1 .1 .1 in (
+      rw (c .last3 .ensures) (record { kept = sound .kept; filled = omega (arith, room); rows = omega (arith, sound .rows) }),
+      λ e. rw (c .last3 .ensures) room,
+    )
 
 slice-reshare-prefix-list-one : tie.Need-slice-reshare-prefix-list-one
 slice-reshare-prefix-list-one c = search needs
@@ -88,8 +94,14 @@ same-length-8 c = search needs
 
 returns-4 : tie.Need-returns-4
 returns-4 c =
-    let listed = c .before .before .before .before .list-one .ensures in
-    record { kept = listed .kept; filled = listed .filled; rows = omega (arith, listed .rows, c .before .before .before .before .before .before .before .before .before .before .before .before .before .before .before .before .before .before .before .before .before .pre .1 .1 .1 .rows) }
+    let at-list-one = c .before .before .before .before in
+    let at-make-room = at-list-one .before .before .before .before .before .before .before .before .before .before .before .before in
+    let at-start = at-make-room .before .before .before .before .before in
+    let listed = at-list-one .list-one .ensures in
+    let sound = at-start .pre .1 .1 .1 .1 in (
+      record { kept = listed .0 .kept; filled = listed .0 .filled; rows = omega (arith, listed .0 .rows, sound .rows) },
+      λ e. rw (listed .1 .0 e) (omega (arith, at-make-room .make-room .ensures, at-list-one .list-one .kept)),
+    )
 
 pub take-turn-spec : {M : Type 1} → statement M
 take-turn-spec =

@@ -1,0 +1,56 @@
+-- What a turn of the lister does with a record: its line joins the text that is not written yet, and what the sheet holds after
+-- it is carried on. sheet_listing's `listing-more`, `listing-refused` and `listing-end` say that such turns make the listing.
+-- Definitions only. Assumes nothing.
+use Prim.Native.Nat.{ℕ, _+_, _≤_}
+use mathlib.Core.Path.{_≡_}
+use mathlib.Core.Bool.{true, false}
+use mathlib.Core.List.{List, _++_}
+use lib.ListN.{length, take, drop}
+use Rattle.sheet_format.specs.declared.RecordRead.{RecordRead}
+use Rattle.sheet_format.specs.Record.{kindOf, bodyOf}
+use Rattle.sheet_format.specs.Reading.{tableAfter, recordJudged}
+use Rattle.sheet_format.specs.Sheet.Laws.{recordHere}
+use Rattle.sheet_listing.specs.declared.Listed.{Listed}
+use Rattle.sheet_listing.specs.Line.{recordLine}
+use Rattle.sheet_listing.specs.Listing.{rowsOf}
+use Rattle.list_sheet.specs.declared.turn.Progress.{Progress}
+use Rattle.list_sheet.specs.declared.turn.Turn.{Turn}
+pub mod Laws
+
+-- the bytes of the sheet's table, and the text that is not written yet
+abbrev pub keptTable : Progress → List ℕ → List ℕ
+keptTable p table = take (p .kept) table
+
+abbrev pub pending : Progress → List ℕ → List ℕ
+pending p block = take (p .filled) block
+
+-- the record r under what is carried
+abbrev pub judgedAt : Progress → List ℕ → List ℕ → RecordRead
+judgedAt p table r = recordJudged (keptTable p table) r (p .state)
+
+abbrev pub lineAt : Progress → List ℕ → List ℕ → List ℕ
+lineAt p table r = recordLine (recordHere (keptTable p table) r (p .state))
+
+-- r was judged, and its line put into the block
+pub record Put (r : List ℕ) (p : Progress) (table block : List ℕ) (x : Listed) (block′ : List ℕ) : Type 0 where
+  pub read : x .read ≡ judgedAt p table r
+  pub line : judgedAt p table r .number ≡ 0
+      → (p .filled + x .count ≤ length block) × (take (p .filled + x .count) block′ ≡ pending p block ++ lineAt p table r)
+  pub nothing : (judgedAt p table r .number ≡ 0 → ⊥) → block′ ≡ block
+
+-- after an accepted record
+pub record Advanced (r : List ℕ) (p : Progress) (table block : List ℕ) (p′ : Progress) (table′ block′ : List ℕ) : Type 0 where
+  pub state : p′ .state ≡ judgedAt p table r .state
+  pub kept : keptTable p′ table′ ≡ tableAfter (kindOf (judgedAt p table r .kind)) (keptTable p table) (bodyOf r)
+  pub text : pending p′ block′ ≡ pending p block ++ lineAt p table r
+  pub rows : p′ .rows ≡ p .rows + rowsOf (kindOf (judgedAt p table r .kind))
+
+-- at a refused one: the last line's number, and all as it was
+pub record Stopped (r : List ℕ) (p : Progress) (table block : List ℕ) (t : Turn) (block′ : List ℕ) : Type 0 where
+  pub number : t .number ≡ judgedAt p table r .number
+  pub next : t .next ≡ p
+  pub text : pending p block′ ≡ pending p block
+
+pub record Turned (r : List ℕ) (p : Progress) (table block : List ℕ) (t : Turn) (table′ block′ : List ℕ) : Type 0 where
+  pub accepted : judgedAt p table r .number ≡ 0 → (t .ended ≡ false) × Advanced r p table block (t .next) table′ block′
+  pub refused : (judgedAt p table r .number ≡ 0 → ⊥) → (t .ended ≡ true) × Stopped r p table block t block′

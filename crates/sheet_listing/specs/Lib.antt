@@ -1,3 +1,4 @@
 pub mod Line
 pub mod Listed
 pub mod Listing
+pub mod Turns

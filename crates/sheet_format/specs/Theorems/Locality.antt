@@ -11,8 +11,9 @@ use borrow.Author.Tests.{le-ltb, lt-ltb}
 use Rattle.bitstream.specs.Bits.{numberOf}
 use Rattle.sheet_format.specs.declared.SheetState.{SheetState}
 use Rattle.sheet_format.specs.Record.{lengthField, kindField, bodyOf, Lent, nothing, lent, lengthNumber, recordNumber, recordSpan}
-use Rattle.sheet_format.specs.Record.Laws.{drop-take, RightLength, lengthNumber-right, lengthNumber-wrong}
+use Rattle.sheet_format.specs.Record.Laws.{drop-take, RightLength, lengthNumber-right, lengthNumber-wrong, recordNumber-read}
 use Rattle.sheet_format.specs.Reading.{recordHeld, recordContent, refusedRecord, recordJudged, recordRead, readRefused}
+use Rattle.sheet_format.specs.Reading.Laws.{recordJudged-number, recordJudged-done}
 
 -- a field that lies in front
 field-take : (at n k : ℕ) (l : List ℕ) → at + n ≤ k → take n (drop at (take k l)) ≡ take n (drop at l)
@@ -135,3 +136,19 @@ module _ (r : List ℕ) where
       (λ most. inside (omega arith) (omega arith) h)))
       (λ h. rw (take-all (recordSpan r) r (omega arith))
       (fields (record { size = refl; whole = refl; kind = refl; body = refl })))
+
+  -- of an accepted record they have its body, and all its bytes
+  module _ (tb : List ℕ) (st : SheetState) (ok : recordJudged tb r st .number ≡ 0) where
+    number : recordNumber nothing tb r st ≡ 0
+    number = sym (recordJudged-number tb r st) ∙ ok
+
+    right : RightLength r
+    right = recordNumber-read nothing tb r st number .size
+
+    pub span-whole : recordSpan r ≡ recordJudged tb r st .length
+    unfolding recordHeld
+    span-whole = recordSpan-inside r (right .least) (right .most) ∙ rw (recordJudged-done tb r st number)
+
+    pub span-body : bodyOf (take (recordSpan r) r) ≡ bodyOf r
+    span-body =
+        rw (recordSpan-inside r (right .least) (right .most), sym (append-nil (take (4 + lengthField r) r))) (same-body r [] right)

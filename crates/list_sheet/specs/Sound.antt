@@ -1,9 +1,7 @@
 -- What holds from record to record, so that no index and no sum runs over. Assumes nothing.
-use Prim.Native.Nat.{ℕ, _+_, _≤_}
-use mathlib.Core.Path.{_≡_}
+use Prim.Native.Nat.{ℕ, _≤_}
 use mathlib.Core.List.{List}
 use lib.ListN.{length}
-use Rattle.sheet_listing.specs.declared.Listed.{Listed}
 use Rattle.list_sheet.specs.declared.turn.Progress.{Progress}
 
 -- what is carried on is within the memory, and there are no more rows than records

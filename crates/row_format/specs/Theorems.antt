@@ -20,7 +20,7 @@ use Rattle.row_format.specs.Table.Laws.{Accepted, accepted, verdict-acce
 use Rattle.row_format.specs.Row.{Item, difference, escape, State, fresh, previous, differenceTo, byDifference, itemFor, pixelOf, itemBits, itemsFor, pixelsOf, bits, rowBits}
 use Rattle.row_format.specs.Row.Laws.{itemFor-escape, length-pixelsOf}
 use Rattle.row_format.specs.Reading.{inside, readItem, done, readItems, stray, anyNeedless}
-use Rattle.row_format.specs.Calls.{packed, unpacked, bitsUsed, room}
+use Rattle.row_format.specs.Calls.{packed, unpackNumber, unpacked, usedByRun, bitsUsed, room}
 use Rattle.row_format.specs.Calls.Laws.{Packable, packable, packed-number, packed-done, packed-front, rowBytes}
 use Bounds.{bitsOfReading, readItem-uses, bitsUsed-most, length-rowBits}
 use RoundTrip.{pixelsOf-itemsFor, unpacked-rowBytes, unpacked-packed}
@@ -32,7 +32,7 @@ use Standing.{readItems-stands}
 use OwnWords.{own-words, own-words-packed, any-pixelsOf}
 use Memory.{Kept, Within, packed-kept, packed-within, unpacked-kept, unpacked-within}
 use Numbers.{packNumber-in, unpacked-in}
-use Done.{unpacked-accepts, unpacked-count, bitsUsed-count}
+use Done.{unpacked-accepts, unpacked-count, bitsUsed-count, bitsUsed-none, bitsUsed-run}
 pub mod Search
 pub mod Bounds
 pub mod Items
@@ -195,6 +195,14 @@ room-enough tb pb m ok h = packed-number tb pb m ∙ packNumber-room tb (halvesO
 -- "Whatever stands in the words, unpacking n pixels never uses more than n times M bits, done or refused"; under any table
 pub reading-bits : (tb wb : List ℕ) (n : ℕ) (m : List ℕ) → bitsUsed tb wb n m ≤ n * maxItemBits (wordsOf tb)
 reading-bits = bitsUsed-most
+
+-- "Refused before its first item it uses none, and 10 adds none": else it uses the bits of its run, whether 10 is given or not
+pub reading-bits-none : (tb wb : List ℕ) (n : ℕ) (m : List ℕ) → (unpackNumber tb n (length m / 2) ≡ 0 → ⊥) → bitsUsed tb wb n m ≡ 0
+reading-bits-none = bitsUsed-none
+
+pub reading-bits-run : (tb wb : List ℕ) (n : ℕ) (m : List ℕ) → unpackNumber tb n (length m / 2) ≡ 0
+    → bitsUsed tb wb n m ≡ usedByRun (readItems (wordsOf tb) n (stream wb))
+reading-bits-run = bitsUsed-run
 
 -- "Its items, a refused one too, use at most M bits each"
 pub item-bits : (t : List ℕ) (s : State) (r : List ℕ) → bitsOfReading (readItem t s r) ≤ maxItemBits t

@@ -1,5 +1,5 @@
 -- Worked readings that pin what the theorems leave to the definitions: which number a faulty item gets, and the bits that it
--- uses. The table has the strings 0 (step 0), 10 (raw), 110 (bad pixel) and 1110 (bad bias); 1111 is an unused branch.
+-- uses. The tables have the strings 0 (one step), 10 (raw), 110 (bad pixel) and 1110 (bad bias); 1111 is an unused branch.
 -- Assumes nothing.
 use Prim.Native.Nat.{ℕ}
 use mathlib.Core.Path.{_≡_, refl}
@@ -10,19 +10,23 @@ use Rattle.row_format.specs.Table.{codeword, codewords, codewordAt, verdict, wr
 use Rattle.row_format.specs.Row.{difference, badPixel, badBias, escape}
 use Rattle.row_format.specs.Reading.{Run, done, stop, find, unmatched, rawHeight, matched, readItem, readBy, readItems}
 
-abbrev small : List ℕ
-small = 7 ∷ 4093 ∷ 1 ∷ 34 ∷ 99 ∷ 228 ∷ 1 ∷ []
+-- the step 0, and the step -1
+abbrev level : List ℕ
+level = 7 ∷ 4093 ∷ 1 ∷ 34 ∷ 99 ∷ 228 ∷ 1 ∷ []
 
-pub small-accepted : verdict small ≡ 0
+abbrev falling : List ℕ
+falling = 7 ∷ 4092 ∷ 1 ∷ 34 ∷ 99 ∷ 228 ∷ 1 ∷ []
+
+pub both-accepted : (verdict level ≡ 0) × (verdict falling ≡ 0)
 unfolding digits begins any codeword codewords verdict wrongSize wrongWord wrongCodeword clash
-small-accepted = refl
+both-accepted = (refl, refl)
 
--- a reading of n items from some bits
+-- a reading of n items from some bits, under a table
 pub data Case : Type 0 where
-  reads : ℕ → List ℕ → Run → Case
+  reads : List ℕ → ℕ → List ℕ → Run → Case
 
 abbrev pub Holds : Case → Type 0
-Holds (reads n b r) = readItems small n b ≡ r
+Holds (reads t n b r) = readItems t n b ≡ r
 
 abbrev pub Each : List Case → Type 0
 Each [] = Unit {0}
@@ -30,19 +34,21 @@ Each (c ∷ cs) = Holds c × Each cs
 
 abbrev pub cases : List Case
 cases =
-    reads 4 (0 ∷ 1 ∷ 1 ∷ 0 ∷ 1 ∷ 1 ∷ 1 ∷ 0 ∷ 0 ∷ 1 ∷ []) (done (difference 4093 ∷ badPixel ∷ badBias ∷ difference 4093 ∷ []) 9)
+    reads level 4 (0 ∷ 1 ∷ 1 ∷ 0 ∷ 1 ∷ 1 ∷ 1 ∷ 0 ∷ 0 ∷ 1 ∷ []) (done (difference 4093 ∷ badPixel ∷ badBias ∷ difference 4093 ∷ []) 9)
     -- 6: nothing is left; the rest is a proper beginning of a string; too few bits for the raw height: all bits left
-    ∷ reads 2 (0 ∷ []) (stop 6 1 1)
-    ∷ reads 1 (1 ∷ 1 ∷ 1 ∷ []) (stop 6 0 3)
-    ∷ reads 2 (0 ∷ 1 ∷ 0 ∷ 1 ∷ 1 ∷ []) (stop 6 1 5)
+    ∷ reads level 2 (0 ∷ []) (stop 6 1 1)
+    ∷ reads level 1 (1 ∷ 1 ∷ 1 ∷ []) (stop 6 0 3)
+    ∷ reads level 2 (0 ∷ 1 ∷ 0 ∷ 1 ∷ 1 ∷ []) (stop 6 1 5)
     -- 7: no string begins 1111, and three of its bits begin one: four bits
-    ∷ reads 1 (1 ∷ 1 ∷ 1 ∷ 1 ∷ 0 ∷ 0 ∷ []) (stop 7 0 4)
+    ∷ reads level 1 (1 ∷ 1 ∷ 1 ∷ 1 ∷ 0 ∷ 0 ∷ []) (stop 7 0 4)
+    -- 8: the step leads from 0 to -1: its item's bits, after a bad pixel's
+    ∷ reads falling 2 (1 ∷ 1 ∷ 0 ∷ 0 ∷ 1 ∷ []) (stop 8 3 4)
     -- 9: a raw height of 4094: its item's bits
-    ∷ reads 1 (1 ∷ 0 ∷ 0 ∷ 1 ∷ 1 ∷ 1 ∷ 1 ∷ 1 ∷ 1 ∷ 1 ∷ 1 ∷ 1 ∷ 1 ∷ 1 ∷ 0 ∷ []) (stop 9 0 14)
+    ∷ reads level 1 (1 ∷ 0 ∷ 0 ∷ 1 ∷ 1 ∷ 1 ∷ 1 ∷ 1 ∷ 1 ∷ 1 ∷ 1 ∷ 1 ∷ 1 ∷ 1 ∷ 0 ∷ []) (stop 9 0 14)
     -- a raw height of 1
-    ∷ reads 1 (1 ∷ 0 ∷ 1 ∷ 0 ∷ 0 ∷ 0 ∷ 0 ∷ 0 ∷ 0 ∷ 0 ∷ 0 ∷ 0 ∷ 0 ∷ 0 ∷ 0 ∷ []) (done (escape 1 ∷ []) 14)
+    ∷ reads level 1 (1 ∷ 0 ∷ 1 ∷ 0 ∷ 0 ∷ 0 ∷ 0 ∷ 0 ∷ 0 ∷ 0 ∷ 0 ∷ 0 ∷ 0 ∷ 0 ∷ 0 ∷ []) (done (escape 1 ∷ []) 14)
     ∷ []
 
 pub cases-hold : Each cases
 unfolding digits numOf begins any least codeword codewords codewordAt find unmatched rawHeight matched readItem readBy readItems
-cases-hold = (refl, (refl, (refl, (refl, (refl, (refl, (refl, tt)))))))
+cases-hold = (refl, (refl, (refl, (refl, (refl, (refl, (refl, (refl, tt))))))))

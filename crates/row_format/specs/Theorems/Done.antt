@@ -10,7 +10,7 @@ use Rattle.answer.specs.Outcome.{wrote, unless}
 use Rattle.row_format.specs.Lists.Laws.{by-test}
 use Rattle.row_format.specs.Row.{Item, fresh, pixelsOf, bits}
 use Rattle.row_format.specs.Reading.{Run, done, stop, readItems, stray}
-use Rattle.row_format.specs.Calls.{afterRun, unpackNumber, unpacked, bitsUsed}
+use Rattle.row_format.specs.Calls.{afterRun, unpackNumber, unpacked, bitsUsed, usedByRun, usedUnless}
 use Rattle.row_format.specs.Calls.Laws.{Unpackable, unpackable, unpackNumber-unpackable}
 use Rattle.bitstream.specs.Bits.Laws.{below-flat}
 use Rattle.row_format.specs.Table.Laws.{accepted, tableNumber-verdict}
@@ -64,3 +64,17 @@ module _ (tb wb : List ℕ) (n : ℕ) (m : List ℕ) (got : Accepts tb wb n m) w
   pub bitsUsed-count : bitsUsed tb wb n m ≡ unpacked tb wb n m .answer .count
   unfolding bitsUsed
   bitsUsed-count = rw (got .left, unpackNumber-unpackable tb n (length m / 2) (got .given), got .read)
+
+-- ---- the bits that a reading uses
+usedUnless-refused : (e u : ℕ) → (e ≡ 0 → ⊥) → usedUnless e u ≡ 0
+usedUnless-refused zero u refused = absurd (refused refl)
+usedUnless-refused (suc e) u refused = refl
+
+module _ (tb wb : List ℕ) (n : ℕ) (m : List ℕ) where
+  pub bitsUsed-none : (unpackNumber tb n (length m / 2) ≡ 0 → ⊥) → bitsUsed tb wb n m ≡ 0
+  unfolding bitsUsed
+  bitsUsed-none refused = usedUnless-refused (unpackNumber tb n (length m / 2)) (usedByRun (readItems (wordsOf tb) n (stream wb))) refused
+
+  pub bitsUsed-run : unpackNumber tb n (length m / 2) ≡ 0 → bitsUsed tb wb n m ≡ usedByRun (readItems (wordsOf tb) n (stream wb))
+  unfolding bitsUsed
+  bitsUsed-run passed = rw passed

@@ -1,6 +1,5 @@
 -- `list_sheet::output::put_last` meets its contract: the last line stands behind the text that is not written yet. Assumes
 -- nothing.
-use native.Mathlib.Omega.{arith}
 use borrow.Author.Needs.{needs}
 use Rattle.list_sheet.specs.Step.Laws.{put-last}
 use Rattle.list_sheet.proofs.output.put_last.Statement.{statement}

@@ -1,7 +1,7 @@
 -- `list_sheet::turn::keep_table` meets its contract: a table is put to the front of the memory, and else what was kept stays.
 -- Assumes nothing.
 use native.Mathlib.Omega.{arith}
-use mathlib.Core.Path.{sym, _∙_}
+use mathlib.Core.Path.{sym}
 use borrow.Author.Needs.{needs}
 use Rattle.text.specs.Put.Laws.{put-front}
 use Rattle.list_sheet.specs.Step.Laws.{table-kept}

@@ -59,6 +59,12 @@ impl Lent {
         Lent::guarded(random, length, 0)
     }
 
+    /// Between guards, for an answer of C's: at a multiple of 8.
+    pub fn aligned(random: &mut Random, length: usize) -> Lent {
+        // The whole begins at a multiple of 16, as all memory that is asked for.
+        Lent { whole: random.bytes(length + 2 * GUARD), lent: GUARD..GUARD + length }
+    }
+
     fn guarded(random: &mut Random, length: usize, after: usize) -> Lent {
         let start = GUARD + random.below(8);
         Lent { whole: random.bytes(start + length + after), lent: start..start + length }

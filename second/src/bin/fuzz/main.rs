@@ -10,6 +10,7 @@
 //! and a sheet, has a seed of its own, which is told now and then and in every
 //! report: begun with it, the program comes to the case at once.
 
+mod items;
 mod records;
 mod rows;
 mod scene;
@@ -38,8 +39,13 @@ fn main() -> ExitCode {
     if let Err(what) = result {
         return report("fuzz", &what);
     }
-    for missed in tally.missed() {
-        println!("never reached: {missed}");
+    let missed = tally.missed_of_all();
+    if !missed.is_empty() {
+        println!(
+            "FAILED: never reached, for want of time or by the library: {}",
+            missed.join(", ")
+        );
+        return ExitCode::FAILURE;
     }
     println!("no difference in {} calls, {:.0?}", tally.calls(), start.elapsed());
     ExitCode::SUCCESS
@@ -75,7 +81,7 @@ fn fuzz(first: u64, end: Instant, tally: &mut Tally) -> Outcome<()> {
 }
 
 fn one_call(random: &mut Random, scene: &Scene, tally: &mut Tally) -> Outcome<()> {
-    match random.below(16) {
+    match random.below(18) {
         0 => rows::check(random, scene, tally),
         1 => rows::plain_table(random, tally),
         2..=3 => rows::pack(random, scene, tally),
@@ -84,6 +90,7 @@ fn one_call(random: &mut Random, scene: &Scene, tally: &mut Tally) -> Outcome<()
         7 => values::read(random, scene, tally),
         8 => values::write(random, tally),
         9..=12 => records::read(random, scene, tally),
+        13..=14 => items::read(random, scene, tally),
         _ => records::write(random, scene, tally),
     }
 }

@@ -26,8 +26,8 @@ pub fn read(random: &mut Random, scene: &Scene, tally: &mut Tally) -> Outcome<()
     let place = some(random, tally, items)?;
     let place = odd_place(random, place);
     let lent = Items::lent(random);
-    if place.opening == DONE && table.codec().is_err() {
-        return items.next_unopened(tally, place, &lent);
+    if table.codec().is_err() && random.one_in(2) {
+        return items.next_unopened(tally, ReaderPlace { opening: DONE, ..place }, &lent);
     }
     items.next(tally, place, &lent).map(|_| ())
 }
@@ -57,6 +57,7 @@ fn odd_place(random: &mut Random, place: ReaderPlace) -> ReaderPlace {
         4 => ReaderPlace { count: random.pick(&[4095, 4096, 4097]), ..place },
         5 => ReaderPlace { previous: any, ..place },
         6 => ReaderPlace { begun: any, ..place },
-        _ => ReaderPlace { opening: random.below(4) as u32, ..place },
+        // Not 0 where the table is refused: the papers leave that free.
+        _ => ReaderPlace { opening: random.pick(&[place.opening, 1, 2, 3]), ..place },
     }
 }

@@ -43,7 +43,7 @@ fuzz:
 	@tests/sanitized
 	@target/sanitized/second/release/fuzz 600
 	@tests/second build
-	@$(SECOND)/fuzz 120
+	@$(SECOND)/fuzz 120 5
 
 samples: $(ARCHIVE)
 	$(CC) $(CFLAGS) -Iinclude -o target/make_samples samples/make_samples.c $(ARCHIVE)

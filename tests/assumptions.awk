@@ -10,7 +10,8 @@ $2 == "=" && $3 ~ /^(add|sub|mul)$/ && $4 ~ /^n[us]w$/ {
     pair = "{ " type ", i1 }"
     for (f = 4; $f ~ /^n[us]w$/; f++) {
         if (f > 4) { print "two assumptions of one sum: " $0 > "/dev/stderr"; exit 1 }
-        printf "  %s.wide = call %s @llvm.%s%s.with.overflow.%s(%s %s, %s %s)\n", $1, pair, substr($f, 2, 1), $3, type, type, first, type, second
+        name = substr($f, 2, 1) $3 ".with.overflow." type
+        printf "  %s.wide = call %s @llvm.%s(%s %s, %s %s)\n", $1, pair, name, type, first, type, second
     }
     printf "  %s = extractvalue %s %s.wide, 0\n  %s.over = extractvalue %s %s.wide, 1\n", $1, pair, $1, $1, pair, $1
     broken($1 ".over")
@@ -23,7 +24,8 @@ $2 == "=" && $3 == "trunc" && $4 ~ /^n[us]w$/ {
     from = $f; value = $(f + 1); to = $(f + 3)
     printf "  %s = trunc %s %s to %s\n", $1, from, value, to
     for (g = 4; g < f; g++) {
-        printf "  %s.wide%d = %s %s %s to %s\n  %s.over%d = icmp ne %s %s.wide%d, %s\n", $1, g, wide[g], to, $1, from, $1, g, from, $1, g, value
+        printf "  %s.wide%d = %s %s %s to %s\n", $1, g, wide[g], to, $1, from
+        printf "  %s.over%d = icmp ne %s %s.wide%d, %s\n", $1, g, from, $1, g, value
         broken($1 ".over" g)
     }
     next

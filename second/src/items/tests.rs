@@ -36,8 +36,8 @@ fn items_of_a_row() {
 
 #[test]
 fn bad_spots_and_a_first_raw_height() {
-    // 110 111, then 10 with 766.
-    let (codec, words) = (small(), table_bytes(&[0b001011111110_01_111_011, 0]));
+    // First bit lowest: 110, 111, then 10 and 766 after it.
+    let (codec, words) = (small(), table_bytes(&[766 << 8 | 0b0111_1011, 0]));
     let pixel = next_item(Ok(&codec), &words, place(0, 0, 0, 0));
     assert_eq!((pixel.kind, pixel.pixel, pixel.place), (KIND_BAD_PIXEL, 4095, place(3, 1, 0, 0)));
     let bias = next_item(Ok(&codec), &words, pixel.place);

@@ -2,7 +2,7 @@
 # make test       the gate: every proof, every must-fail edit, every comparison
 # make compare    the comparisons with second/ in full
 # make bench      ratios beside second/, in one run on one machine
-# make fuzz       mutated inputs of the C calls against second/ for ten minutes
+# make fuzz       mutated inputs of the C calls against second/: ten minutes with the sanitizers in both, then two as shipped
 # make samples    writes samples/ anew
 # make install    programs, archive, header and man pages below PREFIX
 .PHONY: all test compare bench fuzz samples install clean FORCE
@@ -39,9 +39,11 @@ bench: $(ARCHIVE)
 	@tests/second build
 	@$(SECOND)/bench
 
-fuzz: $(ARCHIVE)
+fuzz:
+	@tests/sanitized
+	@target/sanitized/second/release/fuzz 600
 	@tests/second build
-	@$(SECOND)/fuzz 600
+	@$(SECOND)/fuzz 120 5
 
 samples: $(ARCHIVE)
 	$(CC) $(CFLAGS) -Iinclude -o target/make_samples samples/make_samples.c $(ARCHIVE)

@@ -73,6 +73,52 @@ pub struct Written {
     pub state: State,
 }
 
+/// Where a reader of items stands; the caller keeps it between calls.
+#[repr(C)]
+#[derive(Clone, Copy, PartialEq, Eq, Debug, Default)]
+pub struct ReaderPlace {
+    /// The bit place of the next item.
+    pub at: u64,
+    /// The items given so far.
+    pub count: u32,
+    /// The previous height, 0 before there is one.
+    pub previous: u32,
+    /// 0 until some pixel has become previous.
+    pub begun: u32,
+    /// The number that opening came to.
+    pub opening: u32,
+}
+
+impl ReaderPlace {
+    /// As they stand in memory.
+    pub fn bytes(self) -> Vec<u8> {
+        let fields = [self.count, self.previous, self.begun, self.opening].map(u32::to_ne_bytes);
+        [&self.at.to_ne_bytes()[..], fields.as_flattened()].concat()
+    }
+}
+
+/// An item that was read. Refused: all 0 but the number, and the place as
+/// given.
+#[repr(C)]
+#[derive(Clone, Copy, PartialEq, Eq, Debug, Default)]
+pub struct ItemRead {
+    pub number: u32,
+    pub kind: u32,
+    /// The difference of an item of that kind.
+    pub step: i32,
+    pub pixel: u32,
+    /// After the item.
+    pub place: ReaderPlace,
+}
+
+impl ItemRead {
+    /// As they stand in memory.
+    pub fn bytes(self) -> Vec<u8> {
+        let fields = [self.number, self.kind, self.step as u32, self.pixel].map(u32::to_ne_bytes);
+        [fields.as_flattened(), &self.place.bytes()].concat()
+    }
+}
+
 #[cfg(test)]
 mod tests {
     use super::*;
@@ -105,6 +151,26 @@ mod tests {
         ];
         assert_eq!(places, [0, 4, 8, 12, 16, 20, 24, 28]);
         assert_eq!(size_of::<Record>(), 36);
+    }
+
+    #[test]
+    fn reader_fields_in_order() {
+        let place = [
+            offset_of!(ReaderPlace, at),
+            offset_of!(ReaderPlace, count),
+            offset_of!(ReaderPlace, previous),
+            offset_of!(ReaderPlace, begun),
+            offset_of!(ReaderPlace, opening),
+        ];
+        assert_eq!((place, size_of::<ReaderPlace>()), ([0, 8, 12, 16, 20], 24));
+        let item = [
+            offset_of!(ItemRead, number),
+            offset_of!(ItemRead, kind),
+            offset_of!(ItemRead, step),
+            offset_of!(ItemRead, pixel),
+            offset_of!(ItemRead, place),
+        ];
+        assert_eq!((item, size_of::<ItemRead>()), ([0, 4, 8, 12, 16], 40));
     }
 
     #[test]

@@ -1,17 +1,25 @@
 //! Each call of the library, made on both sides, compared and counted.
 
+mod items;
+#[cfg(feature = "sheets")]
 mod numbers;
+#[cfg(feature = "sheets")]
 mod records;
 mod rows;
+mod walk;
 
 use std::fmt::Debug;
 
+pub use items::Items;
+#[cfg(feature = "sheets")]
 pub use numbers::{read_signed, read_unsigned, write_signed, write_unsigned};
+#[cfg(feature = "sheets")]
 pub use records::{Place, Writing};
 pub use rows::{check, pack, plain_table, room, unpack};
+pub use walk::walk;
 
 use crate::agreement::Call;
-use crate::answers::{Answer, Record, Signed, Unsigned, Written};
+use crate::answers::{Answer, ItemRead, ReaderPlace, Record, Signed, Unsigned, Written};
 use crate::memory::Lent;
 use crate::tally::Tally;
 
@@ -29,6 +37,12 @@ impl Numbered for (u32, u32) {
     }
 }
 
+impl Numbered for ReaderPlace {
+    fn number(self) -> u32 {
+        self.opening
+    }
+}
+
 macro_rules! numbered {
     ($($answer:ty),*) => {
         $(impl Numbered for $answer {
@@ -39,7 +53,7 @@ macro_rules! numbered {
     };
 }
 
-numbered!(Answer, Signed, Unsigned, Record, Written);
+numbered!(Answer, Signed, Unsigned, Record, Written, ItemRead);
 
 /// Compares a call and counts its number.
 fn counted<T: Numbered>(

@@ -1,11 +1,15 @@
 //! The C interface of the proved library, in safe wrappers.
 
+#[cfg(feature = "rows")]
+mod items;
 #[cfg(feature = "sheets")]
 mod sheets;
 
 use std::ptr;
 
 use crate::answers::Answer;
+#[cfg(feature = "rows")]
+pub use items::*;
 #[cfg(feature = "sheets")]
 pub use sheets::*;
 

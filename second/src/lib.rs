@@ -3,9 +3,9 @@
 //!
 //! The programs link `libtahliruz.a` from the folder that `TAHLIRUZ_LIB_DIR`
 //! names when they are built: by default its table check, with the feature
-//! `rows` packing, unpacking and the room question too, with `sheets` also
-//! adaptive numbers and records. With `--no-default-features` nothing is
-//! linked and the tests run alone.
+//! `rows` packing, unpacking, the room question and the item reader too, with
+//! `sheets` also adaptive numbers and records. With `--no-default-features`
+//! nothing is linked and the tests run alone.
 //!
 //! `compare_tables`, `compare_rows` and `compare_sheets` compare with it a
 //! given number of random inputs, `fuzz` changed ones for a given time, and
@@ -17,11 +17,12 @@ pub mod agreement;
 pub mod answers;
 pub mod calls;
 pub mod command;
-#[cfg(feature = "sheets")]
+#[cfg(feature = "rows")]
 pub mod compared;
 #[cfg(feature = "check")]
 pub mod ffi;
 pub mod generate;
+pub mod items;
 pub mod known;
 pub mod listing;
 pub mod memory;

@@ -71,63 +71,45 @@ fn fault(number: u32, used: usize) -> Read {
     Read { outcome: Err(number), used }
 }
 
-/// The reader that keeps its place between items.
+/// A place in a row's words, with what the row has come to there.
 #[derive(Clone)]
 pub struct Cursor<'a> {
     codec: &'a Codec,
     /// The whole words lent.
     words: &'a [u8],
-    place: usize,
-    /// None until some pixel has become previous.
-    previous: Option<i32>,
-    items: usize,
-}
-
-/// What the item reader answers; all zero beside a refusal's number.
-#[derive(Clone, Copy, PartialEq, Eq, Debug)]
-pub struct ItemAnswer {
-    pub number: u32,
-    pub item: Option<Item>,
-    pub pixel: u16,
-    /// The bit place after the item.
     pub place: usize,
+    /// None until some pixel has become previous.
+    pub previous: Option<i64>,
 }
 
 impl<'a> Cursor<'a> {
     pub fn new(codec: &'a Codec, words: &'a [u8]) -> Cursor<'a> {
         // An incomplete word at the end counts for nothing.
         let words = &words[..words.len() / 4 * 4];
-        Cursor { codec, words, place: 0, previous: None, items: 0 }
+        Cursor { codec, words, place: 0, previous: None }
     }
 
-    /// Gives one item, or refuses and stays where it is.
-    pub fn next_item(&mut self) -> ItemAnswer {
-        let refused = |number| ItemAnswer { number, item: None, pixel: 0, place: 0 };
-        if self.items == MAX_PIXELS {
-            return refused(TOO_MANY);
-        }
+    /// Gives one item with its pixel and moves past it, or refuses and stays.
+    pub fn next_item(&mut self) -> Result<(Item, u16), u32> {
         let read = self.read_item();
-        match read.outcome {
-            Ok((item, pixel)) => {
-                self.advance(item, pixel, read.used);
-                ItemAnswer { number: DONE, item: Some(item), pixel, place: self.place }
-            }
-            Err(number) => refused(number),
+        if let Ok((item, pixel)) = read.outcome {
+            self.advance(item, pixel, read.used);
         }
+        read.outcome
     }
 
     fn advance(&mut self, item: Item, pixel: u16, used: usize) {
         self.place += used;
-        self.items += 1;
         match item {
-            Item::Difference(_) => self.previous = Some(i32::from(pixel)),
-            Item::Escaped(_) => self.previous = self.previous.or(Some(i32::from(pixel))),
+            Item::Difference(_) => self.previous = Some(i64::from(pixel)),
+            Item::Escaped(_) => self.previous = self.previous.or(Some(i64::from(pixel))),
             Item::BadPixel | Item::BadBias => {}
         }
     }
 
     fn left(&self) -> usize {
-        8 * self.words.len() - self.place
+        // A caller's own place may be past the words.
+        (8 * self.words.len()).saturating_sub(self.place)
     }
 
     /// Words and bits both run upward, so bit `place` is found by its byte.
@@ -156,8 +138,8 @@ impl<'a> Cursor<'a> {
             BAD_BIAS => Read { outcome: Ok((Item::BadBias, BIAS_SPOT)), used },
             _ => {
                 let difference = self.codec.table.difference_of(index);
-                let height = self.previous.unwrap_or(0) + difference;
-                if !(0..=MAX_HEIGHT).contains(&height) {
+                let height = self.previous.unwrap_or(0) + i64::from(difference);
+                if !(0..=i64::from(MAX_HEIGHT)).contains(&height) {
                     return fault(HEIGHT, used);
                 }
                 Read { outcome: Ok((Item::Difference(difference), height as u16)), used }

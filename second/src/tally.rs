@@ -5,12 +5,14 @@ use crate::refusal::PLACE;
 const NUMBERS: usize = PLACE as usize + 1;
 
 /// The calls, and for each the numbers that it can give.
-const CALLS: [(&str, &[usize]); 12] = [
+const CALLS: [(&str, &[usize]); 14] = [
     ("check", &[0, 1, 2, 3]),
     ("plain_table", &[0, 5]),
     ("pack", &[0, 1, 2, 3, 4, 5, 11]),
     ("unpack", &[0, 1, 2, 3, 5, 6, 7, 8, 9, 10, 11]),
     ("room", &[0, 1, 2, 3, 11]),
+    ("open", &[0, 1, 2, 3]),
+    ("next", &[0, 1, 2, 3, 6, 7, 8, 9, 11]),
     ("read_signed", &[0, 12, 13]),
     ("read_unsigned", &[0, 12, 13]),
     ("write_signed", &[0, 5]),
@@ -20,6 +22,11 @@ const CALLS: [(&str, &[usize]); 12] = [
     ("write_record", &[0, 1, 2, 3, 4, 5, 11, 15, 16]),
 ];
 
+fn index_of(call: &str) -> usize {
+    let index = CALLS.iter().position(|(name, _)| *name == call);
+    index.unwrap_or_else(|| panic!("{call} is not in the list"))
+}
+
 #[derive(Default)]
 pub struct Tally {
     counts: [[u64; NUMBERS]; CALLS.len()],
@@ -28,8 +35,7 @@ pub struct Tally {
 impl Tally {
     /// Counts a call. Its number must be one that it can give.
     pub fn add(&mut self, call: &str, number: u32) {
-        let index = CALLS.iter().position(|(name, _)| *name == call);
-        let index = index.unwrap_or_else(|| panic!("{call} is in the list"));
+        let index = index_of(call);
         assert!(CALLS[index].1.contains(&(number as usize)), "{call} gave {number}");
         self.counts[index][number as usize] += 1;
     }
@@ -53,13 +59,18 @@ impl Tally {
         (0..CALLS.len()).filter(|&call| self.is_used(call)).map(line).collect()
     }
 
-    /// The numbers never reached, of the calls that were made.
-    pub fn missed(&self) -> Vec<String> {
+    /// The numbers never reached, of the calls named.
+    pub fn missed(&self, calls: &[&str]) -> Vec<String> {
         let of_call = |call: usize| {
             let never = move |&&n: &&usize| self.counts[call][n] == 0;
             CALLS[call].1.iter().filter(never).map(move |n| format!("{} {n}", CALLS[call].0))
         };
-        (0..CALLS.len()).filter(|&call| self.is_used(call)).flat_map(of_call).collect()
+        calls.iter().map(|call| index_of(call)).flat_map(of_call).collect()
+    }
+
+    /// The same of every call.
+    pub fn missed_of_all(&self) -> Vec<String> {
+        self.missed(&CALLS.map(|(name, _)| name))
     }
 }
 
@@ -70,12 +81,16 @@ mod tests {
     #[test]
     fn counts_and_misses() {
         let mut tally = Tally::default();
-        assert!(tally.missed().is_empty() && tally.text().is_empty());
+        assert!(tally.text().is_empty());
+        assert_eq!(tally.missed(&["plain_table"]), ["plain_table 0", "plain_table 5"]);
         tally.add("read_signed", 12);
         tally.add("read_signed", 12);
         tally.add("write_signed", 0);
         assert_eq!(tally.calls(), 3);
-        assert_eq!(tally.missed(), ["read_signed 0", "read_signed 13", "write_signed 5"]);
+        let missed = tally.missed(&["read_signed", "write_signed"]);
+        assert_eq!(missed, ["read_signed 0", "read_signed 13", "write_signed 5"]);
+        let all: usize = CALLS.iter().map(|(_, numbers)| numbers.len()).sum();
+        assert_eq!(tally.missed_of_all().len(), all - 2);
         assert!(tally.text().contains("2 calls; 0: 0 12: 2 13: 0\n"));
     }
 

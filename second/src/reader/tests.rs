@@ -143,30 +143,3 @@ fn memo_table_round_trip() {
         assert_eq!(read(&codec, &words, row.len()), (0, bits as usize, row.clone()));
     }
 }
-
-#[test]
-fn cursor_gives_items() {
-    let (codec, words) = (plain(), word_bytes(&[3139072, 2]));
-    let mut cursor = Cursor::new(&codec, &words);
-    let answer = |item, pixel, place| ItemAnswer { number: 0, item: Some(item), pixel, place };
-    assert_eq!(cursor.next_item(), answer(Item::Difference(0), 0, 10));
-    assert_eq!(cursor.next_item(), answer(Item::Escaped(766), 766, 24));
-    assert_eq!(cursor.next_item(), answer(Item::Difference(0), 0, 34));
-    // Zeros stand in the rest: the difference -256 from 0.
-    let refused = ItemAnswer { number: HEIGHT, item: None, pixel: 0, place: 0 };
-    assert_eq!(cursor.next_item(), refused);
-    assert_eq!(cursor.next_item(), refused, "a refusal moves nothing");
-}
-
-#[test]
-fn cursor_stops_after_4096_items() {
-    let (codec, words) = (small(), vec![0; 4 * 129]);
-    let mut cursor = Cursor::new(&codec, &words);
-    for place in 1..=4096 {
-        assert_eq!(cursor.next_item().place, place);
-    }
-    for _ in 0..2 {
-        let refused = ItemAnswer { number: TOO_MANY, item: None, pixel: 0, place: 0 };
-        assert_eq!(cursor.next_item(), refused);
-    }
-}

@@ -1,48 +1,49 @@
-//! Compares the proved library's packing, unpacking and room question with
-//! the second program's, over random rows and runs of words.
+//! Compares the proved library's packing, unpacking, room question and item
+//! reader with the second program's, over random rows and runs of words.
 
+mod items;
 mod packing;
+mod progress;
 mod room;
-mod tally;
 mod trial;
 mod unpacking;
 
 use std::process::ExitCode;
 
+use progress::Progress;
 use second::command::{count_and_seed, report};
 use second::known::{memo_table, plain_table, Labels};
 use second::random::Random;
-use tally::Tally;
 use trial::Trial;
 
 fn main() -> ExitCode {
     let (count, seed) = count_and_seed(1_000_000, 2);
     println!("compare_rows: {count} rows and runs of words, seed {seed}");
     let mut random = Random::new(seed);
-    let mut tally = Tally::default();
+    let mut progress = Progress::default();
     let written_out =
         [plain_table(), memo_table(Labels::Version11), memo_table(Labels::Version01a)];
     let mut written_out = written_out.into_iter();
-    while tally.rows + tally.runs < count {
+    while progress.rows + progress.runs < count {
         let trial = match written_out.next() {
-            Some(table) => Trial::new(table, 2000),
+            Some(table) => Trial::new(&mut random, &table, 2000),
             None => Trial::any(&mut random),
         };
-        if let Err(what) = try_table(&mut random, &trial, &mut tally) {
+        if let Err(what) = try_table(&mut random, &trial, &mut progress) {
             return report("compare_rows", &format!("{what}seed {seed}\n"));
         }
-        tally.tables += 1;
+        progress.tables += 1;
     }
-    tally.verdict()
+    progress.verdict()
 }
 
-fn try_table(random: &mut Random, trial: &Trial, tally: &mut Tally) -> Result<(), String> {
-    room::compare(random, trial, tally)?;
+fn try_table(random: &mut Random, trial: &Trial, progress: &mut Progress) -> Result<(), String> {
+    room::compare(random, trial, progress)?;
     for _ in 0..trial.cases {
         if random.one_in(2) {
-            packing::compare(random, trial, tally)?;
+            packing::compare(random, trial, progress)?;
         } else {
-            unpacking::compare(random, trial, tally)?;
+            unpacking::compare(random, trial, progress)?;
         }
     }
     trial.check_unwritten()

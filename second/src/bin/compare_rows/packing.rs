@@ -1,6 +1,7 @@
 //! Packing one row, and unpacking what was packed.
 
-use crate::tally::Tally;
+use crate::items;
+use crate::progress::Progress;
 use crate::trial::Trial;
 use second::ffi;
 use second::generate::rows::{pixel_bytes, row, row_length, spoil};
@@ -10,7 +11,7 @@ use second::random::Random;
 use second::refusal::DONE;
 use second::row::{pack_under, MAX_PIXELS};
 
-pub fn compare(random: &mut Random, trial: &Trial, tally: &mut Tally) -> Result<(), String> {
+pub fn compare(random: &mut Random, trial: &Trial, progress: &mut Progress) -> Result<(), String> {
     let length = row_length(random);
     let mut pixels = row(random, trial.model(), length);
     if random.one_in(12) {
@@ -24,20 +25,21 @@ pub fn compare(random: &mut Random, trial: &Trial, tally: &mut Tally) -> Result<
     let odd = random.below(4);
     let before = Lent::new(random, 4 * room + odd);
     let (answer, after) = compare_call(trial, &given, &before)?;
-    tally.rows += 1;
-    tally.pack[answer.0 as usize] += 1;
+    progress.rows += 1;
+    progress.tally.add("pack", answer.0);
     if answer.0 != DONE {
         return Ok(());
     }
     check_packed(random, trial, &pixels, answer.1, &after)
-        .map_err(|what| trial.difference(&what, &[("pixels", &given), ("after", after.bytes())]))
+        .map_err(|what| trial.difference(&what, &[("pixels", &given), ("after", after.bytes())]))?;
+    let words = &after.bytes()[..4 * answer.1.div_ceil(32) as usize];
+    items::compare(random, trial, words, pixels.len(), progress)
 }
 
 /// Words to lend: what the row takes, more, one too few, or any number.
 fn words_lent(random: &mut Random, trial: &Trial, given: &[u8]) -> usize {
     let mut ample = vec![0; 4 * 4000];
-    let bits =
-        trial.codec.as_ref().map_or(0, |codec| pack_under(&codec.table, given, &mut ample).1);
+    let bits = trial.codec().map_or(0, |codec| pack_under(&codec.table, given, &mut ample).1);
     let needed = bits.div_ceil(32) as usize;
     match random.below(10) {
         0..=3 => needed,
@@ -51,10 +53,10 @@ fn words_lent(random: &mut Random, trial: &Trial, given: &[u8]) -> usize {
 fn compare_call(trial: &Trial, given: &[u8], before: &Lent) -> Result<((u32, u32), Lent), String> {
     let (mut by_proved, mut by_second) = (before.clone(), before.clone());
     let input = given.to_vec();
-    let proved = ffi::pack(&trial.table, &input, by_proved.bytes_mut());
-    let second = match &trial.codec {
+    let proved = ffi::pack(trial.table(), &input, by_proved.bytes_mut());
+    let second = match trial.codec() {
         Ok(codec) => pack_under(&codec.table, given, by_second.bytes_mut()),
-        Err(number) => (*number, 0),
+        Err(number) => (number, 0),
     };
     let words = if second.0 == DONE { second.1.div_ceil(32) as usize } else { 0 };
     let wrong = if proved != second {
@@ -97,7 +99,7 @@ fn check_packed(
         }
     }
     let mut back = Lent::new(random, 2 * pixels.len());
-    let answer = ffi::unpack(&trial.table, words, pixels.len() as u64, back.bytes_mut());
+    let answer = ffi::unpack(trial.table(), words, pixels.len() as u64, back.bytes_mut());
     if answer != (DONE, bits) || back.bytes() != pixel_bytes(pixels) {
         return Err(format!("round trip: {bits} bits packed, {answer:?} unpacked"));
     }

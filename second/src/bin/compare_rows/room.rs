@@ -1,23 +1,23 @@
 //! The room question.
 
-use crate::tally::Tally;
+use crate::progress::Progress;
 use crate::trial::Trial;
 use second::ffi;
 use second::random::Random;
 use second::row::room_under;
 
-pub fn compare(random: &mut Random, trial: &Trial, tally: &mut Tally) -> Result<(), String> {
+pub fn compare(random: &mut Random, trial: &Trial, progress: &mut Progress) -> Result<(), String> {
     for n in counts(random) {
-        let proved = ffi::room(&trial.table, n);
-        let second = match &trial.codec {
+        let proved = ffi::room(trial.table(), n);
+        let second = match trial.codec() {
             Ok(codec) => room_under(&codec.table, n),
-            Err(number) => (*number, 0),
+            Err(number) => (number, 0),
         };
         if proved != second {
             let what = format!("room for {n}: proved {proved:?}, second {second:?}");
             return Err(trial.difference(&what, &[]));
         }
-        tally.room[second.0 as usize] += 1;
+        progress.tally.add("room", second.0);
     }
     Ok(())
 }

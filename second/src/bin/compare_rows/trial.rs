@@ -4,28 +4,27 @@ use second::command::hex;
 use second::generate::damage::{damaged_table, damages};
 use second::generate::tables::any_table;
 use second::known::plain_table;
+use second::opened::Opened;
 use second::random::Random;
 use second::reader::Codec;
 use second::table::Table;
 
 pub struct Trial {
-    pub table: Vec<u8>,
-    /// The second program's reading of the table, done once.
-    pub codec: Result<Codec, u32>,
+    /// The table, and the second program's reading of it, done once.
+    pub opened: Opened,
     pub cases: usize,
     /// What rows are made for: this table, or the plain one if refused.
     model: Table,
-    untouched: Vec<u8>,
 }
 
 impl Trial {
-    pub fn new(table: Vec<u8>, cases: usize) -> Trial {
-        let codec = Codec::open(&table);
-        let model = match &codec {
+    pub fn new(random: &mut Random, table: &[u8], cases: usize) -> Trial {
+        let opened = Opened::new(random, table);
+        let model = match opened.codec() {
             Ok(codec) => codec.table.clone(),
             Err(_) => Table::parse(&plain_table()).expect("the plain table is accepted"),
         };
-        Trial { untouched: table.clone(), table, codec, cases, model }
+        Trial { opened, cases, model }
     }
 
     /// Any table, for fewer cases if it is large: the library checks it at
@@ -33,7 +32,8 @@ impl Trial {
     pub fn any(random: &mut Random) -> Trial {
         if random.one_in(8) {
             let damage = random.pick(&damages());
-            return Trial::new(damaged_table(random, damage), 10);
+            let table = damaged_table(random, damage);
+            return Trial::new(random, &table, 10);
         }
         let draft = any_table(random);
         let cases = match draft.entries() {
@@ -41,7 +41,15 @@ impl Trial {
             65..=1024 => 60,
             _ => 20,
         };
-        Trial::new(draft.bytes(), cases)
+        Trial::new(random, &draft.bytes(), cases)
+    }
+
+    pub fn table(&self) -> &[u8] {
+        self.opened.bytes()
+    }
+
+    pub fn codec(&self) -> Result<&Codec, u32> {
+        self.opened.codec()
     }
 
     pub fn model(&self) -> &Table {
@@ -50,7 +58,7 @@ impl Trial {
 
     /// Fails if a call has written to the table.
     pub fn check_unwritten(&self) -> Result<(), String> {
-        if self.table == self.untouched {
+        if self.opened.given.is_untouched() {
             return Ok(());
         }
         Err(self.difference("a call wrote to the table", &[]))
@@ -58,7 +66,7 @@ impl Trial {
 
     /// The text of a report: what differs, and all bytes given and got.
     pub fn difference(&self, what: &str, parts: &[(&str, &[u8])]) -> String {
-        let mut text = format!("{what}\ntable\n{}", hex(&self.untouched));
+        let mut text = format!("{what}\ntable\n{}", hex(self.opened.given.original()));
         for (name, bytes) in parts {
             text.push_str(&format!("{name}, {} bytes\n{}", bytes.len(), hex(bytes)));
         }

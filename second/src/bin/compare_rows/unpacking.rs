@@ -1,6 +1,7 @@
 //! Unpacking sound and damaged runs of words.
 
-use crate::tally::Tally;
+use crate::items;
+use crate::progress::Progress;
 use crate::trial::Trial;
 use second::ffi;
 use second::generate::rows::{pixel_bytes, row, row_length};
@@ -20,20 +21,21 @@ struct Case {
     expected: Expected,
 }
 
-pub fn compare(random: &mut Random, trial: &Trial, tally: &mut Tally) -> Result<(), String> {
+pub fn compare(random: &mut Random, trial: &Trial, progress: &mut Progress) -> Result<(), String> {
     let mut case = any_case(random, trial);
     settle(random, trial, &mut case);
     let before = Lent::new(random, case.pixels_lent);
     let (answer, after) = compare_call(trial, &case, &before)?;
-    tally.runs += 1;
-    tally.unpack[answer.0 as usize] += 1;
+    progress.runs += 1;
+    progress.tally.add("unpack", answer.0);
     let checked = check_expected(&case, answer, &after)
         .and_then(|()| check_alike(random, trial, &case, &before, answer, &after))
         .and_then(|()| check_repacked(random, trial, &case, answer, &after));
     checked.map_err(|what| {
         let what = format!("{what}; n {}, answer {answer:?}", case.n);
         trial.difference(&what, &[("words", &case.words), ("after", after.bytes())])
-    })
+    })?;
+    items::compare(random, trial, &case.words, case.n.min(MAX_PIXELS as u64) as usize, progress)
 }
 
 /// A run with a known answer, or one damaged into an unknown.
@@ -108,7 +110,7 @@ fn settle(random: &mut Random, trial: &Trial, case: &mut Case) {
         case.pixels_lent = random.pick(&[exact - 1, exact - 2, less]);
         case.expected = Expected::Refused(ROOM);
     }
-    if let Err(number) = trial.codec {
+    if let Err(number) = trial.codec() {
         case.expected = Expected::Refused(number);
     }
 }
@@ -117,10 +119,10 @@ fn settle(random: &mut Random, trial: &Trial, case: &mut Case) {
 fn compare_call(trial: &Trial, case: &Case, before: &Lent) -> Result<((u32, u32), Lent), String> {
     let (mut by_proved, mut by_second) = (before.clone(), before.clone());
     let input = case.words.clone();
-    let proved = ffi::unpack(&trial.table, &input, case.n, by_proved.bytes_mut());
-    let (number, used) = match &trial.codec {
+    let proved = ffi::unpack(trial.table(), &input, case.n, by_proved.bytes_mut());
+    let (number, used) = match trial.codec() {
         Ok(codec) => unpack_measured(codec, &case.words, case.n, by_second.bytes_mut()),
-        Err(number) => (*number, 0),
+        Err(number) => (number, 0),
     };
     let second = if number == DONE { (DONE, used as u32) } else { (number, 0) };
     let written = if number == DONE { 2 * case.n as usize } else { 0 };
@@ -180,14 +182,14 @@ fn check_alike(
 ) -> Result<(), String> {
     let words = case.n.saturating_mul(u64::from(trial.model().worst)).div_ceil(32);
     let bytes = 4 * words.min(1 << 20) as usize;
-    if trial.codec.is_err() || case.words.len() < bytes || !random.one_in(2) {
+    if trial.codec().is_err() || case.words.len() < bytes || !random.one_in(2) {
         return Ok(());
     }
     let mut other = case.words[..bytes].to_vec();
     let more = random.below(30);
     other.extend(random.bytes(more));
     let mut memory = before.clone();
-    let again = ffi::unpack(&trial.table, &other, case.n, memory.bytes_mut());
+    let again = ffi::unpack(trial.table(), &other, case.n, memory.bytes_mut());
     if again == answer && memory == *after {
         return Ok(());
     }
@@ -206,10 +208,10 @@ fn check_repacked(
         return Ok(());
     }
     let pixels = &after.bytes()[..2 * case.n as usize];
-    let mut words = vec![0; 4 * ffi::room(&trial.table, case.n).1 as usize];
-    let packed = ffi::pack(&trial.table, pixels, &mut words);
+    let mut words = vec![0; 4 * ffi::room(trial.table(), case.n).1 as usize];
+    let packed = ffi::pack(trial.table(), pixels, &mut words);
     let mut back = vec![0; pixels.len()];
-    let read = ffi::unpack(&trial.table, &words, case.n, &mut back);
+    let read = ffi::unpack(trial.table(), &words, case.n, &mut back);
     if packed.0 == DONE && read == packed && back == pixels {
         return Ok(());
     }

@@ -92,10 +92,7 @@ pub fn lent(random: &mut Random, needed: usize) -> Lent {
     let more = needed + random.below(12);
     let any = random.below(needed + 20);
     let length = random.pick(&[needed, more, needed.saturating_sub(1), any]);
-    match random.one_in(2) {
-        true => Lent::at_end(random, length),
-        false => Lent::new(random, length),
-    }
+    Lent::new(random, length)
 }
 
 #[cfg(test)]

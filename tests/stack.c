@@ -101,6 +101,8 @@ static void adaptive(void)
 {
     expect("write_signed", tahliruz_write_signed(-2147483647 - 1, content, sizeof content).number);
     expect("read_signed", tahliruz_read_signed(content, sizeof content).number);
+    expect("write_unsigned", tahliruz_write_unsigned(4294967295u, content, sizeof content).number);
+    expect("read_unsigned", tahliruz_read_unsigned(content, sizeof content).number);
 }
 static void write_table(void) { write_kind(1, table, sizeof table); }
 static void write_packed(void) { write_kind(2, pixels, sizeof pixels); }

@@ -1,12 +1,10 @@
-// The one place where a single bit is taken.
+// The one place where a bit is taken from a word.
 ghost use mathlib.Core.Path.{_≡_};
-ghost use Prim.Native.Nat.{_/_, _<_};
-ghost use lib.ListN.{length, getD};
-ghost use Rattle.bitstream.specs.Bits.{bitsOf};
+ghost use Prim.Native.Nat.{_/_, _%_, _^_, _<_};
 
-pub fn bit_at(s: &[u8], k: usize) -> u8
-    requires { ⌜ k / 8 < length (now s) ⌝ }
-    ensures { λ r. ⌜ r ≡ getD (bitsOf (now (s .entry))) k 0 ⌝ }
+pub fn bit_of(v: u32, k: u32) -> u32
+    requires { ⌜ k < 32 ⌝ }
+    ensures { λ r. ⌜ r ≡ v / 2 ^ k % 2 ⌝ }
 {
-    (s[k / 8] >> (k % 8)) % 2
+    (v >> k) % 2
 }

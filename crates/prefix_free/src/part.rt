@@ -1,4 +1,5 @@
 // Lengths and bits of codewords in words, and the parting of words by one bit.
+use bitstream::bit::bit_of;
 ghost use mathlib.Core.Path.{_≡_};
 ghost use Prim.Native.Nat.{_<_};
 ghost use lib.ListN.{length};
@@ -25,7 +26,7 @@ pub fn bit(w: u32, d: u32) -> usize
     requires { ⌜ d < 32 ⌝ }
     ensures { λ r. ⌜ r ≡ bitAt d w ⌝ }
 {
-    (((w >> 5) >> d) % 2) as usize
+    bit_of(w / 32, d) as usize
 }
 
 // Brings the words with a 0 at bit d before those with a 1, and returns how many have a 0. Every turn exchanges two words:

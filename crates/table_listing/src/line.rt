@@ -1,5 +1,6 @@
 // The line of a string: its name, a space, its bits.
 use crate::string::string_word;
+use bitstream::bit::bit_of;
 use code_table::entry::difference_of;
 use text::number::put_integer;
 use text::put::put_bytes;
@@ -56,7 +57,7 @@ fn put_bits(out: &mut [u8], at: usize, w: u32) -> usize
     let n = (w % 32) as usize;
     let mut i = 0;
     while i < n {
-        out[at + i] = 48 + (((w >> 5) >> i) % 2) as u8;
+        out[at + i] = 48 + bit_of(w / 32, i as u32) as u8;
         i += 1;
     }
     at + i

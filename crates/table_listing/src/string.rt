@@ -1,4 +1,5 @@
 // The strings of a table by their places: 0 raw, 1 bad pixel, 2 bad bias, 3 + i entry i.
+use bitstream::bit::bit_of;
 use code_table::header::word_at;
 ghost use mathlib.Core.Path.{_≡_};
 ghost use Prim.Native.Nat.{_+_, _<_};
@@ -27,5 +28,5 @@ pub fn way_of(table: &[u8], d: u32, place: u16) -> u32
     if w % 32 <= d {
         return 0;
     }
-    1 + ((w >> 5) >> d) % 2
+    1 + bit_of(w / 32, d)
 }

@@ -1,6 +1,6 @@
 -- The laws of words whose codewords lie on one branch of the code tree. Assumes nothing.
-use Prim.Native.Nat.{ℕ, zero, suc, _+_, _-_, _/_, _%_, _^_, _≤_, _<_}
-use native.Mathlib.Nat.{le-of-suc-le-suc, not-suc-le-zero, le-refl, lt-irrefl, div-one, div-div-eq-div-mul, pow-succ', pow-zero}
+use Prim.Native.Nat.{ℕ, _+_, _-_, _/_, _%_, _≤_, _<_}
+use native.Mathlib.Nat.{not-suc-le-zero, le-refl, lt-irrefl}
 use native.Mathlib.Decide.{decLt, ℕ-discrete}
 use native.Mathlib.Numerals.{add-one}
 use native.Mathlib.Omega.{arith}
@@ -11,7 +11,7 @@ use mathlib.Core.List.{List, [], _∷_, _++_, map, map-append}
 use lib.ListN.{length, take, drop, getD, length-drop, length-map, length-append, take-append-drop, List·getD-map}
 use lib.Seq.{take-suc, getD-take, getD-drop, length-take-le, take-all, drop-at}
 use Rattle.bitstream.specs.Bits.{digits}
-use Rattle.bitstream.specs.Bits.Laws.{length-digits}
+use Rattle.bitstream.specs.Bits.Laws.{getD-digits, length-digits}
 use Rattle.row_format.specs.Table.{codeword}
 use Rattle.prefix_free.specs.Tests.{not-false-true}
 use Rattle.prefix_free.specs.Exchange.{swapped, Moved, up, down, stays, Exchanged}
@@ -24,13 +24,6 @@ use Rattle.prefix_free.specs.Branch.{clashes, bitAt, Agree, Longer, Amon
 pub length-codeword : (w : ℕ) → length (codeword w) ≡ w % 32
 unfolding codeword
 length-codeword w = length-digits (w % 32) (w / 32)
-
-pub getD-digits : (n v k : ℕ) → k < n → getD (digits n v) k 0 ≡ v / 2 ^ k % 2
-unfolding digits
-getD-digits zero v k h = absurd (not-suc-le-zero h)
-getD-digits (suc n) v zero h = rw (pow-zero 2, div-one v)
-getD-digits (suc n) v (suc k) h =
-    getD-digits n (v / 2) k (le-of-suc-le-suc h) ∙ rw (div-div-eq-div-mul v 2 (2 ^ k), pow-succ' 2 k)
 
 pub getD-codeword : (w k : ℕ) → k < w % 32 → getD (codeword w) k 0 ≡ bitAt k w
 unfolding codeword

@@ -1,7 +1,7 @@
 -- The items and states of document 01's rows (row_format, Row.antt) as the code holds them. Assumes nothing.
 use Prim.Native.Nat.{ℕ}
 use mathlib.Core.Path.{_≡_}
-use mathlib.Core.Bool.{true, false}
+use mathlib.Core.Bool.{true, false, cond}
 use Rattle.row_format.specs.Table.{signed}
 use Rattle.row_format.specs.Row as row
 use Rattle.row_item.specs.declared.Item.{Item}
@@ -19,6 +19,10 @@ coded (row.escape h) = Escape h
 abbrev pub progress : row.State → Progress
 progress row.fresh = record { begun = false; previous = 0 }
 progress (row.past h) = record { begun = true; previous = h }
+
+-- `progress` turned round: where no pixel has become previous, the number held beside it counts for nothing
+abbrev pub stateOf : Progress → row.State
+stateOf p = cond (p .begun) (row.past (p .previous)) row.fresh
 
 -- r is what p has come to after an item and its pixel
 pub record Followed (p : Progress) (i : Item) (pixel : ℕ) (r : Progress) : Type 0 where

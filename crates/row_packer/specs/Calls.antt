@@ -13,10 +13,10 @@ use Rattle.answer.specs.declared.Answer.{Answer}
 use Rattle.answer.specs.Outcome.{Outcome, answerOf, outcome, _orElse_, unless, countUnless}
 use Rattle.row_format.specs.Lists.{any}
 use Rattle.row_format.specs.Table.{tableNumber, maxItemBits}
-use Rattle.row_format.specs.Table.Laws.{Accepted, accepted, tableNumber-verdict, maxItemBits-most}
+use Rattle.row_format.specs.Table.Laws.{maxItemBits-most, accepted-table}
 use Rattle.row_format.specs.Row.{rowBits}
 use Rattle.row_format.specs.Calls.{checked, packNumber, packedRow, packed, room}
-use Rattle.row_format.specs.Calls.Laws.{checked-number}
+use Rattle.row_format.specs.Calls.Laws.{answer-number}
 use Rattle.code_table.specs.Check.Laws.{length-words}
 use Rattle.row_pixels.specs.Pixels.{inside-halves, past-halves}
 use Rattle.row_packer.specs.Write.{Written}
@@ -26,26 +26,20 @@ countUnless-done : (e c : ℕ) → e ≡ 0 → countUnless e c .count ≡ c
 countUnless-done e c z = rw z
 
 module _ (tb : List ℕ) {a : Answer} (is : a ≡ checked tb) where
-  number-checked : a .number ≡ tableNumber tb
-  number-checked = ap (λ (x : Answer). x .number) is ∙ checked-number tb
-
   pub checked-zero : a .number ≡ 0 → tableNumber tb ≡ 0
-  checked-zero e = sym number-checked ∙ e
+  checked-zero e = sym (answer-number tb is) ∙ e
 
   pub checked-count : a .number ≡ 0 → a .count ≡ maxItemBits (wordsOf tb)
   unfolding checked
   checked-count e = ap (λ (x : Answer). x .count) is ∙ countUnless-done (tableNumber tb) (maxItemBits (wordsOf tb)) (checked-zero e)
 
 module _ (tb : List ℕ) (table : tableNumber tb ≡ 0) where
-  pub accepted-table : Accepted (wordsOf tb)
-  accepted-table = accepted (wordsOf tb) (tableNumber-verdict tb table)
-
   pub header-words : 6 ≤ length tb / 4
-  header-words = omega (arith, accepted-table .words, length-words tb)
+  header-words = omega (arith, accepted-table tb table .words, length-words tb)
 
   -- M is at most 27
   times-most : (n : ℕ) → n ≤ 4096 → n * maxItemBits (wordsOf tb) ≤ 110592
-  times-most n h = omega (arith, mul-le-mul-left n (maxItemBits-most (wordsOf tb) accepted-table))
+  times-most n h = omega (arith, mul-le-mul-left n (maxItemBits-most (wordsOf tb) (accepted-table tb table)))
 
 -- ---- packing
 -- 1, 2, 3
@@ -57,7 +51,7 @@ pub packed-table : (tb pb m : List ℕ) {a : Answer} → a ≡ checked tb → (a
 unfolding checked packed packNumber
 packed-table tb pb m is n =
     ap (λ (x : Answer). outcome x m) is
-    ∙ refused-first (tableNumber tb) (maxItemBits (wordsOf tb)) _ m (packedRow (wordsOf tb) (halvesOf pb) m) (λ e. n (number-checked tb is ∙ e))
+    ∙ refused-first (tableNumber tb) (maxItemBits (wordsOf tb)) _ m (packedRow (wordsOf tb) (halvesOf pb) m) (λ e. n (answer-number tb is ∙ e))
 
 -- the words that a row takes
 abbrev words : List ℕ → List ℕ → ℕ
@@ -100,7 +94,7 @@ refused-count (suc e) c d k n = refl
 
 pub room-table : (tb : List ℕ) (n : ℕ) {a : Answer} → a ≡ checked tb → (a .number ≡ 0 → ⊥) → a ≡ room tb n
 unfolding checked room
-room-table tb n is h = is ∙ refused-count (tableNumber tb) (maxItemBits (wordsOf tb)) _ _ (λ e. h (number-checked tb is ∙ e))
+room-table tb n is h = is ∙ refused-count (tableNumber tb) (maxItemBits (wordsOf tb)) _ _ (λ e. h (answer-number tb is ∙ e))
 
 module _ (tb : List ℕ) (n : ℕ) (table : tableNumber tb ≡ 0) where
   pub room-many : 4096 < n → answerOf 11 0 ≡ room tb n

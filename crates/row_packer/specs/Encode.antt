@@ -1,18 +1,13 @@
 -- One pixel of a row. Assumes nothing.
 use Prim.Native.Nat.{ℕ, _≤_}
 use mathlib.Core.Path.{_≡_}
-use mathlib.Core.Bool.{cond}
 use mathlib.Core.List.{List}
-use Rattle.row_format.specs.Row.{State, fresh, past, after, itemFor, itemBits}
+use Rattle.row_format.specs.Row.{after, itemFor, itemBits}
 use Rattle.row_item.specs.declared.Progress.{Progress}
-use Rattle.row_item.specs.Coded.{progress}
+use Rattle.row_item.specs.Coded.{progress, stateOf}
 use Rattle.row_packer.specs.Field.{Holds}
 use Rattle.row_packer.specs.declared.encode.Encoded.{Encoded}
 pub mod Laws
-
--- the state that the code holds: `progress` turned round
-abbrev pub stateOf : Progress → State
-stateOf p = cond (p .begun) (past (p .previous)) fresh
 
 -- p is a state's, and what is previous is a height
 pub record Sound (p : Progress) : Type 0 where

@@ -4,7 +4,7 @@ use mathlib.Core.List.{List}
 use lib.ListN.{drop}
 use Rattle.row_format.specs.Row.{itemsFor, bits}
 use Rattle.row_item.specs.declared.Progress.{Progress}
-use Rattle.row_packer.specs.Encode.{stateOf}
+use Rattle.row_item.specs.Coded.{stateOf}
 pub mod Laws
 
 -- after i pixels, when the row has come to p

@@ -10,8 +10,7 @@ use Rattle.row_format.specs.Table.{tableNumber}
 use Rattle.row_format.specs.Row as row
 use Rattle.row_format.specs.Reading.{Reading, item, fault, readItem}
 use Rattle.row_item.specs.declared.Item.the-variants.{Escape}
-use Rattle.row_item.specs.Coded.{coded, progress}
-use Rattle.row_unpacker.specs.Item.{stateOf}
+use Rattle.row_item.specs.Coded.{coded, progress, stateOf}
 use Rattle.row_reader.specs.declared.step.Place.{Place}
 use Rattle.row_reader.specs.declared.step.ItemRead.{ItemRead}
 pub mod Laws

@@ -9,11 +9,11 @@ use lib.ListN.{length, drop}
 use borrow.Author.Tests.{lt-ltb, eq-eqb, ne-eqb}
 use Rattle.bitstream.specs.Bits.{flat, bytesOf, wordsOf, stream}
 use Rattle.answer.specs.Outcome.{refused, wrote}
+use Rattle.row_item.specs.Coded.{stateOf}
 use Rattle.row_format.specs.Table.{tableNumber, maxItemBits}
 use Rattle.row_format.specs.Reading.{readItem}
 use Rattle.row_format.specs.Calls.{unpacked}
 use Rattle.row_format.specs.Theorems.Bounds.{bitsOfReading, readItem-uses}
-use Rattle.row_unpacker.specs.Item.{stateOf}
 use Rattle.row_reader.specs.declared.step.Place.{Place}
 use Rattle.row_reader.specs.Step.{startPlace, itemRead}
 use Rattle.row_reader.specs.Walk.{gave, ended, walk}

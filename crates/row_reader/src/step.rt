@@ -6,8 +6,7 @@ use row_item::after;
 use row_unpacker::item::Read;
 use row_unpacker::item::read_item;
 ghost use mathlib.Core.Path.{_≡_};
-ghost use Rattle.row_item.specs.Coded.{progress};
-ghost use Rattle.row_unpacker.specs.Item.{stateOf};
+ghost use Rattle.row_item.specs.Coded.{progress, stateOf};
 ghost use Rattle.row_reader.specs.Step.{startPlace, itemRead, refusedAt};
 
 // at         the bit place of the next item, from bit 0 of word 0

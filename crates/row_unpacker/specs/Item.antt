@@ -6,17 +6,13 @@ use mathlib.Core.List.{List}
 use lib.ListN.{drop}
 use Rattle.bitstream.specs.Bits.{wordsOf, stream}
 use Rattle.row_format.specs.Table.{entryDifference}
-use Rattle.row_format.specs.Row.{State, fresh, past, pixelOf, difference}
+use Rattle.row_format.specs.Row.{State, pixelOf, difference}
 use Rattle.row_format.specs.Reading.{Reading, item, fault, found, rawHeight, inside, taken, readItem}
 use Rattle.row_item.specs.declared.Progress.{Progress}
-use Rattle.row_item.specs.Coded.{coded}
+use Rattle.row_item.specs.Coded.{coded, stateOf}
 use Rattle.row_unpacker.specs.declared.item.Read.{Read}
 use Rattle.row_unpacker.specs.declared.item.Read.the-variants.{Got, Refused}
 pub mod Laws
-
--- the state that a row has come to; where no pixel has become previous, the number held beside it counts for nothing
-abbrev pub stateOf : Progress → State
-stateOf p = cond (p .begun) (past (p .previous)) fresh
 
 -- a reading at a place as the code answers it. The bits that a refused item uses are no part of the answer
 abbrev pub answered : State → ℕ → Reading → Read

@@ -7,8 +7,7 @@ use Rattle.bitstream.specs.Bits.{flat, bytesOf}
 use Rattle.row_format.specs.Row.{State, fresh, pixelsOf}
 use Rattle.row_format.specs.Reading.{Reading, Run, done, stop, readBy}
 use Rattle.row_item.specs.declared.Progress.{Progress}
-use Rattle.row_item.specs.Coded.{progress}
-use Rattle.row_unpacker.specs.Item.{stateOf}
+use Rattle.row_item.specs.Coded.{progress, stateOf}
 use Rattle.row_unpacker.specs.declared.row.RowRead.{RowRead}
 use Rattle.row_unpacker.specs.declared.row.RowRead.the-variants.{Done, Refused}
 pub mod Laws

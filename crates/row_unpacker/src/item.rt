@@ -15,11 +15,12 @@ ghost use mathlib.Core.Path.{_≡_};
 ghost use Prim.Native.Nat.{_+_, _/_, _^_, _≤_, _<_};
 ghost use lib.ListN.{length, drop};
 ghost use Rattle.bitstream.specs.Bits.{wordsOf, stream};
+ghost use Rattle.row_item.specs.Coded.{stateOf};
 ghost use Rattle.row_format.specs.Table.{tableNumber};
 ghost use Rattle.row_format.specs.Row.{previous};
 ghost use Rattle.row_unpacker.specs.View.{Seen};
 ghost use Rattle.row_unpacker.specs.Search.{Finds};
-ghost use Rattle.row_unpacker.specs.Item.{stateOf, itemAt, foundAt, entryAt, HeightAt};
+ghost use Rattle.row_unpacker.specs.Item.{itemAt, foundAt, entryAt, HeightAt};
 
 // The item, its pixel and the bit place after it; or the number of the refusal and the place of the faulty item.
 pub enum Read {

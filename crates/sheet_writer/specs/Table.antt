@@ -7,9 +7,8 @@ use lib.ListN.{length}
 use borrow.Author.Tests.{eq-eqb, ne-eqb}
 use Rattle.answer.specs.Outcome.Laws.{orElse-zero-right}
 use Rattle.row_format.specs.Table.{tableNumber}
-use Rattle.row_format.specs.Table.Laws.{tableNumber-whole}
+use Rattle.row_format.specs.Table.Laws.{tableNumber-whole, accepted-table}
 use Rattle.code_table.specs.Check.Laws.{length-words}
-use Rattle.row_packer.specs.Calls.{accepted-table}
 use Rattle.sheet_format.specs.declared.SheetState.{SheetState}
 use Rattle.sheet_format.specs.Record.{tableRecord, kindNumber, placeNumber}
 use Rattle.sheet_format.specs.Writing.{bodyFor, givenNumber}

@@ -3,7 +3,7 @@ use Prim.Native.Nat.{ℕ, _+_, _-_, _/_, _%_, _^_, _≤_, _<_, max}
 use native.Mathlib.Nat.{add-comm, max-zero, zero-max, div-eq-of-lt, div-lt-iff-lt-mul, one-mul}
 use native.Mathlib.Omega.{arith}
 use mathlib.Core.Path.{_≡_, refl, sym, ap, _∙_, subst}
-use mathlib.Core.Bool.{Bool, true, false, cond, not, _||_, or-assoc, or-true, Bool·not-not}
+use mathlib.Core.Bool.{Bool, true, false, cond, not, _||_, or-true, Bool·not-not}
 use mathlib.Core.List.{List, [], _∷_, _++_, map}
 use lib.ListN.{length, take, drop, getD, set, length-set, length-drop}
 use lib.Seq.{take-suc, take-suc-set, take-all, take-add, getD-drop}
@@ -13,7 +13,7 @@ use lib.Pow.{pow-pos}
 use borrow.Author.Tests.{lt-leb, le-leb, lt-ltb, le-ltb, eq-eqb, ne-eqb, eqb-true, eqb-false, ltb-true, ltb-false, not-true, not-false}
 use Rattle.bitstream.specs.Bits.{wordsOf, bitsOf}
 use Rattle.bitstream.specs.Bits.Laws.{length-cut}
-use Rattle.row_format.specs.Lists.Laws.{by-test, true-false}
+use Rattle.row_format.specs.Lists.Laws.{by-test, true-false, any-append}
 use Rattle.row_format.specs.Lists.{any}
 use Rattle.row_format.specs.Table.{lowLimit, tableSize, codeword, longest, codewords, escapeLength, wrongSize, wrongWord, wrongCodeword, clash, maxItemBits, verdict, tableNumber}
 use Rattle.row_format.specs.Calls.{checked}
@@ -97,12 +97,6 @@ module _ (w : ℕ) where
   pub formed-last : 1 ≤ w % 32 → w % 32 ≤ 27 → eqb (w / 32 / 2 ^ (w % 32)) 0 ≡ not (wrongWord w)
   unfolding wrongWord
   formed-last g h = rw (le-leb 1 (w % 32) g, le-leb (w % 32) 27 h) (shifted-zero (w / 32) (w % 32) ∙ sym (Bool·not-not (ltb (w / 32) (2 ^ (w % 32)))))
-
--- ---- the pass over the string words
-any-append : (f : ℕ → Bool) (xs ys : List ℕ) → any f (xs ++ ys) ≡ (any f xs || any f ys)
-unfolding any
-any-append f [] ys = refl
-any-append f (x ∷ xs) ys = ap (f x ||_) (any-append f xs ys) ∙ sym (or-assoc (f x) (any f xs) (any f ys))
 
 longest-snoc : (xs : List ℕ) (w : ℕ) → longest (map codeword (xs ++ (w ∷ []))) ≡ max (longest (map codeword xs)) (w % 32)
 unfolding longest

@@ -11,19 +11,15 @@ use mathlib.Core.List.{List, [], _∷_, _++_, map, map-append}
 use lib.ListN.{length, take, drop, getD, length-drop, length-map, length-append, take-append-drop, List·getD-map}
 use lib.Seq.{take-suc, getD-take, getD-drop, length-take-le, take-all, drop-at}
 use Rattle.bitstream.specs.Bits.{digits}
-use Rattle.bitstream.specs.Bits.Laws.{getD-digits, length-digits}
+use Rattle.bitstream.specs.Bits.Laws.{getD-digits}
 use Rattle.row_format.specs.Table.{codeword}
+use Rattle.row_format.specs.Table.Laws.{length-codeword}
 use Rattle.prefix_free.specs.Tests.{not-false-true}
 use Rattle.prefix_free.specs.Exchange.{swapped, Moved, up, down, stays, Exchanged}
 use Rattle.prefix_free.specs.Exchange.Laws.{source, moved-lt, swapped-exchanged}
 use Rattle.prefix_free.specs.Pairs.{meets}
 use Rattle.prefix_free.specs.Pairs.Laws.{clash-false-apart, begins-take, meets-false, clash-few, clash-append, clash-exchanged}
 use Rattle.prefix_free.specs.Branch.{clashes, bitAt, Agree, Longer, Among, Shortest, Parted, Reordered, Split}
-
--- ---- codewords
-pub length-codeword : (w : ℕ) → length (codeword w) ≡ w % 32
-unfolding codeword
-length-codeword w = length-digits (w % 32) (w / 32)
 
 pub getD-codeword : (w k : ℕ) → k < w % 32 → getD (codeword w) k 0 ≡ bitAt k w
 unfolding codeword

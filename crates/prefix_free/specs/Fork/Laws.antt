@@ -9,7 +9,8 @@ use lib.Dec.{eqb}
 use Rattle.bitstream.specs.Bits.{begins}
 use Rattle.row_format.specs.Lists.{any}
 use Rattle.row_format.specs.Table.{clash}
-use Rattle.prefix_free.specs.Tests.{or-none, left-false, right-false}
+use Rattle.row_format.specs.Lists.Laws.{or-false-left, or-false-right}
+use Rattle.prefix_free.specs.Tests.{or-none}
 use Rattle.prefix_free.specs.Pairs.{meets}
 use Rattle.prefix_free.specs.Pairs.Laws.{meets-false}
 use Rattle.prefix_free.specs.Fork.{few, ended, branch, apart}
@@ -28,7 +29,7 @@ beq-refl false = refl
 meets-cons : (x y : ℕ) (s u : List ℕ) → meets s u ≡ false → meets (x ∷ s) (y ∷ u) ≡ false
 unfolding begins
 meets-cons x y s u e =
-    rw (left-false (begins s u) (begins u s) e, right-false (begins s u) (begins u s) e)
+    rw (or-false-left (begins s u) (begins u s) e, or-false-right (begins s u) (begins u s) e)
     (or-none (eqb x y && false) (eqb y x && false) (and-false (eqb x y)) (and-false (eqb y x)))
 
 -- those that begin with different bits never meet
@@ -42,7 +43,7 @@ branch-step : (c : Bool) (x y : ℕ) (s u : List ℕ) (ss : List (List ℕ)) →
     → any (meets s) (cond c (u ∷ ss) ss) ≡ false → (meets (x ∷ s) (y ∷ u) ≡ false) × (any (meets s) ss ≡ false)
 unfolding any
 branch-step true x y s u ss f h =
-    (meets-cons x y s u (left-false (meets s u) (any (meets s) ss) h), right-false (meets s u) (any (meets s) ss) h)
+    (meets-cons x y s u (or-false-left (meets s u) (any (meets s) ss) h), or-false-right (meets s u) (any (meets s) ss) h)
 branch-step false x y s u ss f h = (f refl, h)
 
 -- a string that meets none of its own branch meets none at all
@@ -56,7 +57,7 @@ branch-none x s ((y ∷ u) ∷ ss) e h =
 
 clash-rest : (c : Bool) (s : List ℕ) (ss : List (List ℕ)) → clash (cond c (s ∷ ss) ss) ≡ false → clash ss ≡ false
 unfolding clash
-clash-rest true s ss h = right-false (any (meets s) ss) (clash ss) h
+clash-rest true s ss h = or-false-right (any (meets s) ss) (clash ss) h
 clash-rest false s ss h = h
 
 -- where neither branch clashes, nothing does
@@ -67,7 +68,7 @@ branch-clash ([] ∷ ss) e h = absurd (true≢false e)
 branch-clash ((x ∷ s) ∷ ss) e h =
     let own : clash (s ∷ branch (eqb x 0) ss) ≡ false = rw (beq-refl (eqb x 0)) at (h (eqb x 0)) in
     or-none (any (meets (x ∷ s)) ss) (clash ss)
-    (branch-none x s ss e (left-false (any (meets s) (branch (eqb x 0) ss)) (clash (branch (eqb x 0) ss)) own))
+    (branch-none x s ss e (or-false-left (any (meets s) (branch (eqb x 0) ss)) (clash (branch (eqb x 0) ss)) own))
     (branch-clash ss e (λ b. clash-rest (Bool·beq (eqb x 0) b) s (branch b ss) (h b)))
 
 -- two strings or more, none ended, and both branches pass

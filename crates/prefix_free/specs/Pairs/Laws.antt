@@ -12,21 +12,14 @@ use borrow.Author.Tests.{eq-eqb, eqb-true}
 use Rattle.bitstream.specs.Bits.{begins}
 use Rattle.row_format.specs.Lists.{any}
 use Rattle.row_format.specs.Table.{clash}
-use Rattle.prefix_free.specs.Tests.{or-none, left-false, right-false, not-true-false, same-test, any-append, any-none, none-at}
+use Rattle.row_format.specs.Lists.Laws.{or-false-left, any-append, any-false}
+use Rattle.row_format.specs.Table.Laws.{clash-false-at}
+use Rattle.prefix_free.specs.Tests.{or-none, not-true-false, same-test}
 use Rattle.prefix_free.specs.Exchange.{Exchanged}
 use Rattle.prefix_free.specs.Exchange.Laws.{source, moved-lt, moved-apart, exchanged-sym}
 use Rattle.prefix_free.specs.Pairs.{meets, PrefixFree}
 
 -- ---- no clash: the strings of each pair are apart
-clash-false-below : (ss : List (List ℕ)) (i j : ℕ) → clash ss ≡ false → i < j → j < length ss → meets (getD ss i []) (getD ss j []) ≡ false
-unfolding clash
-clash-false-below [] i j e l h = absurd (not-suc-le-zero h)
-clash-false-below (s ∷ ss) i zero e l h = absurd (not-suc-le-zero l)
-clash-false-below (s ∷ ss) zero (suc j) e l h =
-    none-at (meets s) ss [] j (left-false (any (meets s) ss) (clash ss) e) (le-of-suc-le-suc h)
-clash-false-below (s ∷ ss) (suc i) (suc j) e l h =
-    clash-false-below ss i j (right-false (any (meets s) ss) (clash ss) e) (le-of-suc-le-suc l) (le-of-suc-le-suc h)
-
 pub meets-comm : (s u : List ℕ) → meets s u ≡ meets u s
 meets-comm s u = or-comm (begins s u) (begins u s)
 
@@ -34,21 +27,21 @@ pub clash-false-free : (ss : List (List ℕ)) → clash ss ≡ false → PrefixF
 clash-false-free ss e = record { apart = λ i j hi hj n. either i j hi hj n (decLt i j) }
   where
     either : (i j : ℕ) → i < length ss → j < length ss → (i ≡ j → ⊥) → Dec (i < j) → meets (getD ss i []) (getD ss j []) ≡ false
-    either i j hi hj n (yes l) = clash-false-below ss i j e l hj
+    either i j hi hj n (yes l) = clash-false-at ss i j e l hj
     either i j hi hj n (no l) =
-        meets-comm (getD ss i []) (getD ss j []) ∙ clash-false-below ss j i e (omega arith) hi
+        meets-comm (getD ss i []) (getD ss j []) ∙ clash-false-at ss j i e (omega arith) hi
 
 -- with i and j exchanged, the other way round
 pub clash-false-apart : (ss : List (List ℕ)) (i j : ℕ) → clash ss ≡ false → i < length ss → j < length ss → (i ≡ j → ⊥) → begins (getD ss i []) (getD ss j []) ≡ false
 clash-false-apart ss i j e hi hj n =
-    left-false (begins (getD ss i []) (getD ss j [])) (begins (getD ss j []) (getD ss i [])) (clash-false-free ss e .apart i j hi hj n)
+    or-false-left (begins (getD ss i []) (getD ss j [])) (begins (getD ss j []) (getD ss i [])) (clash-false-free ss e .apart i j hi hj n)
 
 pub free-clash-false : (ss : List (List ℕ)) → PrefixFree ss → clash ss ≡ false
 unfolding clash
 free-clash-false [] h = refl
 free-clash-false (s ∷ ss) h =
     or-none (any (meets s) ss) (clash ss)
-    (any-none (meets s) ss [] (λ k b. h .apart 0 (suc k) (zero-lt-suc (length ss)) (suc-le-suc b) (omega arith)))
+    (any-false (meets s) ss [] (λ k b. h .apart 0 (suc k) (zero-lt-suc (length ss)) (suc-le-suc b) (omega arith)))
     (free-clash-false ss (record { apart = λ i j hi hj n. h .apart (suc i) (suc j) (suc-le-suc hi) (suc-le-suc hj) (omega arith) }))
 
 -- ---- which strings meet
@@ -88,7 +81,7 @@ pub clash-append : (ss us : List (List ℕ)) → ((i j : ℕ) → i < length ss 
 unfolding clash
 clash-append [] us h = refl
 clash-append (s ∷ ss) us h =
-    let none : any (meets s) us ≡ false = any-none (meets s) us [] (λ j b. h 0 j (zero-lt-suc (length ss)) b) in
+    let none : any (meets s) us ≡ false = any-false (meets s) us [] (λ j b. h 0 j (zero-lt-suc (length ss)) b) in
     let rest : clash (ss ++ us) ≡ (clash ss || clash us) = clash-append ss us (λ i j hi hj. h (suc i) j (suc-le-suc hi) hj) in
     rw (any-append (meets s) ss us, none, rest, or-false (any (meets s) ss)) (sym (or-assoc (any (meets s) ss) (clash ss) (clash us)))
 

@@ -1,7 +1,7 @@
 -- The laws of the calls' numbers: when each refusal is given. Assumes nothing.
 use Prim.Native.Nat.{ℕ, suc, _*_, _/_, _≤_}
 use native.Mathlib.Omega.{arith}
-use mathlib.Core.Path.{_≡_, refl, sym, _∙_}
+use mathlib.Core.Path.{_≡_, refl, sym, ap, _∙_}
 use mathlib.Core.Bool.{false}
 use mathlib.Core.List.{List, []}
 use lib.ListN.{length, take, drop}
@@ -10,6 +10,7 @@ use lib.Dec.{ltb}
 use borrow.Author.Tests.{ltb-false, le-ltb}
 use Rattle.bitstream.specs.Bits.{cut, wordsOf, halvesOf, bytesOf, wordsFor}
 use Rattle.bitstream.specs.Bits.Laws.{length-cut}
+use Rattle.answer.specs.declared.Answer.{Answer}
 use Rattle.answer.specs.Outcome.{_orElse_, refuseIf, refused, wrote}
 use Rattle.answer.specs.Outcome.Laws.{countUnless-number, orElse-none, orElse-zero-left, orElse-zero-right, unless-number}
 use Rattle.row_format.specs.Lists.{any}
@@ -19,13 +20,16 @@ use Rattle.row_format.specs.Row.{bits, itemsFor, rowBits}
 use Rattle.row_format.specs.Reading.{readBy, readItems, stray}
 use Rattle.row_format.specs.Calls.{checked, tooMany, packNumber, packedRow, packed, unpackNumber, unpacked}
 
-tooMany-zero : (n : ℕ) → tooMany n ≡ 0 → n ≤ 4096
+pub tooMany-zero : (n : ℕ) → tooMany n ≡ 0 → n ≤ 4096
 tooMany-zero n e = ltb-false 4096 n (cond-zero-test (ltb 4096 n) 10 0 e)
 
 -- ---- checking
 pub checked-number : (tb : List ℕ) → checked tb .number ≡ tableNumber tb
 unfolding checked
 checked-number tb = countUnless-number (tableNumber tb) (maxItemBits (wordsOf tb))
+
+pub answer-number : (tb : List ℕ) {a : Answer} → a ≡ checked tb → a .number ≡ tableNumber tb
+answer-number tb is = ap (λ (x : Answer). x .number) is ∙ checked-number tb
 
 -- ---- of no pixels: the table's number alone
 pub packed-nothing : (tb pb m : List ℕ) → length pb ≡ 0 → packed tb pb m .answer .number ≡ tableNumber tb

@@ -1,10 +1,12 @@
 -- The laws of tests and of tests over lists. Assumes nothing.
-use Prim.Native.Nat.{ℕ, zero, suc, _≤_, _<_}
+use Prim.Native.Nat.{ℕ, zero, suc, _+_, _-_, _≤_, _<_}
+use native.Mathlib.Nat.{sub-zero, zero-sub, suc-sub-suc}
 use native.Mathlib.Omega.{arith}
-use mathlib.Core.Path.{_≡_, refl, sym, _∙_}
-use mathlib.Core.Bool.{Bool, true, false, cond, _&&_, _||_}
-use mathlib.Core.List.{List, [], _∷_}
-use lib.ListN.{length, getD}
+use mathlib.Core.Path.{_≡_, refl, sym, ap, _∙_}
+use mathlib.Core.Bool.{Bool, true, false, cond, _&&_, _||_, or-assoc}
+use mathlib.Core.List.{List, [], _∷_, _++_}
+use lib.ListN.{length, take, drop, getD}
+use lib.Seq.{take-nil, take-take}
 use Rattle.row_format.specs.Lists.{any, least}
 
 -- ---- tests
@@ -48,6 +50,11 @@ cond-zero-rest false e d z = z
 
 -- ---- any
 module _ {A : Type 0} (f : A → Bool) where
+  pub any-append : (a b : List A) → any f (a ++ b) ≡ (any f a || any f b)
+  unfolding any
+  any-append [] b = refl
+  any-append (x ∷ a) b = ap (λ (q : Bool). f x || q) (any-append a b) ∙ sym (or-assoc (f x) (any f a) (any f b))
+
   pub any-false-head : (x : A) (xs : List A) → any f (x ∷ xs) ≡ false → f x ≡ false
   unfolding any
   any-false-head x xs e = or-false-left (f x) (any f xs) e
@@ -103,3 +110,13 @@ least-same f g (suc m) (suc n) (suc k) hm hn same e =
     let rest : least (λ j. f (suc j)) m ≡ least (λ j. g (suc j)) n =
     least-same (λ j. f (suc j)) (λ j. g (suc j)) m n k (omega arith) (omega arith) (λ j h. same (suc j) (omega arith)) e in
     rw (same 0 (omega arith), rest)
+
+-- ---- a part of what stands in front
+pub drop-take : (n k : ℕ) (l : List ℕ) → drop n (take k l) ≡ take (k - n) (drop n l)
+drop-take zero k l = rw (sub-zero k)
+drop-take (suc n) zero l = rw (zero-sub (suc n))
+drop-take (suc n) (suc k) [] = sym (take-nil (suc k - suc n))
+drop-take (suc n) (suc k) (x ∷ l) = drop-take n k l ∙ rw (suc-sub-suc k n)
+
+pub field-take : (at n k : ℕ) (l : List ℕ) → at + n ≤ k → take n (drop at (take k l)) ≡ take n (drop at l)
+field-take at n k l h = rw (drop-take at k l) (take-take n (k - at) (drop at l) (omega arith))

@@ -196,9 +196,16 @@ unfolding tableNumber
 tableNumber-whole b e =
     by-test (eqb (length b % 4) 0) (eqb-true (length b % 4) 0) (λ odd. absurd (omega (arith, rw odd at e)))
 
+pub right-size : (t : List ℕ) → verdict t ≡ 0 → wrongSize t ≡ false
+unfolding verdict
+right-size t e = cond-zero-test (wrongSize t) 0 (cond (wrongCodeword t) 2 (cond (clash (codewords t)) 3 0)) e
+
 pub tableNumber-verdict : (b : List ℕ) → tableNumber b ≡ 0 → verdict (wordsOf b) ≡ 0
 unfolding tableNumber
 tableNumber-verdict b e = rw (eq-eqb (length b % 4) 0 (tableNumber-whole b e)) at e
+
+pub accepted-table : (b : List ℕ) → tableNumber b ≡ 0 → Accepted (wordsOf b)
+accepted-table b e = accepted (wordsOf b) (tableNumber-verdict b e)
 
 module _ (t : List ℕ) (ok : Accepted t) where
   -- "Lengths are 1 to 27"

@@ -1,17 +1,17 @@
 -- Demand 3: runs of words that are alike in their first n times M bits, rounded up to whole words, are unpacked alike. This
 -- holds under every table, accepted or not. Assumes nothing.
 use Prim.Native.Nat.{_/_, ℕ, zero, suc, _+_, _-_, _*_, _≤_}
-use native.Mathlib.Nat.{suc-mul, sub-zero, zero-sub, suc-sub-suc}
+use native.Mathlib.Nat.{suc-mul}
 use native.Mathlib.Omega.{arith}
 use mathlib.Core.Path.{_≡_, refl, sym, ap, _∙_}
 use mathlib.Core.Bool.{Bool, true, false, not}
-use mathlib.Core.List.{List, [], _∷_}
+use mathlib.Core.List.{List}
 use lib.ListN.{length, take, drop, length-drop}
-use lib.Seq.{length-take-le, take-take, take-nil}
+use lib.Seq.{length-take-le, take-take}
 use borrow.Author.Tests.{le-ltb}
 use Rattle.bitstream.specs.Bits.{flat, begins, wordsOf, stream, wordsFor}
 use Rattle.row_format.specs.Lists.{any}
-use Rattle.row_format.specs.Lists.Laws.{least-same}
+use Rattle.row_format.specs.Lists.Laws.{least-same, field-take, drop-take}
 use Rattle.row_format.specs.BitLaws.{stream-take, length-stream}
 use Rattle.row_format.specs.Table.{codewords, codewordAt, longest, maxItemBits}
 use Rattle.row_format.specs.Table.Laws.{length-codewordAt, longest-maxItemBits, escapeLength-most}
@@ -21,16 +21,6 @@ use Rattle.answer.specs.Outcome.{Outcome, unless}
 use Rattle.row_format.specs.Calls.{unpackNumber, usedByRun, afterRun, unpacked}
 use Rattle.row_format.specs.Theorems.Search.{Found, find-found, find-take, any-begins-none, any-begins-none-take}
 use Rattle.row_format.specs.Theorems.Bounds.{bitsOfReading, readItem-uses, readItems-uses}
-
-drop-take : (n k : ℕ) (l : List ℕ) → drop n (take k l) ≡ take (k - n) (drop n l)
-drop-take zero k l = rw (sub-zero k)
-drop-take (suc n) zero l = rw (zero-sub (suc n))
-drop-take (suc n) (suc k) [] = sym (take-nil (suc k - suc n))
-drop-take (suc n) (suc k) (x ∷ l) = drop-take n k l ∙ rw (suc-sub-suc k n)
-
--- a field that lies in front
-field-take : (at n k : ℕ) (l : List ℕ) → at + n ≤ k → take n (drop at (take k l)) ≡ take n (drop at l)
-field-take at n k l h = rw (drop-take at k l) (take-take n (k - at) (drop at l) (omega arith))
 
 -- ---- one item
 unmatched-take : (ss : List (List ℕ)) (r : List ℕ) (k : ℕ) → longest ss ≤ k → k ≤ length r → any (λ s. begins s r) ss ≡ false

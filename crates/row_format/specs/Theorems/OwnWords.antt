@@ -15,7 +15,7 @@ use Rattle.bitstream.specs.Bits.Laws.{Below, below-nil, below-cons, below-head,
 use Rattle.row_format.specs.Lists.{any}
 use Rattle.row_format.specs.Lists.Laws.{any-false-head, any-false-tail, or-false-left, or-false-right}
 use Rattle.row_format.specs.BitLaws.{bitsOf-inj, bitsOf-bytesOf, stream-take, length-stream}
-use Rattle.row_format.specs.Table.Laws.{Accepted, accepted, tableNumber-verdict}
+use Rattle.row_format.specs.Table.Laws.{Accepted, accepted-table}
 use Rattle.row_format.specs.Row.{Item, difference, badPixel, badBias, escape, State, fresh, previous, differenceTo, byDifference, itemFor, pixelOf, after, itemsFor, pixelsOf, bits, rowBits}
 use Rattle.row_format.specs.Reading.{done, readItems, stray, needless, anyNeedless}
 use Rattle.row_format.specs.Calls.{packNumber, packed, unpacked}
@@ -155,16 +155,13 @@ module _ (t : List ℕ) (ok : Accepted t) (wb : List ℕ) (bytes : Below 256 wb)
 
 -- ---- the same of the calls: a done unpacking, and a packing of the pixels that it left
 module _ (tb wb : List ℕ) (n : ℕ) (m : List ℕ) (bytes : Below 256 wb) (got : Accepts tb wb n m) where
-  accepted-table : Accepted (wordsOf tb)
-  accepted-table = accepted (wordsOf tb) (tableNumber-verdict tb (got .given .table))
-
   pixels-left : halvesOf (take (2 * n) (unpacked tb wb n m .memory)) ≡ pixelsOf fresh (got .items)
   pixels-left =
       let t = wordsOf tb in
       let is = got .items in
       let ps = pixelsOf fresh is in
       let b = bytesOf (2 * n) (flat 16 ps) in
-      let there = readItems-stands t accepted-table n (stream wb) is (got .used) (below-flat 8 _) (got .read) in
+      let there = readItems-stands t (accepted-table tb (got .given .table)) n (stream wb) is (got .used) (below-flat 8 _) (got .read) in
       let low = any-false-below ps (any-pixelsOf t fresh is (there .fits)) in
       rw (got .left, take-at b (drop (length b) m) (2 * n) (length-cut 8 (2 * n) (flat 16 ps)))
       (halvesOf-bytesOf n ps (length-pixelsOf fresh is ∙ there .count) low)
@@ -177,4 +174,4 @@ module _ (tb wb : List ℕ) (n : ℕ) (m : List ℕ) (bytes : Below 256 wb) (got
       ↔ (anyNeedless (wordsOf tb) fresh (got .items) ≡ false)
   own-words-packed mw e =
       rw (packed-front tb (take (2 * n) (unpacked tb wb n m .memory)) mw e, pixels-left, got .left)
-      (own-words (wordsOf tb) accepted-table wb bytes n (got .items) (got .used) (got .read) (got .clean))
+      (own-words (wordsOf tb) (accepted-table tb (got .given .table)) wb bytes n (got .items) (got .used) (got .read) (got .clean))

@@ -1,14 +1,14 @@
 -- The laws of items and states as the code holds them. Assumes nothing.
 use Prim.Native.Nat.{ℕ}
 use native.Mathlib.Omega.{arith}
-use mathlib.Core.Path.{_≡_, sym, ap, _∙_}
+use mathlib.Core.Path.{_≡_, refl, sym, ap, _∙_}
 use mathlib.Core.Bool.{Bool, true, false}
 use lib.IntN.{ℤ}
 use Rattle.row_format.specs.Row as row
 use Rattle.row_item.specs.declared.Item.{Item}
 use Rattle.row_item.specs.declared.Item.the-variants.{Difference, BadPixel, BadBias, Escape}
 use Rattle.row_item.specs.declared.Progress.{Progress}
-use Rattle.row_item.specs.Coded.{coded, progress, Followed}
+use Rattle.row_item.specs.Coded.{coded, progress, stateOf, Followed}
 
 -- ---- items of different kinds are different
 abbrev kind : Item → ℕ
@@ -72,3 +72,8 @@ module _ (p : Progress) (pixel : ℕ) where
       go s row.badBias q e x = other e (λ n. omega arith)
       go row.fresh (row.escape k) q e x = absurd (mathlib.Core.Bool.true≢false (sym b ∙ ap (λ (y : Progress). y .begun) q))
       go (row.past v) (row.escape k) q e x = q
+
+-- ---- the state that is held
+pub stateOf-progress : (s : row.State) → stateOf (progress s) ≡ s
+stateOf-progress row.fresh = refl
+stateOf-progress (row.past h) = refl

@@ -1,27 +1,23 @@
 -- The laws of one pixel of a row. Assumes nothing.
 use Prim.Native.Nat.{ℕ, _≤_}
 use native.Mathlib.Omega.{arith}
-use mathlib.Core.Path.{_≡_, refl, sym, ap, _∙_, subst}
+use mathlib.Core.Path.{_≡_, sym, ap, _∙_, subst}
 use mathlib.Core.List.{List}
 use Rattle.row_format.specs.Row as row
-use Rattle.row_format.specs.Row.{State, fresh, past, previous, itemFor, itemBits, after}
+use Rattle.row_format.specs.Row.{State, previous, itemFor, itemBits, after}
 use Rattle.row_format.specs.Theorems.Items.{Right, itemFor-right, after-height}
 use Rattle.row_item.specs.declared.Item.{Item}
 use Rattle.row_item.specs.declared.Progress.{Progress}
-use Rattle.row_item.specs.Coded.{progress, coded, Followed}
+use Rattle.row_item.specs.Coded.{progress, coded, Followed, stateOf}
+use Rattle.row_item.specs.Coded.Laws.{stateOf-progress}
 use Rattle.row_packer.specs.Header.{HeaderOf}
 use Rattle.row_packer.specs.Item.{Chosen}
 use Rattle.row_packer.specs.Item.Laws.{previous-progress}
 use Rattle.row_packer.specs.Field.{Holds, plain, Codable}
 use Rattle.row_packer.specs.Field.Laws.{plain-coded, codable}
-use Rattle.row_packer.specs.Encode.{stateOf, Sound, Encodes}
+use Rattle.row_packer.specs.Encode.{Sound, Encodes}
 use Rattle.row_packer.specs.declared.header.Header.{Header}
 use Rattle.row_packer.specs.declared.field.Field.{Field}
-
--- ---- states as the code holds them
-stateOf-progress : (s : State) → stateOf (progress s) ≡ s
-stateOf-progress fresh = refl
-stateOf-progress (past h) = refl
 
 pub sound-progress : {p : Progress} (s : State) → p ≡ progress s → previous s ≤ 4093 → Sound p
 sound-progress s e h = rw e (record { is = ap progress (sym (stateOf-progress s)); height = rw (previous-progress s) h })

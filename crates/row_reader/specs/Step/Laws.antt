@@ -1,7 +1,7 @@
 -- The laws of a reader's step. Assumes nothing.
 use Prim.Native.Nat.{ℕ, _+_, _≤_, _<_}
 use native.Mathlib.Omega.{arith}
-use mathlib.Core.Path.{_≡_, refl, sym, _∙_}
+use mathlib.Core.Path.{_≡_, sym, _∙_}
 use mathlib.Core.Bool.{true, false}
 use mathlib.Core.List.{List}
 use lib.ListN.{drop}
@@ -11,10 +11,11 @@ use Rattle.row_format.specs.Row as row
 use Rattle.row_format.specs.Reading.{Reading, item, fault, readItem}
 use Rattle.row_item.specs.declared.Item.{Item}
 use Rattle.row_item.specs.declared.Progress.{Progress}
-use Rattle.row_item.specs.Coded.{coded, progress, Followed}
+use Rattle.row_item.specs.Coded.{coded, progress, Followed, stateOf}
+use Rattle.row_item.specs.Coded.Laws.{stateOf-progress}
 use Rattle.row_unpacker.specs.declared.item.Read.{Read}
 use Rattle.row_unpacker.specs.declared.item.Read.the-variants.{Got, Refused}
-use Rattle.row_unpacker.specs.Item.{stateOf, answered, itemAt}
+use Rattle.row_unpacker.specs.Item.{answered, itemAt}
 use Rattle.row_reader.specs.declared.step.Place.{Place}
 use Rattle.row_reader.specs.declared.step.ItemRead.{ItemRead}
 use Rattle.row_reader.specs.Step.{refusedAt, given, itemRead}
@@ -25,10 +26,6 @@ settled-begun p e = (λ i. record { begun = e i; previous = p .previous }) ∙ r
 
 pub settled-fresh : (p : Progress) → p .begun ≡ false → _≡_ {A = Progress} (record { begun = false; previous = 0 }) (progress (stateOf p))
 settled-fresh p e = rw e
-
-pub stateOf-progress : (s : row.State) → stateOf (progress s) ≡ s
-stateOf-progress row.fresh = refl
-stateOf-progress (row.past h) = refl
 
 -- ---- the ways out of a step
 module _ (tb wb : List ℕ) (pl : Place) where

@@ -22,12 +22,11 @@ use Rattle.row_format.specs.Calls.{unpacked, afterRun}
 use Rattle.row_format.specs.Calls.Laws.{Unpackable, unpackNumber-unpackable}
 use Rattle.row_format.specs.Theorems.Bounds.{bitsOfReading, readItem-uses}
 use Rattle.row_format.specs.Theorems.Numbers.{FaultIn, readItem-in}
-use Rattle.row_item.specs.Coded.{progress}
-use Rattle.row_unpacker.specs.Item.{stateOf}
+use Rattle.row_item.specs.Coded.{progress, stateOf}
+use Rattle.row_item.specs.Coded.Laws.{stateOf-progress}
 use Rattle.row_reader.specs.declared.step.Place.{Place}
 use Rattle.row_reader.specs.declared.step.ItemRead.{ItemRead}
 use Rattle.row_reader.specs.Step.{startPlace, refusedAt, given, itemRead}
-use Rattle.row_reader.specs.Step.Laws.{stateOf-progress}
 use Rattle.row_reader.specs.Walk.{Walk, gave, ended, onto, walk}
 
 -- ---- one step

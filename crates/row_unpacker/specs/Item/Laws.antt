@@ -21,10 +21,11 @@ use Rattle.code_table.specs.Check.Laws.{length-words}
 use Rattle.code_table.specs.Entry.Laws.{signed-fits}
 use Rattle.row_item.specs.declared.Item.the-variants.{Difference, BadPixel, BadBias, Escape}
 use Rattle.row_item.specs.declared.Progress.{Progress}
+use Rattle.row_item.specs.Coded.{stateOf}
 use Rattle.row_unpacker.specs.View.{Seen}
 use Rattle.row_unpacker.specs.View.Laws.{low-window}
 use Rattle.row_unpacker.specs.Search.{hit, Finds, CutShort}
-use Rattle.row_unpacker.specs.Item.{stateOf, answered, itemAt, foundAt, entryAt, HeightAt}
+use Rattle.row_unpacker.specs.Item.{answered, itemAt, foundAt, entryAt, HeightAt}
 use Rattle.row_unpacker.specs.declared.view.View.{View}
 use Rattle.row_unpacker.specs.declared.search.Hit.{Hit}
 use Rattle.row_unpacker.specs.declared.search.Hit.the-variants.{At, Nowhere}

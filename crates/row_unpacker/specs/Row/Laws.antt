@@ -1,39 +1,30 @@
 -- The laws of a row read item by item. Assumes nothing.
-use Prim.Native.Nat.{ℕ, zero, suc, _+_, _-_, _*_, _≤_, _<_}
-use native.Mathlib.Nat.{zero-add, add-zero, add-assoc, suc-add, mul-suc, sub-zero}
+use Prim.Native.Nat.{ℕ, suc, _+_, _-_, _*_, _≤_, _<_}
+use native.Mathlib.Nat.{zero-add, add-zero, add-assoc, sub-zero}
 use native.Mathlib.Omega.{arith}
 use mathlib.Core.Path.{_≡_, refl, sym, ap, _∙_, subst⁻¹}
 use mathlib.Core.List.{List, [], _∷_, _++_, append-assoc, append-nil}
-use lib.ListN.{length, take, drop, length-drop}
-use lib.Seq.{take-append-le, drop-append-le, drop-drop}
+use lib.ListN.{length, take, drop}
+use lib.Seq.{drop-drop}
 use Rattle.bitstream.specs.Bits.{digits, flat, cut, bytesOf}
-use Rattle.bitstream.specs.Bits.Laws.{length-cut, length-digits}
+use Rattle.bitstream.specs.Bits.Laws.{length-cut, length-digits, cut-append}
 use Rattle.bitstream.specs.Memory.{overwritten}
 use Rattle.bitstream.specs.Memory.Laws.{take-overwritten, length-overwritten}
 use Rattle.row_format.specs.Table.{codewords, longest, maxItemBits}
 use Rattle.row_format.specs.Table.Laws.{getD-codewords, length-codewordAt, longest-most}
-use Rattle.row_format.specs.Row.{State, fresh, past, pixelOf, after, pixelsOf}
+use Rattle.row_format.specs.Row.{State, fresh, pixelOf, after, pixelsOf}
 use Rattle.row_format.specs.Row as row
 use Rattle.row_format.specs.Reading.{Reading, item, fault, Run, done, stop, prepend, follow, readBy, readItem}
 use Rattle.row_format.specs.Theorems.Bounds.{bitsOfReading, readItem-uses}
 use Rattle.row_item.specs.declared.Item.{Item}
 use Rattle.row_item.specs.declared.Progress.{Progress}
-use Rattle.row_item.specs.Coded.{coded, progress, Followed}
-use Rattle.row_unpacker.specs.Item.{stateOf, answered}
+use Rattle.row_item.specs.Coded.{coded, progress, Followed, stateOf}
+use Rattle.row_item.specs.Coded.Laws.{stateOf-progress}
+use Rattle.row_unpacker.specs.Item.{answered}
 use Rattle.row_unpacker.specs.Row.{Reached, whole, halted, reached, on, RowIs, Partly}
 use Rattle.row_unpacker.specs.declared.item.Read.{Read}
 use Rattle.row_unpacker.specs.declared.item.Read.the-variants.{Got, Refused}
 use Rattle.row_unpacker.specs.declared.row.RowRead.the-variants as row-read
-
--- ---- bytes
-cut-append : (w m n : ℕ) (a b : List ℕ) → length a ≡ w * m → cut w (m + n) (a ++ b) ≡ cut w m a ++ cut w n b
-unfolding cut
-cut-append w zero n [] b h = ap (λ (k : ℕ). cut w k b) (zero-add n)
-cut-append w zero n (x ∷ a) b h = absurd (omega arith)
-cut-append w (suc m) n a b h =
-    let within : w ≤ length a = omega (arith, mul-suc w m) in
-    let rest : length (drop w a) ≡ w * m = omega (arith, mul-suc w m, length-drop w a) in
-    rw (suc-add m n, take-append-le w a b within, drop-append-le w a b within, cut-append w m n (drop w a) b rest)
 
 -- the bytes of one pixel more
 bytes-cons : (n p : ℕ) (ps : List ℕ) → bytesOf (2 * suc n) (flat 16 (p ∷ ps)) ≡ bytesOf 2 (digits 16 p) ++ bytesOf (2 * n) (flat 16 ps)
@@ -56,11 +47,6 @@ on-none (halted e p) = rw (zero-add p)
 on-on : (b c : List ℕ) (at u : ℕ) (x : Reached) → on b at (on c u x) ≡ on (b ++ c) (at + u) x
 on-on b c at u (whole d v) = rw (append-assoc b c d, add-assoc at u v)
 on-on b c at u (halted e p) = rw (add-assoc at u p)
-
--- ---- states
-pub stateOf-progress : (s : State) → stateOf (progress s) ≡ s
-stateOf-progress fresh = refl
-stateOf-progress (past h) = refl
 
 -- ---- no item has more than 43 bits, under any table
 pub maxItemBits-any : (t : List ℕ) → maxItemBits t ≤ 43

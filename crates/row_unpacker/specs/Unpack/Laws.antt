@@ -20,7 +20,7 @@ use Rattle.row_format.specs.Table.{tableNumber}
 use Rattle.row_format.specs.Row.{fresh, pixelsOf}
 use Rattle.row_format.specs.Reading.{Run, done, stop, readItems, stray}
 use Rattle.row_format.specs.Calls.{checked, afterRun, usedByRun, unpackNumber, unpacked}
-use Rattle.row_format.specs.Calls.Laws.{checked-number, unpackNumber-unpackable}
+use Rattle.row_format.specs.Calls.Laws.{unpackNumber-unpackable, answer-number}
 use Rattle.row_format.specs.Theorems.Bounds.{readItems-uses}
 use Rattle.row_unpacker.specs.View.{Seen}
 use Rattle.row_unpacker.specs.View.Laws.{low-window}
@@ -104,18 +104,15 @@ module _ (r : List ℕ) (n : ℕ) (m out : List ℕ) (x : RowRead) where
   row-refused number place e (stop k at u) h = let same : k ≡ number = cc in rw same
 
 module _ (tb wb : List ℕ) (n : ℕ) (m : List ℕ) (a : Answer) (is : a ≡ checked tb) where
-  number-checked : a .number ≡ tableNumber tb
-  number-checked = ap (λ (x : Answer). x .number) is ∙ checked-number tb
-
   pub unpacked-table : (a .number ≡ 0 → ⊥) → refused (a .number) m ≡ unpacked tb wb n m
   unfolding unpacked unpackNumber
   unpacked-table bad =
-      let e : a .number ≡ tableNumber tb = number-checked in
+      let e : a .number ≡ tableNumber tb = answer-number tb is in
       ap (λ (k : ℕ). refused k m) e ∙ sym (unless-first (tableNumber tb) _ m _ (λ z. bad (e ∙ z)))
 
   module _ (ok : a .number ≡ 0) where
     pub accepted-table : tableNumber tb ≡ 0
-    accepted-table = sym number-checked ∙ ok
+    accepted-table = sym (answer-number tb is) ∙ ok
 
     pub unpacked-many : 4096 < n → refused 11 m ≡ unpacked tb wb n m
     unfolding unpacked unpackNumber

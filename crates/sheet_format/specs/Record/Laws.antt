@@ -1,20 +1,25 @@
 -- The laws of a record's number: it is 0 exactly where each of its parts is. Assumes nothing.
 use Prim.Native.Nat.{ℕ, zero, suc, _+_, _-_, _≤_, _<_}
-use native.Mathlib.Nat.{sub-zero, zero-sub, suc-sub-suc}
 use native.Mathlib.Decide.{decLt}
 use native.Mathlib.Omega.{arith}
-use mathlib.Core.Path.{_≡_, refl, sym, ap, _∙_}
+use mathlib.Core.Path.{_≡_, refl, ap, _∙_}
 use mathlib.Core.Logic.{by-cases}
 use mathlib.Core.Bool.{Bool, true, false}
-use mathlib.Core.List.{List, [], _∷_}
+use mathlib.Core.List.{List}
 use lib.ListN.{length, take, drop}
-use lib.Seq.{take-nil}
 use lib.Dec.{ltb}
 use borrow.Author.Tests.{lt-ltb, le-ltb}
 use Rattle.answer.specs.Outcome.{_orElse_, refuseIf}
 use Rattle.answer.specs.Outcome.Laws.{lessNumber-zero, orElse-zero-left, orElse-zero-right}
+use Rattle.row_format.specs.Lists.Laws.{drop-take}
+use Rattle.row_format.specs.Calls.Laws.{tooMany-zero}
+use Rattle.row_format.specs.Calls.{tooMany}
 use Rattle.sheet_format.specs.declared.SheetState.{SheetState}
 use Rattle.sheet_format.specs.Record.{lengthField, kindField, bodyOf, Kind, unknown, kindOf, rowNumber, lengthNumber, kindNumber, fixedNumber, placeNumber, Lent, bodyNumber, leftoverNumber, lastRoomNumber, contentNumber, recordNumber}
+
+-- ---- the count
+pub few : (n e : ℕ) → tooMany n orElse e ≡ 0 → n ≤ 4096
+few n e h = tooMany-zero n (orElse-zero-left (tooMany n) e h)
 
 -- ---- the length
 pub record RightLength (r : List ℕ) : Type 0 where
@@ -77,13 +82,6 @@ lengthNumber-wrong r h =
       le-ltb (lengthField r) 2 (omega arith),
       lt-ltb 32774 (lengthField r) (h (omega arith)),
     )))
-
--- ---- the body
-pub drop-take : (n k : ℕ) (l : List ℕ) → drop n (take k l) ≡ take (k - n) (drop n l)
-drop-take zero k l = rw (sub-zero k)
-drop-take (suc n) zero l = rw (zero-sub (suc n))
-drop-take (suc n) (suc k) [] = sym (take-nil (suc k - suc n))
-drop-take (suc n) (suc k) (x ∷ l) = drop-take n k l ∙ rw (suc-sub-suc k n)
 
 -- the record's bytes from place 6 on
 pub bodyOf-whole : (r : List ℕ) → drop 6 (take (4 + lengthField r) r) ≡ bodyOf r

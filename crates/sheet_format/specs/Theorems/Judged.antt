@@ -22,14 +22,10 @@ use Rattle.sheet_format.specs.declared.SheetState.{SheetState}
 use Rattle.sheet_format.specs.Line.{Line, numbers, faulty, wordOf}
 use Rattle.sheet_format.specs.Line.Laws.{Gives, readLine-gives}
 use Rattle.sheet_format.specs.Record.{kindField, bodyOf, Kind, tableRecord, packedRecord, plainRecord, lineRecord, unknown, kindOf, rowNumber, pixelCount, rowContent, numberCount, lineContent, runOf, lineOf, fixedNumber, placeNumber, Lent, nothing, lent, roomNumber, runNumber, packedNumber, plainNumber, faultNumber, lineNumber, bodyNumber, leftoverNumber, lastRoomNumber, contentNumber, recordNumber}
-use Rattle.sheet_format.specs.Record.Laws.{Passed}
+use Rattle.sheet_format.specs.Record.Laws.{Passed, few}
 use Rattle.sheet_format.specs.Record.Rows.{packedNumber-enough}
 use Rattle.sheet_format.specs.Reading.{countHeld, contentBytes, contentHeld, pixelBytes, numberBytes, recordJudged, recordRead}
 use Rattle.sheet_format.specs.Reading.Laws.{recordRead-answer}
-
--- ---- an accepted body
-few : (n e : ℕ) → tooMany n orElse e ≡ 0 → n ≤ 4096
-few n e h = lessNumber-zero 4096 n 10 (orElse-zero-left (tooMany n) e h)
 
 run-content : (n : ℕ) (r : List ℕ) (x : Run) → StopIn (λ e. 0 < e) x → runNumber r x ≡ 0 → length (pixelBytes n x) ≡ 2 * n
 run-content n r (done is u) h e = length-cut 8 (2 * n) (flat 16 (pixelsOf fresh is))

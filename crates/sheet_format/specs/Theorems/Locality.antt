@@ -9,15 +9,12 @@ use lib.ListN.{length, take, drop, length-append, length-drop}
 use lib.Seq.{take-append-le, drop-append-le, take-take, length-take-le, take-all}
 use borrow.Author.Tests.{le-ltb, lt-ltb}
 use Rattle.bitstream.specs.Bits.{numberOf}
+use Rattle.row_format.specs.Lists.Laws.{field-take}
 use Rattle.sheet_format.specs.declared.SheetState.{SheetState}
 use Rattle.sheet_format.specs.Record.{lengthField, kindField, bodyOf, Lent, nothing, lent, lengthNumber, recordNumber, recordSpan}
-use Rattle.sheet_format.specs.Record.Laws.{drop-take, RightLength, lengthNumber-right, lengthNumber-wrong, recordNumber-read}
+use Rattle.sheet_format.specs.Record.Laws.{RightLength, lengthNumber-right, lengthNumber-wrong, recordNumber-read}
 use Rattle.sheet_format.specs.Reading.{recordHeld, recordContent, refusedRecord, recordJudged, recordRead, readRefused}
 use Rattle.sheet_format.specs.Reading.Laws.{recordJudged-number, recordJudged-done}
-
--- a field that lies in front
-field-take : (at n k : ℕ) (l : List ℕ) → at + n ≤ k → take n (drop at (take k l)) ≡ take n (drop at l)
-field-take at n k l h = rw (drop-take at k l) (take-take n (k - at) (drop at l) (omega arith))
 
 pub field-front : (at n k : ℕ) (l rest : List ℕ) → at + n ≤ k → k ≤ length l
     → take n (drop at (take k l ++ rest)) ≡ take n (drop at l)

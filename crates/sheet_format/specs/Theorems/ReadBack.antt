@@ -13,15 +13,12 @@ use Rattle.row_format.specs.Table.{tableNumber}
 use Rattle.row_format.specs.Calls.{tooMany}
 use Rattle.sheet_format.specs.declared.SheetState.{SheetState}
 use Rattle.sheet_format.specs.Record.{bodyOf, Kind, tableRecord, packedRecord, plainRecord, lineRecord, unknown, kindOf, kindNumber, Lent, nothing, lent, roomNumber, recordNumber}
-use Rattle.sheet_format.specs.Record.Laws.{kindOf-known, contentNumber-passed}
+use Rattle.sheet_format.specs.Record.Laws.{kindOf-known, contentNumber-passed, few}
 use Rattle.sheet_format.specs.Reading.{recordHeld, recordContent, recordJudged, recordRead, readDone}
 use Rattle.sheet_format.specs.Writing.{givenPixels, givenNumbers, bodyFor, tooHigh, givenNumber, recordFor}
 use Rattle.sheet_format.specs.Writing.Laws.{Fields, fields-recordBytes, length-recordBytes, Writable, doneAnswer}
 use Rattle.sheet_format.specs.Theorems.Given.{contentGiven, recordGiven}
 use Rattle.sheet_format.specs.Theorems.Bodies.{Back, table-back, packed-back, plain-back, line-back}
-
-few-pixels : (n e : ℕ) → tooMany n orElse e ≡ 0 → n ≤ 4096
-few-pixels n e h = lessNumber-zero 4096 n 10 (orElse-zero-left (tooMany n) e h)
 
 body-back : (k : Kind) (row : ℕ) (tb c : List ℕ) → row < 65536 → Below 256 c → kindNumber k ≡ 0 → givenNumber k tb c ≡ 0
     → Back k row tb c (bodyFor k row tb c)
@@ -30,12 +27,12 @@ body-back tableRecord row tb c small bytes known given = table-back row tb c giv
 body-back packedRecord row tb c small bytes known given =
     let n = length (givenPixels c) in
     let after-table = orElse-zero-right (tableNumber tb) (tooMany n orElse tooHigh c) given in
-    packed-back row tb c small bytes (few-pixels n (tooHigh c) after-table)
+    packed-back row tb c small bytes (few n (tooHigh c) after-table)
     (refuseIf-zero (any (ltb 4095) (givenPixels c)) 3 (orElse-zero-right (tooMany n) (tooHigh c) after-table))
     (orElse-zero-left (tableNumber tb) (tooMany n orElse tooHigh c) given)
 body-back plainRecord row tb c small bytes known given =
     let n = length (givenPixels c) in
-    plain-back row tb c small bytes (few-pixels n (tooHigh c) given)
+    plain-back row tb c small bytes (few n (tooHigh c) given)
     (refuseIf-zero (any (ltb 4095) (givenPixels c)) 3 (orElse-zero-right (tooMany n) (tooHigh c) given))
 body-back lineRecord row tb c small bytes known given =
     line-back row tb c bytes (lessNumber-zero 4096 (length (givenNumbers c)) 10 given)

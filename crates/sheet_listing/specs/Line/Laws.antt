@@ -2,13 +2,11 @@
 use Prim.Native.Nat.{ℕ, zero, suc, _/_, _≤_}
 use native.Mathlib.Omega.{arith}
 use mathlib.Core.Path.{_≡_, refl}
-use mathlib.Core.Bool.{false, cond}
 use mathlib.Core.List.{List, []}
 use lib.ListN.{length}
 use Rattle.bitstream.specs.Bits.{wordsOf}
-use Rattle.row_format.specs.Lists.Laws.{cond-zero-test}
-use Rattle.row_format.specs.Table.{wrongSize, wrongCodeword, clash, codewords, verdict, tableNumber, maxItemBits}
-use Rattle.row_format.specs.Table.Laws.{tableNumber-whole, tableNumber-verdict}
+use Rattle.row_format.specs.Table.{tableNumber, maxItemBits}
+use Rattle.row_format.specs.Table.Laws.{tableNumber-whole, tableNumber-verdict, right-size}
 use Rattle.row_format.specs.Calls.{checked}
 use Rattle.code_table.specs.Check.{WholeTable}
 use Rattle.code_table.specs.Check.Laws.{whole-table-words}
@@ -16,11 +14,6 @@ use Rattle.sheet_format.specs.declared.RecordRead.{RecordRead}
 use Rattle.sheet_format.specs.Record.{unknown, kindOf}
 use Rattle.text.specs.Lines.{packedLine, plainLine, contourLine, doneLine, refusedAtLine}
 use Rattle.sheet_listing.specs.Line.{tableText, lineFor, answerLine, lastLine}
-
--- ---- an accepted table
-right-size : (t : List ℕ) → verdict t ≡ 0 → wrongSize t ≡ false
-unfolding verdict
-right-size t e = cond-zero-test (wrongSize t) 0 (cond (wrongCodeword t) 2 (cond (clash (codewords t)) 3 0)) e
 
 module _ (b : List ℕ) (ok : tableNumber b ≡ 0) where
   whole : WholeTable b

@@ -9,11 +9,10 @@ use lib.Dec.{ltb}
 use borrow.Author.Tests.{lt-ltb, le-ltb, ltb-false}
 use Rattle.answer.specs.declared.Answer.{Answer}
 use Rattle.answer.specs.Outcome.{Outcome, answerOf, outcome, refused, _orElse_}
-use Rattle.row_format.specs.Lists.Laws.{by-test}
+use Rattle.row_format.specs.Lists.Laws.{by-test, drop-take}
 use Rattle.row_format.specs.Table.{tableNumber}
 use Rattle.sheet_format.specs.declared.SheetState.{SheetState}
 use Rattle.sheet_format.specs.declared.RecordRead.{RecordRead}
-use Rattle.sheet_format.specs.Record.Laws.{drop-take}
 use Rattle.sheet_format.specs.Reading.{refusedRecord, recordJudged}
 use Rattle.sheet_format.specs.Sheet.Laws.{recordHere}
 use Rattle.sheet_format.specs.Theorems.{record-length, kept-table, judged-refused-keeps}

@@ -9,18 +9,11 @@ use lib.Seq.{take-suc, take-all, length-take-le, take-at, drop-drop, drop-at}
 use lib.IntN.{ℤ, pos}
 use Rattle.bitstream.specs.Part.{partFrom, withPart, part-is, part-back}
 use Rattle.answer.specs.declared.Answer.{Answer}
-use Rattle.adaptive.specs.Number.{signed, shortest}
 use Rattle.sheet_format.specs.Line.{lineBytes}
 use Rattle.sheet_format.specs.Line.Laws.{length-lineBytes}
+use Rattle.sheet_format.specs.Line.Steps.{lineBytes-append}
 use Rattle.sheet_writer.specs.Numbers.{bytesAt, Reached, Putting}
 use Rattle.sheet_writer.specs.Number.{Wrote}
-
--- ---- the bytes of the first numbers
-lineBytes-append : (vs ws : List ℤ) → lineBytes (vs ++ ws) ≡ lineBytes vs ++ lineBytes ws
-unfolding lineBytes
-lineBytes-append [] ws = refl
-lineBytes-append (v ∷ vs) ws =
-    ap (shortest signed v ++_) (lineBytes-append vs ws) ∙ sym (append-assoc (shortest signed v) (lineBytes vs) (lineBytes ws))
 
 module _ (vs : List ℤ) (i : ℕ) (h : i < length vs) where
   lineBytes-next : lineBytes (take (i + 1) vs) ≡ lineBytes (take i vs) ++ bytesAt vs i

@@ -21,9 +21,9 @@ use Rattle.row_format.specs.Row.{rowBits}
 use Rattle.row_format.specs.Calls.{packNumber}
 use Rattle.row_format.specs.Calls.Laws.{Packable, packable, packed-done, packed-number}
 use Rattle.row_format.specs.Theorems.Memory.{packed-kept, packed-within}
+use Rattle.row_format.specs.Table.Laws.{accepted-table}
 use Rattle.row_pixels.specs.Pixels.{length-halves}
 use Rattle.row_packer.specs.Measure.Laws.{rowBits-most}
-use Rattle.row_packer.specs.Calls.{accepted-table}
 use Rattle.sheet_format.specs.declared.SheetState.{SheetState}
 use Rattle.sheet_format.specs.declared.RecordWritten.{RecordWritten}
 use Rattle.sheet_format.specs.Record.{packedRecord, kindNumber}

@@ -2,14 +2,12 @@
 use Prim.Native.Nat.{ℕ, zero, suc, _+_, _-_, _/_, _≤_}
 use native.Mathlib.Omega.{arith}
 use mathlib.Core.Path.{_≡_, refl, sym, ap, _∙_}
-use mathlib.Core.Bool.{false, cond}
 use mathlib.Core.List.{List, [], _∷_, map}
 use lib.ListN.{length, drop}
 use Rattle.bitstream.specs.Bits.{wordsOf}
 use Rattle.bitstream.specs.Bits.Laws.{Below}
-use Rattle.row_format.specs.Lists.Laws.{cond-zero-test}
-use Rattle.row_format.specs.Table.{tableSize, codewordAt, wrongSize, wrongCodeword, clash, codewords, verdict, tableNumber}
-use Rattle.row_format.specs.Table.Laws.{tableNumber-whole, tableNumber-verdict}
+use Rattle.row_format.specs.Table.{tableSize, codewordAt, tableNumber}
+use Rattle.row_format.specs.Table.Laws.{tableNumber-whole, tableNumber-verdict, right-size}
 use Rattle.code_table.specs.Check.{WholeTable}
 use Rattle.code_table.specs.Check.Laws.{length-words, whole-table-words}
 use Rattle.text.specs.Lines.{refusedLine}
@@ -18,11 +16,6 @@ use Rattle.table_listing.specs.Order.Once.{order-below}
 use Rattle.table_listing.specs.Strings.{codewordAt-bits}
 use Rattle.table_listing.specs.Line.{line}
 use Rattle.table_listing.specs.Listing.{treeOrder, linesFor, lines, blockOf, block}
-
--- ---- a table that is accepted
-right-size : (t : List ℕ) → verdict t ≡ 0 → wrongSize t ≡ false
-unfolding verdict
-right-size t e = cond-zero-test (wrongSize t) 0 (cond (wrongCodeword t) 2 (cond (clash (codewords t)) 3 0)) e
 
 module _ (b : List ℕ) (ok : tableNumber b ≡ 0) where
   pub accepted-whole : WholeTable b

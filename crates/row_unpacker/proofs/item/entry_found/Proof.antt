@@ -1,7 +1,7 @@
 -- `item::entry_found`: 8 where the difference leads below 0 or above 4093. Assumes nothing.
 use borrow.Author.Needs.{needs}
 use Rattle.bitstream.specs.Bits.{wordsOf}
-use Rattle.row_unpacker.specs.Item.{stateOf}
+use Rattle.row_item.specs.Coded.{stateOf}
 use Rattle.row_unpacker.specs.Item.Laws.{entry-below, entry-above, entry-got}
 use Rattle.row_unpacker.proofs.item.entry_found.Statement.{statement}
 use Rattle.row_unpacker.proofs.item.entry_found.Tie as tie

@@ -1,6 +1,5 @@
-// Bits in byte slices, the lowest bit of byte 0 first: little-endian numbers, single bits, fields of bits, and a writer of
-// bit strings. The definitions are in specs/Bits.antt.
-pub mod bit;
+// Bits in byte slices, the lowest bit of byte 0 first: little-endian numbers, fields of bits, and a writer of bit
+// strings. The definitions are in specs/Bits.antt.
 pub mod byte;
 pub mod field;
 pub mod number;

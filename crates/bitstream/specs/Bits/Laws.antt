@@ -1,14 +1,11 @@
 -- The laws of bits in bytes. Assumes nothing.
 use Prim.Native.Nat.{ℕ, zero, suc, _+_, _-_, _*_, _/_, _%_, _^_, _≤_, _<_, zero-le}
-use native.Mathlib.Nat.{zero-mod, zero-div, add-zero, zero-add, add-comm, add-assoc, mod-lt, mod-one, div-one, suc-add, mul-zero, mul-suc, mul-one, mul-assoc, add-mul, pow-suc, mod-eq-of-lt, div-eq-of-lt, div-lt-iff-lt-mul, add-div-left, add-mod-left, not-suc-le-zero, le-of-suc-le-suc}
-use native.Mathlib.Numerals.{add-one}
-use native.Mathlib.Decide.{decLt}
+use native.Mathlib.Nat.{zero-mod, zero-div, add-zero, zero-add, add-comm, add-assoc, mod-lt, mod-one, div-one, suc-add, mul-zero, mul-suc, mul-one, mul-assoc, add-mul, pow-suc, mod-eq-of-lt, div-lt-iff-lt-mul, not-suc-le-zero, le-of-suc-le-suc}
 use native.Mathlib.Omega.{arith}
-use mathlib.Core.Path.{_≡_, refl, sym, ap, _∙_, subst}
-use mathlib.Core.Logic.{by-cases}
+use mathlib.Core.Path.{_≡_, refl, sym, ap, _∙_}
 use mathlib.Core.List.{List, [], _∷_, _++_, append-assoc}
-use lib.ListN.{length, take, drop, getD, replicate, length-append, length-drop, List·getD-append}
-use lib.Seq.{take-nil, drop-nil, take-append-add, drop-append-add, take-at, drop-at, take-append-le, drop-append-le, getD-append-add}
+use lib.ListN.{length, take, drop, getD, replicate, length-append, length-drop}
+use lib.Seq.{take-nil, drop-nil, take-append-add, drop-append-add, take-at, drop-at, take-append-le, drop-append-le}
 use lib.Arith.{digits-lt, digits-div, mod-mul}
 use lib.Bits.{block-half, block-odd}
 use lib.Pow.{shr-shr, pow-pos}
@@ -259,33 +256,3 @@ numberOf-suc n zero [] = rw (take-nil n)
 numberOf-suc n zero (x ∷ s) = numOf-append (digits 8 x) (flat 8 (take n s)) ∙ rw (length-digits 8 x, numOf-digits 8 x)
 numberOf-suc n (suc at) [] = rw (take-nil n)
 numberOf-suc n (suc at) (x ∷ s) = numberOf-suc n at s
-
--- ---- the bit at a place
-pub getD-digits : (w v k : ℕ) → k < w → getD (digits w v) k 0 ≡ v / 2 ^ k % 2
-unfolding digits
-getD-digits zero v k h = absurd (not-suc-le-zero h)
-getD-digits (suc w) v zero h = ap (_% 2) (sym (div-one v))
-getD-digits (suc w) v (suc k) h = getD-digits w (v / 2) k (le-of-suc-le-suc h) ∙ ap (_% 2) (halves k v)
-
-module _ (w x : ℕ) (xs : List ℕ) (k : ℕ) where
-  in-first : k < w → getD (digits w x ++ flat w xs) k 0 ≡ getD (x ∷ xs) (k / w) 0 / 2 ^ (k % w) % 2
-  in-first l =
-      List·getD-append (digits w x) (flat w xs) 0 k (subst (λ (n : ℕ). k < n) (sym (length-digits w x)) l)
-      ∙ getD-digits w x k l
-      ∙ rw (div-eq-of-lt l, mod-eq-of-lt l)
-
-  past-first : 0 < w → ¬ (k < w) → getD (flat w xs) (k - w) 0 ≡ getD xs ((k - w) / w) 0 / 2 ^ ((k - w) % w) % 2
-      → getD (digits w x ++ flat w xs) k 0 ≡ getD (x ∷ xs) (k / w) 0 / 2 ^ (k % w) % 2
-  past-first h g ih =
-      let e : w + (k - w) ≡ k = omega arith in
-      let q : k / w ≡ suc ((k - w) / w) = ap (_/ w) (sym e) ∙ add-div-left (k - w) h ∙ add-one ((k - w) / w) in
-      let m : k % w ≡ (k - w) % w = ap (_% w) (sym e) ∙ add-mod-left w (k - w) in
-      ap (λ (n : ℕ). getD (digits w x ++ flat w xs) n 0) (sym e ∙ ap (_+ (k - w)) (sym (length-digits w x)))
-      ∙ getD-append-add (digits w x) (flat w xs) (k - w) 0
-      ∙ ih
-      ∙ rw (q, m)
-
-pub getD-flat : (w : ℕ) (xs : List ℕ) (k : ℕ) → 0 < w → getD (flat w xs) k 0 ≡ getD xs (k / w) 0 / 2 ^ (k % w) % 2
-unfolding flat
-getD-flat w [] k h = sym (rw (zero-div (2 ^ (k % w))))
-getD-flat w (x ∷ xs) k h = by-cases (decLt k w) (in-first w x xs k) (λ g. past-first w x xs k h g (getD-flat w xs (k - w) h))

@@ -23,14 +23,14 @@ pub fn start() -> Writer
 }
 
 // Appends the n bits of v.
-pub fn put(out: &mut [u8], w: Writer, v: u32, n: u32) -> Writer
+pub fn put(out: &mut [u8], w: Writer, v: u64, n: u32) -> Writer
     requires { ⌜ Ready (now out) w n ⌝ }
     requires { ⌜ v < 2 ^ n ⌝ }
     ensures { λ r. ⌜ Put (now (out .entry)) w v n (now (out .exit)) r ⌝ }
 {
     let words = w.words;
     let count = w.count + n;
-    let acc = ((v as u64) << w.count) + w.acc;
+    let acc = (v << w.count) + w.acc;
     if count < 32 {
         return Writer { words, count, acc };
     }

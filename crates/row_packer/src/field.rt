@@ -13,7 +13,7 @@ ghost use Rattle.row_packer.specs.Field.{Holds, Codable, plain};
 // bits   the bits, the first one lowest
 // len    how many they are, at most 27
 pub struct Field {
-    pub bits: u32,
+    pub bits: u64,
     pub len: u32,
 }
 
@@ -45,7 +45,7 @@ fn codeword_at(table: &[u8], j: u32) -> Field
 {
     let w = word_at(table, 3 + j as usize);
     Field {
-        bits: w / 32,
+        bits: (w / 32) as u64,
         len: w % 32,
     }
 }
@@ -58,7 +58,7 @@ fn with_height(escape: Field, height: u32) -> Field
     ensures { λ r. ⌜ Holds (digits (escape .len) (escape .bits) ++ digits 12 height) r ⌝ }
 {
     Field {
-        bits: (height << escape.len) + escape.bits,
+        bits: ((height as u64) << escape.len) + escape.bits,
         len: escape.len + 12,
     }
 }

@@ -15,17 +15,18 @@ pub fn pixel_at(pixels: &[u8], i: usize) -> u32
     read_u16(pixels, 2 * i)
 }
 
-// Whether a pixel is above 4095.
+// Whether a pixel is above 4095. It looks at every pixel: a way out for the rare one would be asked for at each.
 pub fn any_above(pixels: &[u8]) -> bool
     ensures { λ r. ⌜ r ≡ any (ltb 4095) (halvesOf (now (pixels .entry))) ⌝ }
 {
     let n = pixels.len() / 2;
+    let mut above = false;
     let mut i = 0;
     while i < n {
         if MAX_PIXEL < pixel_at(pixels, i) {
-            return true;
+            above = true;
         }
         i += 1;
     }
-    false
+    above
 }

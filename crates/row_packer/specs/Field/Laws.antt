@@ -37,16 +37,16 @@ escape-length {t} {r} ok h =
 -- ---- the escape codeword b of n bits and a height in 12 bits more
 module _ (b n h : ℕ) (few : n ≤ 15) (above : b < 2 ^ n) (twelve : h < 4096) where
   -- the shift loses nothing
-  shifted : h * 2 ^ n % 2 ^ 32 + b ≡ h * 2 ^ n + b
-  shifted = ap (_+ b) (shl-exact 12 n 32 twelve (omega arith))
+  shifted : h * 2 ^ n % 2 ^ 64 + b ≡ h * 2 ^ n + b
+  shifted = ap (_+ b) (shl-exact 12 n 64 twelve (omega arith))
 
-  shifted-lt : h * 2 ^ n % 2 ^ 32 + b < 2 ^ (n + 12)
+  shifted-lt : h * 2 ^ n % 2 ^ 64 + b < 2 ^ (n + 12)
   shifted-lt = rw (shifted, add-comm n 12, pow-add 2 12 n) (digits-lt twelve above)
 
-  pub height-fits : h * 2 ^ n % 2 ^ 32 + b < 2 ^ 32
-  height-fits = lt-of-lt-of-le shifted-lt (pow-mono {i = n + 12} {j = 32} (omega arith))
+  pub height-fits : h * 2 ^ n % 2 ^ 64 + b < 2 ^ 64
+  height-fits = lt-of-lt-of-le shifted-lt (pow-mono {i = n + 12} {j = 64} (omega arith))
 
-  pub holds-height : Holds (digits n b ++ digits 12 h) (record { bits = h * 2 ^ n % 2 ^ 32 + b; len = n + 12 })
+  pub holds-height : Holds (digits n b ++ digits 12 h) (record { bits = h * 2 ^ n % 2 ^ 64 + b; len = n + 12 })
   holds-height = record { bits = rw shifted (sym (digits-join n 12 h b above)); above = shifted-lt; most = omega arith }
 
 -- ---- an item as the code holds it, turned round

@@ -1,8 +1,8 @@
--- The turns of the pass that looks for a pixel above 4095, and its ways out. Assumes nothing.
+-- The turns of the pass that looks for a pixel above 4095, and its end. Assumes nothing.
 use Prim.Native.Nat.{ℕ, _+_, _≤_, _<_}
 use native.Mathlib.Omega.{arith}
-use mathlib.Core.Path.{_≡_, refl, _∙_}
-use mathlib.Core.Bool.{true, false}
+use mathlib.Core.Path.{_≡_, refl, sym, _∙_}
+use mathlib.Core.Bool.{Bool, true, false, or-true, or-false}
 use mathlib.Core.List.{List}
 use lib.ListN.{length, getD}
 use lib.Dec.{ltb}
@@ -11,20 +11,20 @@ use Rattle.row_format.specs.Lists.{any}
 use Rattle.row_pixels.specs.Pixels.{drop-more, drop-end}
 use Rattle.row_pixels.specs.Above.{Looking}
 
-pub looking-none : (ps : List ℕ) → Looking ps 0
-looking-none ps = record { within = omega arith; above = refl }
+pub looking-none : (ps : List ℕ) → Looking ps false 0
+looking-none ps = record { within = omega arith; found = refl }
 
-module _ {ps : List ℕ} {i : ℕ} (l : Looking ps i) where
+module _ {ps : List ℕ} {above : Bool} {i : ℕ} (l : Looking ps above i) where
   module _ (h : i < length ps) {pixel : ℕ} (e : pixel ≡ getD ps i 0) where
-    pub looking-more : pixel ≤ 4095 → Looking ps (i + 1)
+    pub looking-low : pixel ≤ 4095 → Looking ps above (i + 1)
     unfolding any
-    looking-more low =
-        record { within = omega arith; above = l .above ∙ rw (drop-more ps i h e, le-ltb 4095 pixel low) }
+    looking-low low = record { within = omega arith; found = l .found ∙ rw (drop-more ps i h e, le-ltb 4095 pixel low) }
 
-    pub looked-above : 4095 < pixel → true ≡ any (ltb 4095) ps
+    pub looking-high : 4095 < pixel → Looking ps true (i + 1)
     unfolding any
-    looked-above high = rw (l .above, drop-more ps i h e, lt-ltb 4095 pixel high)
+    looking-high high =
+        record { within = omega arith; found = l .found ∙ rw (drop-more ps i h e, lt-ltb 4095 pixel high) (or-true above) }
 
-  pub looked-all : length ps ≤ i → false ≡ any (ltb 4095) ps
+  pub looked-all : length ps ≤ i → above ≡ any (ltb 4095) ps
   unfolding any
-  looked-all g = rw (l .above, drop-end ps i (l .within) g)
+  looked-all g = sym (l .found ∙ rw (drop-end ps i (l .within) g) (or-false above))

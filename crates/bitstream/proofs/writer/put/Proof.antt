@@ -35,8 +35,8 @@ cast-put-u32 c = search needs
 put-u32-requires : tie.Need-put-u32-requires
 put-u32-requires c κs = search needs
 
-add-t15 : tie.Need-add-t15
-add-t15 c = search needs
+add-t14 : tie.Need-add-t14
+add-t14 c = search needs
 
 same-length : tie.Need-same-length
 same-length c = search needs
@@ -61,6 +61,6 @@ put-spec =
     mul-put-u32
     cast-put-u32
     put-u32-requires
-    add-t15
+    add-t14
     same-length
     returns-2)

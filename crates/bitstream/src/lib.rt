@@ -2,6 +2,7 @@
 // bit strings. The definitions are in specs/Bits.antt.
 pub mod bit;
 pub mod byte;
+pub mod copy;
 pub mod field;
 pub mod number;
 pub mod writer;

@@ -4,11 +4,11 @@ use crate::row::read_row;
 use crate::view::look_ahead;
 use crate::view::low_bits;
 use answer::Answer;
+use bitstream::copy::copy;
 use code_table::check::check;
 ghost use mathlib.Core.Path.{_≡_};
-ghost use mathlib.Core.List.{_++_};
 ghost use Prim.Native.Nat.{_*_, _≤_};
-ghost use lib.ListN.{length, take, drop};
+ghost use lib.ListN.{length};
 ghost use Rattle.answer.specs.Outcome.{outcome};
 ghost use Rattle.bitstream.specs.Bits.{wordsOf, stream};
 ghost use Rattle.row_format.specs.Table.{tableNumber};
@@ -77,17 +77,4 @@ fn stray_bit(words: &[u8], used: usize) -> bool
     }
     let v = look_ahead(words, used);
     low_bits(v.window, 32 - last) != 0
-}
-
-// The first n bytes of `from` to the front of `to`.
-fn copy(from: &[u8], n: usize, to: &mut [u8])
-    requires { ⌜ n ≤ length (now from) ⌝ }
-    requires { ⌜ n ≤ length (now to) ⌝ }
-    ensures { λ _. ⌜ now (to .exit) ≡ take n (now (from .entry)) ++ drop n (now (to .entry)) ⌝ }
-{
-    let mut i = 0;
-    while i < n {
-        to[i] = from[i];
-        i += 1;
-    }
 }

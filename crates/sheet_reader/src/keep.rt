@@ -1,4 +1,5 @@
 // The content of a record to lent memory.
+use bitstream::copy::copy;
 ghost use mathlib.Core.Path.{_≡_};
 ghost use mathlib.Core.List.{_++_};
 ghost use Prim.Native.Nat.{_≤_};
@@ -14,9 +15,5 @@ pub fn keep(from: &[u8], n: usize, room: usize, content: &mut [u8])
     if content.len() < room {
         return;
     }
-    let mut i = 0;
-    while i < n {
-        content[i] = from[i];
-        i += 1;
-    }
+    copy(from, n, content);
 }

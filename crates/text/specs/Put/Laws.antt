@@ -6,7 +6,8 @@ use native.Mathlib.Omega.{arith}
 use mathlib.Core.Path.{_≡_, refl, sym, ap, _∙_}
 use mathlib.Core.List.{List, [], _∷_, _++_, append-assoc, append-nil}
 use lib.ListN.{length, take, drop, set, getD, length-append, length-set, take-append-drop}
-use lib.Seq.{set-split, append-snoc, drop-drop, take-suc, take-all}
+use lib.Seq.{set-split, append-snoc, drop-drop, take-suc, take-all, take-length}
+use Rattle.bitstream.specs.Part.{partFrom, withPart, part-is, part-back}
 use Rattle.bitstream.specs.Memory.{overwritten}
 use Rattle.bitstream.specs.Memory.Laws.{take-overwritten, drop-overwritten}
 use Rattle.text.specs.Put.{Put, Putting}
@@ -42,6 +43,15 @@ put-more {m} {m′} {at} {r} {b} x h e p = put-put (omega (arith, p .next)) p (p
 -- what is put at the front stands there
 pub put-front : {m m′ : List ℕ} {r : ℕ} {b : List ℕ} → Put m 0 b r m′ → take r m′ ≡ b
 put-front {m} {m′} {r} {b} p = rw (p .next, p .memory) (take-overwritten m 0 b (omega arith))
+
+-- all of b is copied to the memory from a place on, and y comes back for that
+pub put-part : (m : List ℕ) (at : ℕ) (b : List ℕ) {y : List ℕ} → y ≡ take (length b) b ++ drop (length b) (partFrom at m)
+    → withPart at m y ≡ overwritten m at b
+put-part m at b {y} e =
+    let rest : drop (length b) (partFrom at m) ≡ drop (at + length b) m = ap (drop (length b)) (part-is at m) ∙ drop-drop (length b) at m in
+    part-back at m y
+    ∙ ap (take at m ++_) (e ∙ rw (take-length b, rest))
+    ∙ sym (append-assoc (take at m) b (drop (at + length b) m))
 
 -- ---- a run put element by element
 pub putting-none : (m : List ℕ) (at : ℕ) (b : List ℕ) → Putting m at b 0 m

@@ -45,8 +45,9 @@ pub record Advanced (r : List ℕ) (p : Progress) (table block : List ℕ) (p′
   pub text : pending p′ block′ ≡ pending p block ++ lineAt p table r
   pub rows : p′ .rows ≡ p .rows + rowsOf (kindOf (judgedAt p table r .kind))
 
--- at a refused one: the last line's number, and all as it was
+-- at a refused one: there is a last line, with the record's number, and all is as it was
 pub record Stopped (r : List ℕ) (p : Progress) (table block : List ℕ) (t : Turn) (block′ : List ℕ) : Type 0 where
+  pub last : t .failed ≡ false
   pub number : t .number ≡ judgedAt p table r .number
   pub next : t .next ≡ p
   pub text : pending p block′ ≡ pending p block

@@ -124,7 +124,7 @@ module _ {r : List ℕ} {p : Progress} {table block : List ℕ} {x : Listed} {bl
       let still : judgedAt p table r .number ≡ 0 → ⊥ = λ e. wrong (same-number ∙ e) in
       record {
         accepted = λ ok. absurd (still ok);
-        refused = λ e. rw is (refl, record { number = same-number; next = refl; text = ap (pending p) (put .nothing still) });
+        refused = λ e. rw is (refl, record { last = refl; number = same-number; next = refl; text = ap (pending p) (put .nothing still) });
       }
 
   module _ (ok : x .read .number ≡ 0) where

@@ -5,7 +5,8 @@ use mathlib.Core.List.{List}
 use lib.ListN.{length}
 use lib.Dec.{ltb}
 use lib.IntN.{ℤ, pos}
-use Rattle.answer.specs.Outcome.{Outcome, wrote, refuseIf, unless}
+use Rattle.answer.specs.declared.Answer.{Answer}
+use Rattle.answer.specs.Outcome.{Outcome, refused, wrote, refuseIf, unless}
 use Rattle.adaptive.specs.declared.SignedRead.{SignedRead}
 use Rattle.adaptive.specs.declared.UnsignedRead.{UnsignedRead}
 use Rattle.adaptive.specs.Number.{Reading, accepted, rejected, signed, unsigned, readAs, shortest}
@@ -27,11 +28,11 @@ unfoldable pub unsignedRead : List ℕ → UnsignedRead
 unsignedRead s = unsignedAnswer (readAs unsigned s)
 
 -- the bytes b at the front of the lent memory m; 5 where "lent room smaller than this call's output"
-unfoldable pub written : List ℕ → List ℕ → Outcome
-written b m = unless (refuseIf (ltb (length m) (length b)) 5) m (wrote (length b) b m)
+unfoldable pub written : List ℕ → List ℕ → Outcome Answer
+written b m = unless (refuseIf (ltb (length m) (length b)) 5) (λ e. refused e m) (wrote (length b) b m)
 
-unfoldable pub signedWritten : ℤ → List ℕ → Outcome
+unfoldable pub signedWritten : ℤ → List ℕ → Outcome Answer
 signedWritten v m = written (shortest signed v) m
 
-unfoldable pub unsignedWritten : ℕ → List ℕ → Outcome
+unfoldable pub unsignedWritten : ℕ → List ℕ → Outcome Answer
 unsignedWritten v m = written (shortest unsigned v) m

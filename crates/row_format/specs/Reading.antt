@@ -1,14 +1,15 @@
--- Document 01, "A row": reading items from bits by the same rules, what a faulty item is refused with, and the bits that a
--- reading uses. Assumes nothing.
+-- Document 01, "A row": reading items from bits by the same rules, what a faulty item is refused with, the bits that a
+-- reading uses, and what reading a row comes to. Assumes nothing.
 use Prim.Native.Nat.{ℕ, zero, suc, _+_, _-_, _*_}
 use mathlib.Core.Bool.{Bool, false, cond, not, _&&_, _||_}
 use mathlib.Core.List.{List, [], _∷_}
 use lib.ListN.{length, take, drop}
 use lib.Dec.{leb, ltb, eqb}
-use Rattle.bitstream.specs.Bits.{numOf, begins, wordsFor}
+use Rattle.bitstream.specs.Bits.{numOf, begins, wordsOf, stream, wordsFor}
+use Rattle.answer.specs.Outcome.{_orElse_, refuseIf, unless, Lent, roomNumber}
 use Rattle.row_format.specs.Lists.{any, least}
-use Rattle.row_format.specs.Table.{codewords, codewordAt, entryDifference}
-use Rattle.row_format.specs.Row.{Item, difference, badPixel, badBias, escape, State, fresh, previous, after, byDifference}
+use Rattle.row_format.specs.Table.{codewords, codewordAt, entryDifference, tableNumber}
+use Rattle.row_format.specs.Row.{Item, difference, badPixel, badBias, escape, State, fresh, previous, pixelOf, pixelsOf, after, byDifference, tooMany}
 pub mod Laws
 
 -- the place of the first string that begins the rest; in an accepted table it is the only one
@@ -61,10 +62,30 @@ taken t s r (found j) = matched t s r j (length (codewordAt t j))
 unfoldable pub readItem : List ℕ → State → List ℕ → Reading
 readItem t s r = taken t s r (find (codewords t) r)
 
--- reading n items: the items and the bits used; or the number, the bit place of the faulty item and the bits used
+-- the bits that it uses
+abbrev pub bitsOfReading : Reading → ℕ
+bitsOfReading (item i u) = u
+bitsOfReading (fault e u) = u
+
+-- ---- a run of items: the items and the bits used; or the number, the bit place of the faulty item and the bits used
 pub data Run : Type 0 where
   done : List Item → ℕ → Run
   stop : ℕ → ℕ → ℕ → Run
+
+-- its number, 0 where it is done
+abbrev pub runNumber : Run → ℕ
+runNumber (done is u) = 0
+runNumber (stop e at u) = e
+
+-- "A reading uses the bits of the items it reads. At a faulty item it also uses" that item's
+abbrev pub bitsOfRun : Run → ℕ
+bitsOfRun (done is u) = u
+bitsOfRun (stop e at u) = u
+
+-- the pixels that it gives
+abbrev pub pixelsOfRun : Run → List ℕ
+pixelsOfRun (done is u) = pixelsOf fresh is
+pixelsOfRun (stop e at u) = []
 
 abbrev pub prepend : Item → ℕ → Run → Run
 prepend i u (done is v) = done (i ∷ is) (u + v)
@@ -74,7 +95,7 @@ abbrev pub follow : Reading → (Item → ℕ → Run) → Run
 follow (item i u) f = prepend i u (f i u)
 follow (fault e u) f = stop e 0 u
 
--- by any way of reading one item
+-- n items, by any way of reading one
 unfoldable pub readBy : (State → List ℕ → Reading) → State → ℕ → List ℕ → Run
 readBy f s zero r = done [] 0
 readBy f s (suc n) r = follow (f s r) (λ i u. readBy f (after s i) n (drop u r))
@@ -86,14 +107,29 @@ readItems t n r = readBy (readItem t) fresh n r
 unfoldable pub stray : ℕ → List ℕ → Bool
 stray u r = any (eqb 1) (take (32 * wordsFor u - u) (drop u r))
 
--- a raw item is needless where "the table has the step"
-abbrev pub needless : List ℕ → State → Item → Bool
-needless t s (difference k) = false
-needless t s badPixel = false
-needless t s badBias = false
-needless t s (escape h) = byDifference t s h
+-- judged after the items: it uses no bit more, and its place is the first unused bit
+abbrev pub withoutStray : List ℕ → Run → Run
+withoutStray r (done is u) = unless (refuseIf (stray u r) 10) (λ e. stop e u u) (done is u)
+withoutStray r (stop e at u) = stop e at u
 
--- some item of a row is needless
-unfoldable pub anyNeedless : List ℕ → State → List Item → Bool
-anyNeedless t s [] = false
-anyNeedless t s (i ∷ is) = needless t s i || anyNeedless t (after s i) is
+-- ---- what reading n pixels of the words wb under the table tb comes to, with so much lent for the pixels. "For unpacking: 1,
+-- 2, 3, 11, 5, then 6 to 9 at the earliest faulty item, then 10"; "Refused before its first item it uses none"
+unfoldable pub firstNumber : Lent → List ℕ → ℕ → ℕ
+firstNumber m tb n = tableNumber tb orElse tooMany n orElse roomNumber m (2 * n)
+
+unfoldable pub rowReading : Lent → List ℕ → ℕ → List ℕ → Run
+rowReading m tb n wb =
+    unless (firstNumber m tb n) (λ e. stop e 0 0) (withoutStray (stream wb) (readItems (wordsOf tb) n (stream wb)))
+
+-- ---- departures: an item departs from what packing would write for its pixel where packing writes that pixel by its
+-- difference and the item is raw ("needless"), or the other way round
+abbrev pub departs : List ℕ → State → Item → Bool
+departs t s (difference k) = not (byDifference t s (pixelOf s (difference k)))
+departs t s badPixel = false
+departs t s badBias = false
+departs t s (escape h) = byDifference t s h
+
+-- some item of a row departs
+unfoldable pub anyDeparts : List ℕ → State → List Item → Bool
+anyDeparts t s [] = false
+anyDeparts t s (i ∷ is) = departs t s i || anyDeparts t (after s i) is

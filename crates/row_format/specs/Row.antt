@@ -1,11 +1,17 @@
 -- Document 01, "A row": which item each pixel gets, and the bits of a row. Assumes nothing.
-use Prim.Native.Nat.{ℕ, _+_, _-_}
+use Prim.Native.Nat.{ℕ, _+_, _-_, _*_}
 use mathlib.Core.Bool.{Bool, cond}
 use mathlib.Core.List.{List, [], _∷_, _++_}
-use lib.Dec.{eqb}
-use Rattle.bitstream.specs.Bits.{digits}
+use lib.ListN.{length}
+use lib.Dec.{ltb, eqb}
+use Rattle.bitstream.specs.Bits.{digits, flat, bytesOf, wordsFor}
+use Rattle.answer.specs.Outcome.{refuseIf}
 use Rattle.row_format.specs.Table.{lowLimit, hasDifference, codewordAt}
 pub mod Laws
+
+-- "at most 4096 a row". 11: "more than 4096 pixels or numbers"
+abbrev pub tooMany : ℕ → ℕ
+tooMany n = refuseIf (ltb 4096 n) 11
 
 -- "An item is thus one of four": a difference (document 01: a step, held as its count from -4093), bad pixel, bad bias, or
 -- an escape (document 01: raw) with its height
@@ -81,3 +87,11 @@ bits t (i ∷ is) = itemBits t i ++ bits t is
 -- the bits of a row; "A row takes the sum of the lengths of the items that the packing rules give for it": their length
 unfoldable pub rowBits : List ℕ → List ℕ → List ℕ
 rowBits t ps = bits t (itemsFor t fresh ps)
+
+-- a row's words, as bytes: its bits from bit 0 of word 0 on. "Unused bits of the last word are 0"
+abbrev pub rowBytes : List ℕ → List ℕ → List ℕ
+rowBytes t ps = bytesOf (4 * wordsFor (length (rowBits t ps))) (rowBits t ps)
+
+-- "2-byte pixels as little-endian bytes"
+abbrev pub pixelBytes : List ℕ → List ℕ
+pixelBytes ps = bytesOf (2 * length ps) (flat 16 ps)

@@ -13,16 +13,17 @@ use lib.Signed.{_≤ℤ_}
 use lib.Dec.{ltb, eqb}
 use Rattle.bitstream.specs.Bits.{begins, wordsOf, halvesOf, stream, wordsFor}
 use Rattle.bitstream.specs.Bits.Laws.{Below}
-use Rattle.answer.specs.Outcome.{answerOf, wrote}
+use Rattle.answer.specs.Outcome.{answerOf, refusal, wrote, lent, Kept, Within}
+use Rattle.answer.specs.Outcome.Laws.{refuseIf-in}
 use Rattle.row_format.specs.Lists.{any}
 use Rattle.row_format.specs.Table.{lowLimit, tableSize, codewordAt, escapeLength, signed, entryDifference, hasDifference, verdict, tableNumber, maxItemBits}
 use Rattle.row_format.specs.Table.Laws.{Accepted, accepted, verdict-accepted, signed-least, signed-most, signed-differenceTo, length-codewordAt, escapeLength-least, codewordAt-least, codewordAt-most, codewordAt-only, entryDifference-most, maxItemBits-least, maxItemBits-most}
-use Rattle.row_format.specs.Row.{Item, difference, escape, State, fresh, previous, differenceTo, byDifference, itemFor, pixelOf, itemBits, itemsFor, pixelsOf, bits, rowBits}
+use Rattle.row_format.specs.Row.{Item, difference, escape, State, fresh, previous, differenceTo, byDifference, itemFor, pixelOf, itemBits, itemsFor, pixelsOf, bits, rowBits, rowBytes}
 use Rattle.row_format.specs.Row.Laws.{itemFor-escape, length-pixelsOf}
-use Rattle.row_format.specs.Reading.{inside, readItem, done, readItems, stray, anyNeedless}
-use Rattle.row_format.specs.Calls.{packed, unpackNumber, unpacked, usedByRun, bitsUsed, room}
-use Rattle.row_format.specs.Calls.Laws.{Packable, packable, packed-number, packed-done, packed-front, rowBytes}
-use Bounds.{bitsOfReading, readItem-uses, bitsUsed-most, length-rowBits}
+use Rattle.row_format.specs.Reading.{inside, bitsOfReading, readItem, done, bitsOfRun, readItems, stray, firstNumber, anyDeparts}
+use Rattle.row_format.specs.Calls.{packed, unpacked, bitsUsed, room}
+use Rattle.row_format.specs.Calls.Laws.{Packable, packable, packed-number, packed-done, packed-front, unpacked-number}
+use Bounds.{readItem-uses, bitsUsed-most, bitsUsed-none, bitsUsed-run, length-rowBits}
 use RoundTrip.{pixelsOf-itemsFor, unpacked-rowBytes, unpacked-packed}
 use Locality.{unpacked-alike}
 use Room.{packNumber-five, packNumber-done, room-done, packNumber-room}
@@ -30,9 +31,9 @@ use Tightness.{steep, length-steep, any-steep, longest-escape, length-rowBits-st
 use Differences.{entry-for, itemBits-entry, leads, pixelOf-differenceTo}
 use Standing.{readItems-stands}
 use OwnWords.{own-words, own-words-packed, any-pixelsOf}
-use Memory.{Kept, Within, packed-kept, packed-within, unpacked-kept, unpacked-within}
-use Numbers.{packNumber-in, unpacked-in}
-use Done.{unpacked-accepts, unpacked-count, bitsUsed-count, bitsUsed-none, bitsUsed-run}
+use Memory.{packed-kept, packed-within, unpacked-kept, unpacked-within}
+use Numbers.{packNumber-in, rowReading-number-in}
+use Done.{unpacked-accepts, unpacked-count, bitsUsed-count}
 pub mod Search
 pub mod Bounds
 pub mod Items
@@ -142,7 +143,7 @@ read-pixels t ok n r bits is u e =
 -- "The used words of an accepted reading are the very words packing would write exactly when no raw item was needless"
 pub used-words-own : (t : List ℕ) → verdict t ≡ 0 → (wb : List ℕ) → Below 256 wb → (n : ℕ) (is : List Item) (u : ℕ)
     → readItems t n (stream wb) ≡ done is u → stray u (stream wb) ≡ false
-    → (take (4 * wordsFor u) wb ≡ rowBytes t (pixelsOf fresh is)) ↔ (anyNeedless t fresh is ≡ false)
+    → (take (4 * wordsFor u) wb ≡ rowBytes t (pixelsOf fresh is)) ↔ (anyDeparts t fresh is ≡ false)
 used-words-own t ok = own-words t (accepted t ok)
 
 -- the same of a done unpacking, and of a packing, with room enough, of the pixels that it left
@@ -152,7 +153,7 @@ pub unpacked-words-own : (tb wb : List ℕ) (n : ℕ) (m : List ℕ) → Below 2
     packed tb pb mw .answer .number ≡ 0
     → (take (4 * wordsFor (unpacked tb wb n m .answer .count)) wb
     ≡ take (4 * wordsFor (packed tb pb mw .answer .count)) (packed tb pb mw .memory))
-    ↔ (anyNeedless (wordsOf tb) fresh (unpacked-accepts tb wb n m h .items) ≡ false)
+    ↔ (anyDeparts (wordsOf tb) fresh (unpacked-accepts tb wb n m h .items) ≡ false)
 unpacked-words-own tb wb n m bytes h mw e =
     let pb = take (2 * n) (unpacked tb wb n m .memory) in
     own-words-packed tb wb n m bytes (unpacked-accepts tb wb n m h) mw (sym (packed-number tb pb mw) ∙ e)
@@ -197,11 +198,11 @@ pub reading-bits : (tb wb : List ℕ) (n : ℕ) (m : List ℕ) → bitsUsed tb w
 reading-bits = bitsUsed-most
 
 -- "Refused before its first item it uses none, and 10 adds none": else it uses the bits of its run, whether 10 is given or not
-pub reading-bits-none : (tb wb : List ℕ) (n : ℕ) (m : List ℕ) → (unpackNumber tb n (length m / 2) ≡ 0 → ⊥) → bitsUsed tb wb n m ≡ 0
+pub reading-bits-none : (tb wb : List ℕ) (n : ℕ) (m : List ℕ) → (firstNumber (lent (length m)) tb n ≡ 0 → ⊥) → bitsUsed tb wb n m ≡ 0
 reading-bits-none = bitsUsed-none
 
-pub reading-bits-run : (tb wb : List ℕ) (n : ℕ) (m : List ℕ) → unpackNumber tb n (length m / 2) ≡ 0
-    → bitsUsed tb wb n m ≡ usedByRun (readItems (wordsOf tb) n (stream wb))
+pub reading-bits-run : (tb wb : List ℕ) (n : ℕ) (m : List ℕ) → firstNumber (lent (length m)) tb n ≡ 0
+    → bitsUsed tb wb n m ≡ bitsOfRun (readItems (wordsOf tb) n (stream wb))
 reading-bits-run = bitsUsed-run
 
 -- "Its items, a refused one too, use at most M bits each"
@@ -244,14 +245,17 @@ pub unpacked-numbers : (tb wb : List ℕ) (n : ℕ) (m : List ℕ)
 unfolding any
 unpacked-numbers tb wb n m =
     let known : ℕ → Type 0 = λ e. any (eqb e) (0 ∷ 1 ∷ 2 ∷ 3 ∷ 11 ∷ 5 ∷ 6 ∷ 7 ∷ 8 ∷ 9 ∷ 10 ∷ []) ≡ true in
-    unpacked-in known refl refl refl refl tb wb n m refl refl refl refl refl refl refl
+    let room = refuseIf-in known (ltb (length m) (2 * n)) 5 refl refl in
+    rw (unpacked-number tb wb n m)
+    (rowReading-number-in known (lent (length m)) tb n wb refl refl refl refl refl room refl refl refl refl refl)
 
 -- "A refused call gives its number, zero for every count and value, and leaves the lent memory as found"
-pub packed-refused-keeps : (tb pb m : List ℕ) → (packed tb pb m .answer .number ≡ 0 → ⊥) → Kept m (packed tb pb m)
+pub packed-refused-keeps : (tb pb m : List ℕ) → (packed tb pb m .answer .number ≡ 0 → ⊥)
+    → Kept (refusal (packed tb pb m .answer .number)) m (packed tb pb m)
 packed-refused-keeps = packed-kept
 
 pub unpacked-refused-keeps : (tb wb : List ℕ) (n : ℕ) (m : List ℕ) → (unpacked tb wb n m .answer .number ≡ 0 → ⊥)
-    → Kept m (unpacked tb wb n m)
+    → Kept (refusal (unpacked tb wb n m .answer .number)) m (unpacked tb wb n m)
 unpacked-refused-keeps = unpacked-kept
 
 -- "A done call writes only the pixels, words or bytes that it counts"

@@ -1,8 +1,8 @@
 -- Laws: the ways out of packing and of the room question, in document 01's order. Assumes nothing.
-use Prim.Native.Nat.{ℕ, zero, suc, _+_, _*_, _/_, _≤_, _<_}
+use Prim.Native.Nat.{ℕ, _+_, _*_, _/_, _≤_, _<_}
 use native.Mathlib.Nat.{mul-le-mul-left}
 use native.Mathlib.Omega.{arith}
-use mathlib.Core.Path.{_≡_, refl, sym, ap, _∙_}
+use mathlib.Core.Path.{_≡_, sym, ap, _∙_}
 use mathlib.Core.Bool.{true, false}
 use mathlib.Core.List.{List}
 use lib.ListN.{length}
@@ -10,7 +10,8 @@ use lib.Dec.{ltb}
 use borrow.Author.Tests.{lt-ltb, le-ltb, ltb-false}
 use Rattle.bitstream.specs.Bits.{wordsOf, halvesOf, wordsFor}
 use Rattle.answer.specs.declared.Answer.{Answer}
-use Rattle.answer.specs.Outcome.{Outcome, answerOf, outcome, _orElse_, unless, countUnless}
+use Rattle.answer.specs.Outcome.{answerOf, refusal, refused, outcome}
+use Rattle.answer.specs.Outcome.Laws.{unless-refused, unless-first}
 use Rattle.row_format.specs.Lists.{any}
 use Rattle.row_format.specs.Table.{tableNumber, maxItemBits}
 use Rattle.row_format.specs.Table.Laws.{maxItemBits-most, accepted-table}
@@ -22,16 +23,20 @@ use Rattle.row_pixels.specs.Pixels.{inside-halves, past-halves}
 use Rattle.row_packer.specs.Write.{Written}
 
 -- ---- the table
-countUnless-done : (e c : ℕ) → e ≡ 0 → countUnless e c .count ≡ c
-countUnless-done e c z = rw z
-
 module _ (tb : List ℕ) {a : Answer} (is : a ≡ checked tb) where
   pub checked-zero : a .number ≡ 0 → tableNumber tb ≡ 0
   checked-zero e = sym (answer-number tb is) ∙ e
 
   pub checked-count : a .number ≡ 0 → a .count ≡ maxItemBits (wordsOf tb)
   unfolding checked
-  checked-count e = ap (λ (x : Answer). x .count) is ∙ countUnless-done (tableNumber tb) (maxItemBits (wordsOf tb)) (checked-zero e)
+  checked-count e = ap (λ (x : Answer). x .count) is ∙ rw (checked-zero e)
+
+  -- refused, it is a refusal by the table's number
+  checked-refused : (a .number ≡ 0 → ⊥) → a ≡ refusal (tableNumber tb)
+  unfolding checked
+  checked-refused n =
+      is
+      ∙ unless-refused (tableNumber tb) refusal (answerOf 0 (maxItemBits (wordsOf tb))) (λ e. n (answer-number tb is ∙ e))
 
 module _ (tb : List ℕ) (table : tableNumber tb ≡ 0) where
   pub header-words : 6 ≤ length tb / 4
@@ -43,15 +48,11 @@ module _ (tb : List ℕ) (table : tableNumber tb ≡ 0) where
 
 -- ---- packing
 -- 1, 2, 3
-refused-first : (e c d : ℕ) (m : List ℕ) (o : Outcome) → (e ≡ 0 → ⊥) → outcome (countUnless e c) m ≡ unless (e orElse d) m o
-refused-first zero c d m o n = absurd (n refl)
-refused-first (suc e) c d m o n = refl
-
 pub packed-table : (tb pb m : List ℕ) {a : Answer} → a ≡ checked tb → (a .number ≡ 0 → ⊥) → outcome a m ≡ packed tb pb m
-unfolding checked packed packNumber
+unfolding packed packNumber
 packed-table tb pb m is n =
-    ap (λ (x : Answer). outcome x m) is
-    ∙ refused-first (tableNumber tb) (maxItemBits (wordsOf tb)) _ m (packedRow (wordsOf tb) (halvesOf pb) m) (λ e. n (answer-number tb is ∙ e))
+    ap (λ (x : Answer). outcome x m) (checked-refused tb is n)
+    ∙ sym (unless-first (tableNumber tb) _ (λ e. refused e m) (packedRow (wordsOf tb) (halvesOf pb) m) (λ e. n (answer-number tb is ∙ e)))
 
 -- the words that a row takes
 abbrev words : List ℕ → List ℕ → ℕ
@@ -84,17 +85,15 @@ module _ (tb pb m : List ℕ) (table : tableNumber tb ≡ 0) where
         room-enough = omega (arith, ltb-false (length m / 4) (words tb pb) (sym enough))
 
         pub packed-all : {o : List ℕ} {bits : ℕ} → Written (wordsOf tb) (halvesOf pb) m o bits → outcome (answerOf 0 bits) o ≡ packed tb pb m
-        unfolding packed packNumber packedRow
+        unfolding packed packNumber
         packed-all w = rw (table, few-pixels, ← none-above, ← enough, w .memory, w .bits)
 
 -- ---- the room question
-refused-count : (e c d k : ℕ) → (e ≡ 0 → ⊥) → countUnless e c ≡ countUnless (e orElse d) k
-refused-count zero c d k n = absurd (n refl)
-refused-count (suc e) c d k n = refl
-
 pub room-table : (tb : List ℕ) (n : ℕ) {a : Answer} → a ≡ checked tb → (a .number ≡ 0 → ⊥) → a ≡ room tb n
-unfolding checked room
-room-table tb n is h = is ∙ refused-count (tableNumber tb) (maxItemBits (wordsOf tb)) _ _ (λ e. h (answer-number tb is ∙ e))
+unfolding room
+room-table tb n is h =
+    checked-refused tb is h
+    ∙ sym (unless-first (tableNumber tb) _ refusal _ (λ e. h (answer-number tb is ∙ e)))
 
 module _ (tb : List ℕ) (n : ℕ) (table : tableNumber tb ≡ 0) where
   pub room-many : 4096 < n → answerOf 11 0 ≡ room tb n

@@ -5,8 +5,7 @@ use mathlib.Core.List.{List, _++_}
 use lib.ListN.{length, drop}
 use Rattle.bitstream.specs.Writer.{held, Good}
 use Rattle.bitstream.specs.declared.writer.Writer.{Writer}
-use Rattle.row_format.specs.Row.{rowBits}
-use Rattle.row_format.specs.Calls.Laws.{rowBytes}
+use Rattle.row_format.specs.Row.{rowBits, rowBytes}
 use Rattle.row_item.specs.declared.Progress.{Progress}
 use Rattle.row_packer.specs.Encode.{Sound}
 use Rattle.row_packer.specs.Remaining.{remaining}

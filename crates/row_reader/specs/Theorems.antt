@@ -1,19 +1,20 @@
 -- What holds of the reader that gives one item a call, in document 01's words; Walk/Laws.antt has the proofs. tb and wb are the
 -- bytes of the table and of the words, m is the memory lent to a row call, as it was. Assumes nothing.
-use Prim.Native.Nat.{ℕ, _+_, _*_, _/_, _≤_, _<_}
+use Prim.Native.Nat.{ℕ, _+_, _/_, _≤_, _<_}
 use native.Mathlib.Omega.{arith}
 use mathlib.Core.Path.{_≡_}
 use mathlib.Core.Logic.{_⊎_}
 use mathlib.Core.List.{List}
 use lib.ListN.{length, drop}
 use borrow.Author.Tests.{lt-ltb, eq-eqb, ne-eqb}
-use Rattle.bitstream.specs.Bits.{flat, bytesOf, wordsOf, stream}
+use Rattle.bitstream.specs.Bits.{wordsOf, stream}
 use Rattle.answer.specs.Outcome.{refused, wrote}
 use Rattle.row_item.specs.Coded.{stateOf}
 use Rattle.row_format.specs.Table.{tableNumber, maxItemBits}
-use Rattle.row_format.specs.Reading.{readItem}
+use Rattle.row_format.specs.Row.{pixelBytes}
+use Rattle.row_format.specs.Reading.{bitsOfReading, readItem}
 use Rattle.row_format.specs.Calls.{unpacked}
-use Rattle.row_format.specs.Theorems.Bounds.{bitsOfReading, readItem-uses}
+use Rattle.row_format.specs.Theorems.Bounds.{readItem-uses}
 use Rattle.row_reader.specs.declared.step.Place.{Place}
 use Rattle.row_reader.specs.Step.{startPlace, itemRead}
 use Rattle.row_reader.specs.Walk.{gave, ended, walk}
@@ -22,7 +23,7 @@ use Rattle.row_reader.specs.Walk.Laws as laws
 -- "where it gives n items, a row call of n with room for them gives those pixels or refuses 10"
 pub reader-gives : (tb wb : List ℕ) → tableNumber tb ≡ 0 → (n : ℕ) (m : List ℕ) → n ≤ length m / 2 → n ≤ 4096
     → (ps : List ℕ) (pl : Place) → walk tb wb n (startPlace tb) ≡ gave ps pl
-    → (unpacked tb wb n m ≡ wrote (pl .at) (bytesOf (2 * n) (flat 16 ps)) m) ⊎ (unpacked tb wb n m ≡ refused 10 m)
+    → (unpacked tb wb n m ≡ wrote (pl .at) (pixelBytes ps) m) ⊎ (unpacked tb wb n m ≡ refused 10 m)
 reader-gives tb wb ok = laws.gives tb wb ok
 
 -- "where it refuses 6 to 9, every row call that reaches the item gives that number": the walk of k steps ended after i items,

@@ -9,16 +9,18 @@ use lib.ListN.{length, take, drop}
 use lib.Dec.{eqb}
 use borrow.Author.Tests.{ne-eqb, lt-ltb, le-ltb}
 use Rattle.answer.specs.declared.Answer.{Answer}
-use Rattle.answer.specs.Outcome.{Outcome, answerOf, outcome, refused}
+use Rattle.answer.specs.Outcome.{Outcome, answerOf, outcome, refused, lent}
 use Rattle.answer.specs.Outcome.Laws.{unless-first}
-use Rattle.bitstream.specs.Bits.{numOf, flat, bytesOf, wordsOf, stream, wordsFor}
+use Rattle.bitstream.specs.Bits.{numOf, flat, wordsOf, stream, wordsFor}
 use Rattle.bitstream.specs.Bits.Laws.{Below, below-head, below-tail, below-take, length-cut}
 use Rattle.row_format.specs.Lists.{any}
 use Rattle.row_format.specs.Table.{tableNumber}
 use Rattle.row_format.specs.Row.{fresh, pixelsOf}
-use Rattle.row_format.specs.Reading.{Run, done, stop, readItems, stray}
-use Rattle.row_format.specs.Calls.{checked, afterRun, usedByRun, unpackNumber, unpacked}
-use Rattle.row_format.specs.Calls.Laws.{unpackNumber-unpackable, answer-number}
+use Rattle.row_format.specs.Row.Laws.{length-pixelsOf}
+use Rattle.row_format.specs.Reading.{Run, done, stop, bitsOfRun, readItem, readItems, stray, withoutStray, firstNumber, rowReading}
+use Rattle.row_format.specs.Reading.Laws.{Counted, readBy-counted, firstNumber-readable, lent-room}
+use Rattle.row_format.specs.Calls.{checked, rowOutcome, unpacked}
+use Rattle.row_format.specs.Calls.Laws.{answer-number}
 use Rattle.row_format.specs.Theorems.Bounds.{readItems-uses}
 use Rattle.row_unpacker.specs.View.{Seen}
 use Rattle.row_unpacker.specs.View.Laws.{low-window}
@@ -56,48 +58,56 @@ module _ (r : List ℕ) (used : ℕ) where
 -- ---- the ways out after a row was read: x is the code's answer, out the row's memory
 module _ (r : List ℕ) (n : ℕ) (m out : List ℕ) (x : RowRead) where
   module _ (used : ℕ) (e : x ≡ Done used) where
-    pub row-stray : (run : Run) → RowIs n out x (reached n fresh run) → true ≡ stray used r → refused 10 m ≡ afterRun r n m run
+    pub row-stray : (run : Run) → RowIs n out x (reached n fresh run) → true ≡ stray used r → refused 10 m ≡ rowOutcome m (withoutStray r run)
     row-stray (done is u) h b = let same : u ≡ used = cc (h .0) in rw (same, ← b)
     row-stray (stop k at u) h b = absurd (let z : _≡_ {A = ℕ} 0 1 = cc in omega arith)
 
-    pub row-done : (run : Run) → RowIs n out x (reached n fresh run) → false ≡ stray used r → (m′ : List ℕ) → m′ ≡ take (2 * n) out ++ drop (2 * n) m
-        → outcome (answerOf 0 used) m′ ≡ afterRun r n m run
-    row-done (done is u) h b m′ copied =
+    whole-row : (run : Run) → Counted n run → RowIs n out x (reached n fresh run) → false ≡ stray used r → (m′ : List ℕ)
+        → m′ ≡ take (2 * n) out ++ drop (2 * n) m → outcome (answerOf 0 used) m′ ≡ rowOutcome m (withoutStray r run)
+    whole-row (done is u) count h b m′ copied =
         let same : u ≡ used = cc (h .0) in
-        let bytes = bytesOf (2 * n) (flat 16 (pixelsOf fresh is)) in
-        rw (same, ← b, length-cut 8 (2 * n) (flat 16 (pixelsOf fresh is)), copied, h .1)
-    row-done (stop k at u) h b m′ copied = absurd (let z : _≡_ {A = ℕ} 0 1 = cc in omega arith)
+        let size : length (pixelsOf fresh is) ≡ n = length-pixelsOf fresh is ∙ count in
+        rw (same, ← b, size, length-cut 8 (2 * n) (flat 16 (pixelsOf fresh is)), copied, h .1)
+    whole-row (stop k at u) count h b m′ copied = absurd (let z : _≡_ {A = ℕ} 0 1 = cc in omega arith)
 
-    used-by : (run : Run) → RowIs n out x (reached n fresh run) → used ≡ usedByRun run
+    pub row-done : (t : List ℕ) → RowIs n out x (reached n fresh (readItems t n r)) → false ≡ stray used r → (m′ : List ℕ)
+        → m′ ≡ take (2 * n) out ++ drop (2 * n) m → outcome (answerOf 0 used) m′ ≡ rowOutcome m (withoutStray r (readItems t n r))
+    unfolding readItems
+    row-done t = whole-row (readItems t n r) (readBy-counted (readItem t) fresh n r)
+
+    used-by : (run : Run) → RowIs n out x (reached n fresh run) → used ≡ bitsOfRun run
     used-by (done is u) h = cc (h .0)
     used-by (stop k at u) h = absurd (let z : _≡_ {A = ℕ} 0 1 = cc in omega arith)
 
     pub row-used : (t : List ℕ) → RowIs n out x (reached n fresh (readItems t n r)) → used ≤ n * 43
     row-used t h = omega (arith, used-by (readItems t n r) h, readItems-uses t n r, mul-le-mul-left n (maxItemBits-any t))
 
-  pub row-refused : (number place : ℕ) → x ≡ Refused number place → (run : Run) → RowIs n out x (reached n fresh run) → refused number m ≡ afterRun r n m run
+  pub row-refused : (number place : ℕ) → x ≡ Refused number place → (run : Run) → RowIs n out x (reached n fresh run) → refused number m ≡ rowOutcome m (withoutStray r run)
   row-refused number place e (done is u) h = absurd (let z : _≡_ {A = ℕ} 0 1 = cc (h .0) in omega arith)
   row-refused number place e (stop k at u) h = let same : k ≡ number = cc in rw same
 
 module _ (tb wb : List ℕ) (n : ℕ) (m : List ℕ) (a : Answer) (is : a ≡ checked tb) where
   pub unpacked-table : (a .number ≡ 0 → ⊥) → refused (a .number) m ≡ unpacked tb wb n m
-  unfolding unpacked unpackNumber
+  unfolding unpacked rowReading firstNumber
   unpacked-table bad =
       let e : a .number ≡ tableNumber tb = answer-number tb is in
-      ap (λ (k : ℕ). refused k m) e ∙ sym (unless-first (tableNumber tb) _ m _ (λ z. bad (e ∙ z)))
+      ap (λ (k : ℕ). refused k m) e
+      ∙ sym (ap (rowOutcome m) (unless-first (tableNumber tb) _ (λ k. stop k 0 0) _ (λ z. bad (e ∙ z))))
 
   module _ (ok : a .number ≡ 0) where
     pub accepted-table : tableNumber tb ≡ 0
     accepted-table = sym (answer-number tb is) ∙ ok
 
     pub unpacked-many : 4096 < n → refused 11 m ≡ unpacked tb wb n m
-    unfolding unpacked unpackNumber
+    unfolding unpacked rowReading firstNumber
     unpacked-many h = rw (accepted-table, lt-ltb 4096 n h)
 
     pub unpacked-full : n ≤ 4096 → length m / 2 < n → refused 5 m ≡ unpacked tb wb n m
-    unfolding unpacked unpackNumber
-    unpacked-full h g = rw (accepted-table, le-ltb 4096 n h, lt-ltb (length m / 2) n g)
+    unfolding unpacked rowReading firstNumber
+    unpacked-full h g = rw (accepted-table, le-ltb 4096 n h, lt-ltb (length m) (2 * n) (omega arith))
 
-    pub unpacked-row : n ≤ 4096 → n ≤ length m / 2 → (o : Outcome) → o ≡ afterRun (stream wb) n m (readItems (wordsOf tb) n (stream wb)) → o ≡ unpacked tb wb n m
-    unfolding unpacked
-    unpacked-row h g o e = e ∙ rw (unpackNumber-unpackable tb n (length m / 2) (record { table = accepted-table; few = h; room = g }))
+    pub unpacked-row : n ≤ 4096 → n ≤ length m / 2 → (o : Outcome Answer) → o ≡ rowOutcome m (withoutStray (stream wb) (readItems (wordsOf tb) n (stream wb))) → o ≡ unpacked tb wb n m
+    unfolding unpacked rowReading
+    unpacked-row h g o e =
+        let room = lent-room (length m) n (omega arith) in
+        e ∙ rw (firstNumber-readable (lent (length m)) tb n (record { table = accepted-table; few = h; room = room }))

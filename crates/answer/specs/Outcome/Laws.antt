@@ -4,9 +4,11 @@ use native.Mathlib.Omega.{arith}
 use mathlib.Core.Path.{_≡_, refl}
 use mathlib.Core.Bool.{Bool, true, false, not}
 use mathlib.Core.List.{List}
+use lib.ListN.{length, drop, length-append, length-drop}
+use lib.Seq.{drop-append-seam}
 use lib.Dec.{ltb, eqb}
 use borrow.Author.Tests.{ltb-false, lt-ltb, le-ltb, eqb-true, eq-eqb, ne-eqb, not-false}
-use Rattle.answer.specs.Outcome.{Outcome, refused, _orElse_, refuseIf, unless, countUnless}
+use Rattle.answer.specs.Outcome.{Outcome, outcome, writes, _orElse_, refuseIf, unless, Lent, nothing, lent, roomNumber, Kept, Within}
 
 -- ---- one refusal
 pub refuseIf-zero : (b : Bool) (e : ℕ) → refuseIf b (suc e) ≡ 0 → b ≡ false
@@ -68,18 +70,63 @@ given-first (suc e) d h some = h
 pub given-next : {n e d : ℕ} → e ≡ 0 → n ≡ d → n ≡ e orElse d
 given-next none h = rw none h
 
--- ---- outcomes
-pub unless-number : (e : ℕ) (m : List ℕ) (o : Outcome) → o .answer .number ≡ 0 → unless e m o .answer .number ≡ e
-unless-number zero m o h = h
-unless-number (suc e) m o h = refl
+-- ---- room
+pub roomNumber-none : (m : Lent) → roomNumber m 0 ≡ 0
+roomNumber-none nothing = refl
+roomNumber-none (lent n) = lessNumber-none n 0 5 (omega arith)
 
-pub unless-first : (e d : ℕ) (m : List ℕ) (o : Outcome) → (e ≡ 0 → ⊥) → unless (e orElse d) m o ≡ refused e m
-unless-first zero d m o n = absurd (n refl)
-unless-first (suc e) d m o n = refl
+-- ---- what a call comes to, by the number that refuses it
+-- a part of it
+pub unless-part : {A B : Type 0} (f : A → B) (e : ℕ) (refusal : ℕ → A) (done : A)
+    → f (unless e refusal done) ≡ unless e (λ k. f (refusal k)) (f done)
+unless-part f zero refusal done = refl
+unless-part f (suc e) refusal done = refl
 
-pub countUnless-number : (e c : ℕ) → countUnless e c .number ≡ e
-countUnless-number zero c = refl
-countUnless-number (suc e) c = refl
+module _ {A : Type 0} where
+  pub unless-orElse : (e d : ℕ) (refusal : ℕ → A) (done : A)
+      → unless (e orElse d) refusal done ≡ unless e refusal (unless d refusal done)
+  unless-orElse zero d refusal done = refl
+  unless-orElse (suc e) d refusal done = refl
+
+  pub unless-refused : (e : ℕ) (refusal : ℕ → A) (done : A) → (e ≡ 0 → ⊥) → unless e refusal done ≡ refusal e
+  unless-refused zero refusal done some = absurd (some refl)
+  unless-refused (suc e) refusal done some = refl
+
+  pub unless-first : (e d : ℕ) (refusal : ℕ → A) (done : A) → (e ≡ 0 → ⊥) → unless (e orElse d) refusal done ≡ refusal e
+  unless-first zero d refusal done some = absurd (some refl)
+  unless-first (suc e) d refusal done some = refl
+
+  -- to show something of it, show it of a refusal and of what is done
+  pub unless-in : (P : A → Type 0) (e : ℕ) (refusal : ℕ → A) (done : A)
+      → ((k : ℕ) → e ≡ suc k → P (refusal (suc k))) → (e ≡ 0 → P done) → P (unless e refusal done)
+  unless-in P zero refusal done given none = none refl
+  unless-in P (suc e) refusal done given none = given e refl
+
+-- the number that it answers
+module _ {A : Type 0} (number : A → ℕ) (refusal : ℕ → A) (done : A) (right : (k : ℕ) → number (refusal k) ≡ k) where
+  pub unless-number : (e : ℕ) → number done ≡ 0 → number (unless e refusal done) ≡ e
+  unless-number zero none = none
+  unless-number (suc e) none = right (suc e)
+
+-- ---- what demand 1 says of outcomes
+pub writes-within : {A : Type 0} (a : A) (k : ℕ) (b m : List ℕ) → length b ≡ k → k ≤ length m → Within k m (writes a b m)
+writes-within a k b m e h = record {
+  size = omega (arith, length-append b (drop (length b) m), length-drop (length b) m);
+  rest = rw (← e) (drop-append-seam b (drop (length b) m));
+}
+
+module _ {A : Type 0} (none : ℕ → A) (m : List ℕ) (done : Outcome A) where
+  pub unless-within : (e k : ℕ) → (e ≡ 0 → Within k m done) → Within k m (unless e (λ k. outcome (none k) m) done)
+  unless-within zero k h = h refl
+  unless-within (suc e) k h = record { size = refl; rest = refl }
+
+  -- refused: the number is that of the refusal
+  pub unless-kept : (number : A → ℕ) → ((k : ℕ) → number (none k) ≡ k)
+      → let left : ℕ → Outcome A = λ e. unless e (λ k. outcome (none k) m) done in
+      (e : ℕ) → ((number (done .answer) ≡ 0 → ⊥) → Kept (none (number (done .answer))) m done)
+      → (number (left e .answer) ≡ 0 → ⊥) → Kept (none (number (left e .answer))) m (left e)
+  unless-kept number right zero h some = h some
+  unless-kept number right (suc e) h some = record { answer = rw (right (suc e)); memory = refl }
 
 -- ---- to show something of a number, show it of those that it may be
 module _ (P : ℕ → Type 0) where
@@ -91,6 +138,6 @@ module _ (P : ℕ → Type 0) where
   orElse-in zero b first second = second
   orElse-in (suc a) b first second = first
 
-  pub unless-in : (e : ℕ) (m : List ℕ) (o : Outcome) → P e → P (o .answer .number) → P (unless e m o .answer .number)
-  unless-in zero m o refusal rest = rest
-  unless-in (suc e) m o refusal rest = refusal
+  pub roomNumber-in : (m : Lent) (n : ℕ) → P 0 → P 5 → P (roomNumber m n)
+  roomNumber-in nothing n none given = none
+  roomNumber-in (lent m) n none given = refuseIf-in (ltb m n) 5 none given

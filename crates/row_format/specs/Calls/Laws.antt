@@ -8,40 +8,56 @@ use lib.ListN.{length, take, drop}
 use lib.Seq.{take-at}
 use lib.Dec.{ltb}
 use borrow.Author.Tests.{ltb-false, le-ltb}
-use Rattle.bitstream.specs.Bits.{cut, wordsOf, halvesOf, bytesOf, wordsFor}
+use Rattle.bitstream.specs.Bits.{cut, wordsOf, halvesOf, wordsFor}
 use Rattle.bitstream.specs.Bits.Laws.{length-cut}
 use Rattle.answer.specs.declared.Answer.{Answer}
-use Rattle.answer.specs.Outcome.{_orElse_, refuseIf, refused, wrote}
-use Rattle.answer.specs.Outcome.Laws.{countUnless-number, orElse-none, orElse-zero-left, orElse-zero-right, unless-number}
+use Rattle.answer.specs.Outcome.{Outcome, _orElse_, refuseIf, refusal, refused, wrote, answerOf, lent}
+use Rattle.answer.specs.Outcome.Laws.{orElse-none, orElse-zero-left, orElse-zero-right, unless-number}
 use Rattle.row_format.specs.Lists.{any}
 use Rattle.row_format.specs.Lists.Laws.{cond-zero-test}
 use Rattle.row_format.specs.Table.{tableNumber, maxItemBits}
-use Rattle.row_format.specs.Row.{bits, itemsFor, rowBits}
-use Rattle.row_format.specs.Reading.{readBy, readItems, stray}
-use Rattle.row_format.specs.Calls.{checked, tooMany, packNumber, packedRow, packed, unpackNumber, unpacked}
-
-pub tooMany-zero : (n : ℕ) → tooMany n ≡ 0 → n ≤ 4096
-tooMany-zero n e = ltb-false 4096 n (cond-zero-test (ltb 4096 n) 10 0 e)
+use Rattle.row_format.specs.Row.{bits, itemsFor, rowBits, rowBytes, tooMany}
+use Rattle.row_format.specs.Row.Laws.{tooMany-zero}
+use Rattle.row_format.specs.Reading.{Run, done, stop, runNumber, rowReading}
+use Rattle.row_format.specs.Reading.Laws.{rowReading-nothing}
+use Rattle.row_format.specs.Calls.{checked, packNumber, packedRow, packed, rowOutcome, unpacked}
 
 -- ---- checking
 pub checked-number : (tb : List ℕ) → checked tb .number ≡ tableNumber tb
 unfolding checked
-checked-number tb = countUnless-number (tableNumber tb) (maxItemBits (wordsOf tb))
+checked-number tb =
+    unless-number (λ (a : Answer). a .number) refusal (answerOf 0 (maxItemBits (wordsOf tb))) (λ k. refl) (tableNumber tb) refl
 
 pub answer-number : (tb : List ℕ) {a : Answer} → a ≡ checked tb → a .number ≡ tableNumber tb
 answer-number tb is = ap (λ (x : Answer). x .number) is ∙ checked-number tb
 
+-- ---- the numbers of the calls
+-- the number that a packing answers is that of its refusals
+pub packed-number : (tb pb m : List ℕ) → packed tb pb m .answer .number ≡ packNumber tb (halvesOf pb) (length m / 4)
+unfolding packed
+packed-number tb pb m =
+    unless-number (λ (o : Outcome Answer). o .answer .number) (λ e. refused e m) (packedRow (wordsOf tb) (halvesOf pb) m)
+    (λ k. refl) (packNumber tb (halvesOf pb) (length m / 4)) refl
+
 -- ---- of no pixels: the table's number alone
 pub packed-nothing : (tb pb m : List ℕ) → length pb ≡ 0 → packed tb pb m .answer .number ≡ tableNumber tb
-unfolding packed packNumber packedRow rowBits itemsFor bits any cut
+unfolding packNumber rowBits itemsFor bits any cut
 packed-nothing tb pb m none =
     let no-pixels : halvesOf pb ≡ [] = rw none in
-    rw (no-pixels, le-ltb (length m / 4) 0 (omega arith), orElse-none (tableNumber tb)) (unless-number (tableNumber tb) m _ refl)
+    packed-number tb pb m ∙ rw (no-pixels, le-ltb (length m / 4) 0 (omega arith)) (orElse-none (tableNumber tb))
+
+-- the number that an unpacking answers is that of its reading
+rowOutcome-number : (m : List ℕ) (x : Run) → rowOutcome m x .answer .number ≡ runNumber x
+rowOutcome-number m (done is u) = refl
+rowOutcome-number m (stop e at u) = refl
+
+pub unpacked-number : (tb wb : List ℕ) (n : ℕ) (m : List ℕ)
+    → unpacked tb wb n m .answer .number ≡ runNumber (rowReading (lent (length m)) tb n wb)
+unfolding unpacked
+unpacked-number tb wb n m = rowOutcome-number m (rowReading (lent (length m)) tb n wb)
 
 pub unpacked-nothing : (tb wb m : List ℕ) → unpacked tb wb 0 m .answer .number ≡ tableNumber tb
-unfolding unpacked unpackNumber readItems readBy stray any
-unpacked-nothing tb wb m =
-    rw (le-ltb (length m / 2) 0 (omega arith), orElse-none (tableNumber tb)) (unless-number (tableNumber tb) m _ refl)
+unpacked-nothing tb wb m = unpacked-number tb wb 0 m ∙ rowReading-nothing (lent (length m)) tb wb
 
 -- ---- packing
 -- what the refusals before the one for room ask of a table and a row
@@ -76,25 +92,15 @@ packNumber-zero-room tb ps roomWords e =
     let left = sym (packNumber-packable tb ps roomWords (packable tb ps roomWords e)) ∙ e in
     ltb-false roomWords need (cond-zero-test (ltb roomWords need) 4 0 left)
 
--- the bytes that packing writes for a row
-abbrev pub rowBytes : List ℕ → List ℕ → List ℕ
-rowBytes t ps = bytesOf (4 * wordsFor (length (rowBits t ps))) (rowBits t ps)
-
 pub packed-done : (tb pb m : List ℕ) → packNumber tb (halvesOf pb) (length m / 4) ≡ 0
     → packed tb pb m ≡ wrote (length (rowBits (wordsOf tb) (halvesOf pb))) (rowBytes (wordsOf tb) (halvesOf pb)) m
-unfolding packed packedRow
+unfolding packed
 packed-done tb pb m e = rw e
 
 pub packed-refused : (tb pb m : List ℕ) (e : ℕ) → packNumber tb (halvesOf pb) (length m / 4) ≡ suc e
     → packed tb pb m ≡ refused (suc e) m
 unfolding packed
 packed-refused tb pb m e h = rw h
-
--- the number that a packing answers is that of its refusals
-pub packed-number : (tb pb m : List ℕ) → packed tb pb m .answer .number ≡ packNumber tb (halvesOf pb) (length m / 4)
-unfolding packed packedRow
-packed-number tb pb m =
-    unless-number (packNumber tb (halvesOf pb) (length m / 4)) m (packedRow (wordsOf tb) (halvesOf pb) m) refl
 
 -- the words that a done packing wrote
 pub packed-front : (tb pb m : List ℕ) → packNumber tb (halvesOf pb) (length m / 4) ≡ 0
@@ -104,24 +110,3 @@ packed-front tb pb m e =
     let k = 4 * wordsFor (length b) in
     let front = rowBytes (wordsOf tb) (halvesOf pb) in
     rw (packed-done tb pb m e) (take-at front (drop (length front) m) k (length-cut 8 k b))
-
--- ---- unpacking
-pub record Unpackable (tb : List ℕ) (n roomPixels : ℕ) : Type 0 where
-  pub table : tableNumber tb ≡ 0
-  pub few : n ≤ 4096
-  pub room : n ≤ roomPixels
-
-pub unpackNumber-unpackable : (tb : List ℕ) (n roomPixels : ℕ) → Unpackable tb n roomPixels → unpackNumber tb n roomPixels ≡ 0
-unfolding unpackNumber
-unpackNumber-unpackable tb n roomPixels ok = rw (ok .table, le-ltb 4096 n (ok .few), le-ltb roomPixels n (ok .room))
-
-pub unpackable : (tb : List ℕ) (n roomPixels : ℕ) → unpackNumber tb n roomPixels ≡ 0 → Unpackable tb n roomPixels
-unfolding unpackNumber
-unpackable tb n roomPixels e =
-    let full = refuseIf (ltb roomPixels n) 5 in
-    let after-table = orElse-zero-right (tableNumber tb) (tooMany n orElse full) e in
-    record {
-      table = orElse-zero-left (tableNumber tb) (tooMany n orElse full) e;
-      few = tooMany-zero n (orElse-zero-left (tooMany n) full after-table);
-      room = ltb-false roomPixels n (cond-zero-test (ltb roomPixels n) 4 0 (orElse-zero-right (tooMany n) full after-table));
-    }

@@ -7,8 +7,12 @@ use mathlib.Core.List.{List, [], _∷_}
 use lib.ListN.{length}
 use lib.Dec.{eqb}
 use borrow.Author.Tests.{eqb-true, eqb-false, ne-eqb}
+use Rattle.answer.specs.Outcome.Laws.{lessNumber-zero}
 use Rattle.row_format.specs.Lists.Laws.{by-test}
-use Rattle.row_format.specs.Row.{Item, difference, badPixel, badBias, escape, State, differenceTo, byDifference, itemFor, after, itemsFor, pixelsOf}
+use Rattle.row_format.specs.Row.{Item, difference, badPixel, badBias, escape, State, differenceTo, byDifference, itemFor, after, itemsFor, pixelsOf, tooMany}
+
+pub tooMany-zero : (n : ℕ) → tooMany n ≡ 0 → n ≤ 4096
+tooMany-zero n e = lessNumber-zero 4096 n 10 e
 
 -- to show something of the item that a pixel gets, show it of each of the four
 pub itemFor-cases : (P : Item → Type 0) (t : List ℕ) (s : State) (p : ℕ)

@@ -1,6 +1,6 @@
 -- Demand 3: the bits that a reading uses and the bits that a row takes are at most n times M. Of a reading this holds under
 -- every table, accepted or not. Assumes nothing.
-use Prim.Native.Nat.{ℕ, zero, suc, _+_, _-_, _*_, _/_, _≤_}
+use Prim.Native.Nat.{ℕ, zero, suc, _+_, _-_, _*_, _≤_}
 use native.Mathlib.Nat.{suc-mul}
 use native.Mathlib.Omega.{arith}
 use mathlib.Core.Path.{_≡_, refl, ap, _∙_}
@@ -19,15 +19,13 @@ use Rattle.row_format.specs.Table.Laws.{length-codewordAt, length-codewo
 use Rattle.row_format.specs.Row.{Item, difference, badPixel, badBias, escape, State, fresh, after, itemBits, itemsFor, bits, rowBits}
 use Rattle.row_format.specs.Row.Laws.{length-itemsFor}
 use Rattle.row_format.specs.Reading.Laws.{unmatched-cases, rawHeight-cases, matched-cases}
-use Rattle.row_format.specs.Reading.{Match, none, found, find, Reading, item, fault, unmatched, rawHeight, matched, taken, readItem, Run, done, stop, prepend, follow, readBy, readItems}
-use Rattle.row_format.specs.Calls.{unpackNumber, usedByRun, usedUnless, bitsUsed}
+use Rattle.row_format.specs.Reading.{Match, none, found, find, Reading, item, fault, bitsOfReading, unmatched, rawHeight, matched, taken, readItem, Run, done, stop, bitsOfRun, prepend, follow, readBy, readItems, stray, withoutStray, firstNumber, rowReading}
+use Rattle.answer.specs.Outcome.{refuseIf, Lent, lent}
+use Rattle.answer.specs.Outcome.Laws.{unless-in, unless-refused}
+use Rattle.row_format.specs.Calls.{bitsUsed}
 use Rattle.row_format.specs.Theorems.Search.{Found, find-found, any-begins-none-take}
 
 -- ---- one item
-abbrev pub bitsOfReading : Reading → ℕ
-bitsOfReading (item i u) = u
-bitsOfReading (fault e u) = u
-
 -- a beginning of some string is no longer than the longest
 any-begins-length : (ss : List (List ℕ)) (r : List ℕ) → any (begins r) ss ≡ true → length r ≤ longest ss
 unfolding any longest
@@ -77,17 +75,17 @@ unfolding readItem
 readItem-uses t s r = taken-uses t s r (find (codewords t) r) (find-found (codewords t) r)
 
 -- ---- a run of items, by any way of reading one that uses at most m bits
-prepend-uses : (i : Item) (u : ℕ) (x : Run) → usedByRun (prepend i u x) ≡ u + usedByRun x
+prepend-uses : (i : Item) (u : ℕ) (x : Run) → bitsOfRun (prepend i u x) ≡ u + bitsOfRun x
 prepend-uses i u (done is v) = refl
 prepend-uses i u (stop e at v) = refl
 
 follow-uses : (x : Reading) (f : Item → ℕ → Run) (m n : ℕ) → bitsOfReading x ≤ m
-    → ((i : Item) (u : ℕ) → usedByRun (f i u) ≤ n) → usedByRun (follow x f) ≤ n + m
+    → ((i : Item) (u : ℕ) → bitsOfRun (f i u) ≤ n) → bitsOfRun (follow x f) ≤ n + m
 follow-uses (item i u) f m n h rest = omega (arith, prepend-uses i u (f i u), rest i u)
 follow-uses (fault e u) f m n h rest = omega arith
 
 pub readBy-uses : (f : State → List ℕ → Reading) (m : ℕ) → ((s : State) (r : List ℕ) → bitsOfReading (f s r) ≤ m)
-    → (s : State) (n : ℕ) (r : List ℕ) → usedByRun (readBy f s n r) ≤ n * m
+    → (s : State) (n : ℕ) (r : List ℕ) → bitsOfRun (readBy f s n r) ≤ n * m
 unfolding readBy
 readBy-uses f m each s zero r = omega arith
 readBy-uses f m each s (suc n) r =
@@ -95,18 +93,41 @@ readBy-uses f m each s (suc n) r =
     (follow-uses (f s r) (λ i u. readBy f (after s i) n (drop u r)) m (n * m) (each s r)
     (λ i u. readBy-uses f m each (after s i) n (drop u r)))
 
-pub readItems-uses : (t : List ℕ) (n : ℕ) (r : List ℕ) → usedByRun (readItems t n r) ≤ n * maxItemBits t
+pub readItems-uses : (t : List ℕ) (n : ℕ) (r : List ℕ) → bitsOfRun (readItems t n r) ≤ n * maxItemBits t
 unfolding readItems
 readItems-uses t n r = readBy-uses (readItem t) (maxItemBits t) (readItem-uses t) fresh n r
 
-usedUnless-most : (e u m : ℕ) → u ≤ m → usedUnless e u ≤ m
-usedUnless-most zero u m h = h
-usedUnless-most (suc e) u m h = omega arith
+-- 10 adds none, and refused before its first item a reading uses none
+withoutStray-uses : (r : List ℕ) (x : Run) → bitsOfRun (withoutStray r x) ≡ bitsOfRun x
+withoutStray-uses r (done is u) =
+    unless-in (λ x. bitsOfRun x ≡ u) (refuseIf (stray u r) 10) (λ e. stop e u u) (done is u) (λ k e. refl) (λ e. refl)
+withoutStray-uses r (stop e at u) = refl
+
+pub rowReading-uses : (m : Lent) (tb : List ℕ) (n : ℕ) (wb : List ℕ)
+    → bitsOfRun (rowReading m tb n wb) ≤ n * maxItemBits (wordsOf tb)
+unfolding rowReading
+rowReading-uses m tb n wb =
+    let t = wordsOf tb in
+    let run = readItems t n (stream wb) in
+    unless-in (λ x. bitsOfRun x ≤ n * maxItemBits t) (firstNumber m tb n) (λ e. stop e 0 0) (withoutStray (stream wb) run)
+    (λ k e. omega arith) (λ e. omega (arith, withoutStray-uses (stream wb) run, readItems-uses t n (stream wb)))
 
 pub bitsUsed-most : (tb wb : List ℕ) (n : ℕ) (m : List ℕ) → bitsUsed tb wb n m ≤ n * maxItemBits (wordsOf tb)
 unfolding bitsUsed
-bitsUsed-most tb wb n m =
-    usedUnless-most (unpackNumber tb n (length m / 2)) _ _ (readItems-uses (wordsOf tb) n (stream wb))
+bitsUsed-most tb wb n m = rowReading-uses (lent (length m)) tb n wb
+
+-- refused before its first item; and else
+pub bitsUsed-none : (tb wb : List ℕ) (n : ℕ) (m : List ℕ) → (firstNumber (lent (length m)) tb n ≡ 0 → ⊥)
+    → bitsUsed tb wb n m ≡ 0
+unfolding bitsUsed rowReading
+bitsUsed-none tb wb n m refused =
+    let items = withoutStray (stream wb) (readItems (wordsOf tb) n (stream wb)) in
+    ap bitsOfRun (unless-refused (firstNumber (lent (length m)) tb n) (λ e. stop e 0 0) items refused)
+
+pub bitsUsed-run : (tb wb : List ℕ) (n : ℕ) (m : List ℕ) → firstNumber (lent (length m)) tb n ≡ 0
+    → bitsUsed tb wb n m ≡ bitsOfRun (readItems (wordsOf tb) n (stream wb))
+unfolding bitsUsed rowReading
+bitsUsed-run tb wb n m passed = rw passed (withoutStray-uses (stream wb) (readItems (wordsOf tb) n (stream wb)))
 
 -- ---- a row, under every table and of whatever pixels
 pub length-itemBits-escape : (t : List ℕ) (h : ℕ) → length (itemBits t (escape h)) ≡ escapeLength t + 12

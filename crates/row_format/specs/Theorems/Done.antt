@@ -1,80 +1,100 @@
--- What a done unpacking has read. Assumes nothing.
-use Prim.Native.Nat.{ℕ, zero, suc, _*_, _/_}
+-- What a done reading of a row has read, and of an unpacking that is done. Assumes nothing.
+use Prim.Native.Nat.{ℕ, zero, suc, _*_, _<_}
 use native.Mathlib.Omega.{arith}
-use mathlib.Core.Path.{_≡_, refl}
+use mathlib.Core.Path.{_≡_, refl, sym, _∙_}
 use mathlib.Core.Bool.{false}
 use mathlib.Core.List.{List}
 use lib.ListN.{length}
-use Rattle.bitstream.specs.Bits.{flat, bytesOf, wordsOf, stream}
-use Rattle.answer.specs.Outcome.{wrote, unless}
-use Rattle.row_format.specs.Lists.Laws.{by-test}
-use Rattle.row_format.specs.Row.{Item, fresh, pixelsOf, bits}
-use Rattle.row_format.specs.Reading.{Run, done, stop, readItems, stray}
-use Rattle.row_format.specs.Calls.{afterRun, unpackNumber, unpacked, bitsUsed, usedByRun, usedUnless}
-use Rattle.row_format.specs.Calls.Laws.{Unpackable, unpackable, unpackNumber-unpackable}
+use Rattle.bitstream.specs.Bits.{wordsOf, stream}
 use Rattle.bitstream.specs.Bits.Laws.{below-flat}
+use Rattle.answer.specs.Outcome.{wrote, unless, Lent, lent, roomNumber}
+use Rattle.row_format.specs.Lists.Laws.{by-test}
 use Rattle.row_format.specs.Table.Laws.{accepted, tableNumber-verdict}
+use Rattle.row_format.specs.Row.{Item, fresh, pixelsOf, pixelBytes, bits}
+use Rattle.row_format.specs.Reading.{Run, done, stop, runNumber, readItem, readItems, stray, withoutStray, firstNumber, rowReading}
+use Rattle.row_format.specs.Reading.Laws.{Readable, readable, firstNumber-readable, readBy-count}
+use Rattle.row_format.specs.Calls.{unpacked, bitsUsed}
+use Rattle.row_format.specs.Calls.Laws.{unpacked-number}
+use Rattle.row_format.specs.Theorems.Bounds.{bitsUsed-run}
 use Rattle.row_format.specs.Theorems.Standing.{readItems-stands}
-use Rattle.row_format.specs.Theorems.Numbers.{StopIn, readItems-in}
+use Rattle.row_format.specs.Theorems.Numbers.{StopIn, rowReading-stops}
 
--- the items and bits of a reading that was accepted, and what it left
+-- ---- a reading that is done: what was asked before its first item, its items and bits, and no stray bit
+pub record Reads (m : Lent) (tb : List ℕ) (n : ℕ) (wb : List ℕ) (is : List Item) (u : ℕ) : Type 0 where
+  pub given : Readable m tb n
+  pub read : readItems (wordsOf tb) n (stream wb) ≡ done is u
+  pub clean : stray u (stream wb) ≡ false
+
+module _ (m : Lent) (tb : List ℕ) (n : ℕ) (wb : List ℕ) (is : List Item) (u : ℕ) where
+  without-stray : (x : Run) → withoutStray (stream wb) x ≡ done is u
+      → (x ≡ done is u) × (stray u (stream wb) ≡ false)
+  without-stray (done js v) e = by-test (stray v (stream wb))
+      (λ set. absurd (let z : _≡_ {A = ℕ} 0 1 = cc (rw set at e) in omega arith))
+      (λ clear. let same : done js v ≡ done is u = rw clear at e in
+      let bits : v ≡ u = cc in
+      (same, rw (← bits) clear))
+  without-stray (stop k at v) e = absurd (let z : _≡_ {A = ℕ} 0 1 = cc in omega arith)
+
+  pub rowReading-reads : rowReading m tb n wb ≡ done is u → Reads m tb n wb is u
+  unfolding rowReading
+  rowReading-reads e = by-first (firstNumber m tb n) refl e
+    where
+      by-first : (k : ℕ) → firstNumber m tb n ≡ k
+          → unless k (λ e. stop e 0 0) (withoutStray (stream wb) (readItems (wordsOf tb) n (stream wb))) ≡ done is u
+          → Reads m tb n wb is u
+      by-first zero first h =
+          let got = without-stray (readItems (wordsOf tb) n (stream wb)) h in
+          record { given = readable m tb n first; read = got .0; clean = got .1 }
+      by-first (suc k) first h = absurd (let z : _≡_ {A = ℕ} 0 1 = cc in omega arith)
+
+-- n items, for which there is room
+pub record Given (m : Lent) (n : ℕ) (is : List Item) : Type 0 where
+  pub count : length is ≡ n
+  pub room : roomNumber m (2 * n) ≡ 0
+
+abbrev pub Gives : Lent → ℕ → Run → Type 0
+Gives m n (done is u) = Given m n is
+Gives m n (stop e at u) = Unit {0}
+
+pub rowReading-gives : (m : Lent) (tb : List ℕ) (n : ℕ) (wb : List ℕ) → Gives m n (rowReading m tb n wb)
+unfolding readItems
+rowReading-gives m tb n wb = by-run (rowReading m tb n wb) refl
+  where
+    by-run : (x : Run) → rowReading m tb n wb ≡ x → Gives m n x
+    by-run (done is u) e =
+        let got = rowReading-reads m tb n wb is u e in
+        record { count = readBy-count (readItem (wordsOf tb)) fresh n (stream wb) is u (got .read); room = got .given .room }
+    by-run (stop k at u) e = tt
+
+-- ---- an unpacking that is done: the items and bits of its reading, and what it left
 pub record Accepts (tb wb : List ℕ) (n : ℕ) (m : List ℕ) : Type 0 where
-  pub given : Unpackable tb n (length m / 2)
   pub items : List Item
   pub used : ℕ
-  pub read : readItems (wordsOf tb) n (stream wb) ≡ done items used
-  pub clean : stray used (stream wb) ≡ false
-  pub left : unpacked tb wb n m ≡ wrote used (bytesOf (2 * n) (flat 16 (pixelsOf fresh items))) m
+  pub reads : Reads (lent (length m)) tb n wb items used
+  pub left : unpacked tb wb n m ≡ wrote used (pixelBytes (pixelsOf fresh items)) m
 
 module _ (tb wb : List ℕ) (n : ℕ) (m : List ℕ) where
-  -- a faulty item's number is never 0
-  by-run : (e : ℕ) → unpackNumber tb n (length m / 2) ≡ e → (x : Run) → readItems (wordsOf tb) n (stream wb) ≡ x
-      → StopIn (λ k. k ≡ 0 → ⊥) x → unless e m (afterRun (stream wb) n m x) .answer .number ≡ 0 → Accepts tb wb n m
+  -- a refusal's number is never 0
+  by-run : (x : Run) → rowReading (lent (length m)) tb n wb ≡ x → StopIn (λ e. 0 < e) x → runNumber x ≡ 0 → Accepts tb wb n m
   unfolding unpacked
-  by-run zero passed (done is u) read real h = by-test (stray u (stream wb))
-      (λ e. absurd (omega (arith, rw e at h)))
-      (λ e. record {
-        given = unpackable tb n (length m / 2) passed;
-        items = is;
-        used = u;
-        read = read;
-        clean = e;
-        left = rw (passed, read, e);
-      })
-  by-run zero passed (stop k at u) read real h = absurd (real h)
-  by-run (suc e) passed x read real h = absurd (omega arith)
+  by-run (done is u) e real h =
+      record { items = is; used = u; reads = rowReading-reads (lent (length m)) tb n wb is u e; left = rw e }
+  by-run (stop k at u) e real h = absurd (omega arith)
 
   pub unpacked-accepts : unpacked tb wb n m .answer .number ≡ 0 → Accepts tb wb n m
-  unfolding unpacked
   unpacked-accepts h =
-      let t = wordsOf tb in
-      let nonzero : ℕ → Type 0 = λ k. k ≡ 0 → ⊥ in
-      let real : StopIn nonzero (readItems t n (stream wb)) =
-      readItems-in nonzero (λ e. omega arith) (λ e. omega arith) (λ e. omega arith) (λ e. omega arith) t n (stream wb) in
-      by-run (unpackNumber tb n (length m / 2)) refl (readItems t n (stream wb)) refl real h
+      by-run (rowReading (lent (length m)) tb n wb) refl (rowReading-stops (lent (length m)) tb n wb)
+      (sym (unpacked-number tb wb n m) ∙ h)
 
 -- its count is the sum of the items' lengths, and the bits that it used
 module _ (tb wb : List ℕ) (n : ℕ) (m : List ℕ) (got : Accepts tb wb n m) where
   pub unpacked-count : unpacked tb wb n m .answer .count ≡ length (bits (wordsOf tb) (got .items))
   unpacked-count =
-      let ok = accepted (wordsOf tb) (tableNumber-verdict tb (got .given .table)) in
-      let there = readItems-stands (wordsOf tb) ok n (stream wb) (got .items) (got .used) (below-flat 8 _) (got .read) in
+      let ok = accepted (wordsOf tb) (tableNumber-verdict tb (got .reads .given .table)) in
+      let there = readItems-stands (wordsOf tb) ok n (stream wb) (got .items) (got .used) (below-flat 8 _) (got .reads .read) in
       rw (got .left) (there .front .size)
 
   pub bitsUsed-count : bitsUsed tb wb n m ≡ unpacked tb wb n m .answer .count
-  unfolding bitsUsed
-  bitsUsed-count = rw (got .left, unpackNumber-unpackable tb n (length m / 2) (got .given), got .read)
-
--- ---- the bits that a reading uses
-usedUnless-refused : (e u : ℕ) → (e ≡ 0 → ⊥) → usedUnless e u ≡ 0
-usedUnless-refused zero u refused = absurd (refused refl)
-usedUnless-refused (suc e) u refused = refl
-
-module _ (tb wb : List ℕ) (n : ℕ) (m : List ℕ) where
-  pub bitsUsed-none : (unpackNumber tb n (length m / 2) ≡ 0 → ⊥) → bitsUsed tb wb n m ≡ 0
-  unfolding bitsUsed
-  bitsUsed-none refused = usedUnless-refused (unpackNumber tb n (length m / 2)) (usedByRun (readItems (wordsOf tb) n (stream wb))) refused
-
-  pub bitsUsed-run : unpackNumber tb n (length m / 2) ≡ 0 → bitsUsed tb wb n m ≡ usedByRun (readItems (wordsOf tb) n (stream wb))
-  unfolding bitsUsed
-  bitsUsed-run passed = rw passed
+  bitsUsed-count =
+      let first = firstNumber-readable (lent (length m)) tb n (got .reads .given) in
+      rw (got .left) (bitsUsed-run tb wb n m first ∙ rw (got .reads .read))

@@ -1,6 +1,6 @@
 -- Demand 3: runs of words that are alike in their first n times M bits, rounded up to whole words, are unpacked alike. This
 -- holds under every table, accepted or not. Assumes nothing.
-use Prim.Native.Nat.{_/_, ℕ, zero, suc, _+_, _-_, _*_, _≤_}
+use Prim.Native.Nat.{ℕ, zero, suc, _+_, _-_, _*_, _≤_}
 use native.Mathlib.Nat.{suc-mul}
 use native.Mathlib.Omega.{arith}
 use mathlib.Core.Path.{_≡_, refl, sym, ap, _∙_}
@@ -16,11 +16,11 @@ use Rattle.row_format.specs.BitLaws.{stream-take, length-stream}
 use Rattle.row_format.specs.Table.{codewords, codewordAt, longest, maxItemBits}
 use Rattle.row_format.specs.Table.Laws.{length-codewordAt, longest-maxItemBits, escapeLength-most}
 use Rattle.row_format.specs.Row.{Item, State, fresh, after}
-use Rattle.row_format.specs.Reading.{Match, none, found, find, Reading, item, fault, unmatched, rawHeight, matched, taken, readItem, Run, done, stop, follow, readBy, readItems, stray}
-use Rattle.answer.specs.Outcome.{Outcome, unless}
-use Rattle.row_format.specs.Calls.{unpackNumber, usedByRun, afterRun, unpacked}
+use Rattle.row_format.specs.Reading.{Match, none, found, find, Reading, item, fault, bitsOfReading, unmatched, rawHeight, matched, taken, readItem, Run, done, stop, bitsOfRun, follow, readBy, readItems, stray, withoutStray, firstNumber, rowReading}
+use Rattle.answer.specs.Outcome.{unless, Lent, lent}
+use Rattle.row_format.specs.Calls.{rowOutcome, unpacked}
 use Rattle.row_format.specs.Theorems.Search.{Found, find-found, find-take, any-begins-none, any-begins-none-take}
-use Rattle.row_format.specs.Theorems.Bounds.{bitsOfReading, readItem-uses, readItems-uses}
+use Rattle.row_format.specs.Theorems.Bounds.{readItem-uses, readItems-uses}
 
 -- ---- one item
 unmatched-take : (ss : List (List ℕ)) (r : List ℕ) (k : ℕ) → longest ss ≤ k → k ≤ length r → any (λ s. begins s r) ss ≡ false
@@ -92,30 +92,37 @@ stray-take : (u : ℕ) (r : List ℕ) (k : ℕ) → 32 * wordsFor u ≤ k → st
 unfolding stray
 stray-take u r k h = rw (field-take u (32 * wordsFor u - u) k r (omega arith))
 
-afterRun-take : (r : List ℕ) (n : ℕ) (m : List ℕ) (x : Run) (k : ℕ) → 32 * wordsFor (usedByRun x) ≤ k
-    → afterRun (take k r) n m x ≡ afterRun r n m x
-afterRun-take r n m (done is u) k h = rw (stray-take u r k h)
-afterRun-take r n m (stop e at u) k h = refl
+withoutStray-take : (r : List ℕ) (x : Run) (k : ℕ) → 32 * wordsFor (bitsOfRun x) ≤ k
+    → withoutStray (take k r) x ≡ withoutStray r x
+withoutStray-take r (done is u) k h = rw (stray-take u r k h)
+withoutStray-take r (stop e at u) k h = refl
 
--- an unpacking looks at no more than the words that n times M bits fill
-front : (t : List ℕ) (n : ℕ) (r m : List ℕ) (w : ℕ) → n * maxItemBits t ≤ 32 * w → 32 * w ≤ length r
-    → afterRun (take (32 * w) r) n m (readItems t n (take (32 * w) r)) ≡ afterRun r n m (readItems t n r)
-front t n r m w enough within =
+-- a reading looks at no more than the words that n times M bits fill
+front : (t : List ℕ) (n : ℕ) (r : List ℕ) (w : ℕ) → n * maxItemBits t ≤ 32 * w → 32 * w ≤ length r
+    → withoutStray (take (32 * w) r) (readItems t n (take (32 * w) r)) ≡ withoutStray r (readItems t n r)
+front t n r w enough within =
     rw (readItems-take t n r (32 * w) enough within)
-    (afterRun-take r n m (readItems t n r) (32 * w) (omega (arith, readItems-uses t n r)))
+    (withoutStray-take r (readItems t n r) (32 * w) (omega (arith, readItems-uses t n r)))
+
+pub rowReading-alike : (m : Lent) (tb : List ℕ) (n : ℕ) (wb wb′ : List ℕ)
+    → let k = wordsFor (n * maxItemBits (wordsOf tb)) in
+    4 * k ≤ length wb → 4 * k ≤ length wb′ → take (4 * k) wb ≡ take (4 * k) wb′
+    → rowReading m tb n wb ≡ rowReading m tb n wb′
+unfolding rowReading
+rowReading-alike m tb n wb wb′ h h′ e =
+    let t = wordsOf tb in
+    let k = wordsFor (n * maxItemBits t) in
+    let read : List ℕ → Run = λ r. withoutStray r (readItems t n r) in
+    let same : take (32 * k) (stream wb) ≡ take (32 * k) (stream wb′) =
+    stream-take wb k h ∙ ap (flat 8) e ∙ sym (stream-take wb′ k h′) in
+    let alike : read (stream wb) ≡ read (stream wb′) =
+    sym (front t n (stream wb) k (omega arith) (omega (arith, length-stream wb)))
+    ∙ ap read same
+    ∙ front t n (stream wb′) k (omega arith) (omega (arith, length-stream wb′)) in
+    ap (unless (firstNumber m tb n) (λ e. stop e 0 0)) alike
 
 pub unpacked-alike : (tb wb wb′ : List ℕ) (n : ℕ) (m : List ℕ)
     → let k = wordsFor (n * maxItemBits (wordsOf tb)) in
     4 * k ≤ length wb → 4 * k ≤ length wb′ → take (4 * k) wb ≡ take (4 * k) wb′ → unpacked tb wb n m ≡ unpacked tb wb′ n m
 unfolding unpacked
-unpacked-alike tb wb wb′ n m h h′ e =
-    let t = wordsOf tb in
-    let k = wordsFor (n * maxItemBits t) in
-    let left : List ℕ → Outcome = λ r. afterRun r n m (readItems t n r) in
-    let same : take (32 * k) (stream wb) ≡ take (32 * k) (stream wb′) =
-    stream-take wb k h ∙ ap (flat 8) e ∙ sym (stream-take wb′ k h′) in
-    let alike : left (stream wb) ≡ left (stream wb′) =
-    sym (front t n (stream wb) m k (omega arith) (omega (arith, length-stream wb)))
-    ∙ ap left same
-    ∙ front t n (stream wb′) m k (omega arith) (omega (arith, length-stream wb′)) in
-    ap (unless (unpackNumber tb n (length m / 2)) m) alike
+unpacked-alike tb wb wb′ n m h h′ e = ap (rowOutcome m) (rowReading-alike (lent (length m)) tb n wb wb′ h h′ e)

@@ -1,19 +1,21 @@
 -- Demand 1: packing and unpacking answer a number from document 01, and only those that it lists for the call. Each law is
 -- over any property P that these numbers have. Assumes nothing.
-use Prim.Native.Nat.{ℕ, zero, suc, _/_, _%_}
+use Prim.Native.Nat.{ℕ, zero, suc, _*_, _%_, _<_}
+use native.Mathlib.Omega.{arith}
+use mathlib.Core.Path.{_≡_, subst}
 use mathlib.Core.List.{List}
 use lib.ListN.{length, drop}
 use lib.Dec.{ltb, eqb}
 use Rattle.bitstream.specs.Bits.{wordsOf, stream, wordsFor}
-use Rattle.answer.specs.Outcome.{refuseIf}
+use Rattle.answer.specs.Outcome.{refuseIf, Lent, roomNumber}
 use Rattle.answer.specs.Outcome.Laws.{refuseIf-in, orElse-in, unless-in}
 use Rattle.row_format.specs.Lists.{any}
 use Rattle.row_format.specs.Lists.Laws.{by-test}
 use Rattle.row_format.specs.Table.{wrongSize, wrongCodeword, clash, codewords, codewordAt, verdict, tableNumber}
-use Rattle.row_format.specs.Row.{Item, State, fresh, after, rowBits}
+use Rattle.row_format.specs.Row.{Item, State, fresh, after, rowBits, tooMany}
 use Rattle.row_format.specs.Reading.Laws.{unmatched-cases, rawHeight-cases, matched-cases}
-use Rattle.row_format.specs.Reading.{Match, none, found, find, Reading, item, fault, matched, taken, readItem, Run, done, stop, prepend, follow, readBy, readItems, stray}
-use Rattle.row_format.specs.Calls.{tooMany, packNumber, unpackNumber, afterRun, unpacked}
+use Rattle.row_format.specs.Reading.{Match, none, found, find, Reading, item, fault, matched, taken, readItem, Run, done, stop, runNumber, prepend, follow, readBy, readItems, stray, withoutStray, firstNumber, rowReading}
+use Rattle.row_format.specs.Calls.{packNumber}
 
 module _ (P : ℕ → Type 0) where
   pub tableNumber-in : (b : List ℕ) → P 0 → P 1 → P 2 → P 3 → P (tableNumber b)
@@ -73,15 +75,39 @@ module _ (P : ℕ → Type 0) where
     unfolding readItems
     readItems-in t n r = readBy-in t fresh n r
 
-    afterRun-in : (r : List ℕ) (n : ℕ) (m : List ℕ) (x : Run) → P 0 → P 10 → StopIn x → P (afterRun r n m x .answer .number)
-    afterRun-in r n m (done is u) p0 p10 h = unless-in P (refuseIf (stray u r) 10) m _ (refuseIf-in P (stray u r) 10 p0 p10) p0
-    afterRun-in r n m (stop e at u) p0 p10 h = h
+    withoutStray-in : (r : List ℕ) (x : Run) → P 10 → StopIn x → StopIn (withoutStray r x)
+    withoutStray-in r (done is u) p10 h = by-test (stray u r) (λ e. rw e p10) (λ e. rw e tt)
+    withoutStray-in r (stop e at u) p10 h = h
 
-    pub unpacked-in : (tb wb : List ℕ) (n : ℕ) (m : List ℕ) → P 0 → P 1 → P 2 → P 3 → P 11 → P 5 → P 10
-        → P (unpacked tb wb n m .answer .number)
-    unfolding unpacked unpackNumber
-    unpacked-in tb wb n m p0 p1 p2 p3 p11 p5 p10 =
-        unless-in P (unpackNumber tb n (length m / 2)) m _
-        (orElse-in P (tableNumber tb) _ (tableNumber-in tb p0 p1 p2 p3)
-        (orElse-in P (tooMany n) _ (refuseIf-in P (ltb 4096 n) 11 p0 p11) (refuseIf-in P (ltb (length m / 2) n) 5 p0 p5)))
-        (afterRun-in (stream wb) n m (readItems (wordsOf tb) n (stream wb)) p0 p10 (readItems-in (wordsOf tb) n (stream wb)))
+    -- before its first item a reading is refused by what firstNumber says
+    pub rowReading-in : (m : Lent) (tb : List ℕ) (n : ℕ) (wb : List ℕ) → P 10
+        → ((k : ℕ) → firstNumber m tb n ≡ suc k → P (suc k)) → StopIn (rowReading m tb n wb)
+    unfolding rowReading
+    rowReading-in m tb n wb p10 first =
+        let items = readItems (wordsOf tb) n (stream wb) in
+        unless-in StopIn (firstNumber m tb n) (λ e. stop e 0 0) (withoutStray (stream wb) items) first
+        (λ e. withoutStray-in (stream wb) items p10 (readItems-in (wordsOf tb) n (stream wb)))
+
+  pub firstNumber-in : (m : Lent) (tb : List ℕ) (n : ℕ) → P 0 → P 1 → P 2 → P 3 → P 11 → P (roomNumber m (2 * n))
+      → P (firstNumber m tb n)
+  unfolding firstNumber
+  firstNumber-in m tb n p0 p1 p2 p3 p11 room =
+      orElse-in P (tableNumber tb) _ (tableNumber-in tb p0 p1 p2 p3)
+      (orElse-in P (tooMany n) _ (refuseIf-in P (ltb 4096 n) 11 p0 p11) room)
+
+  runNumber-in : (x : Run) → P 0 → StopIn x → P (runNumber x)
+  runNumber-in (done is u) p0 h = p0
+  runNumber-in (stop e at u) p0 h = h
+
+  pub rowReading-number-in : (m : Lent) (tb : List ℕ) (n : ℕ) (wb : List ℕ)
+      → P 0 → P 1 → P 2 → P 3 → P 11 → P (roomNumber m (2 * n)) → P 6 → P 7 → P 8 → P 9 → P 10
+      → P (runNumber (rowReading m tb n wb))
+  rowReading-number-in m tb n wb p0 p1 p2 p3 p11 room p6 p7 p8 p9 p10 =
+      let first = firstNumber-in m tb n p0 p1 p2 p3 p11 room in
+      runNumber-in (rowReading m tb n wb) p0 (rowReading-in p6 p7 p8 p9 m tb n wb p10 (λ k e. subst P e first))
+
+-- a reading that stops does so by a number other than 0
+pub rowReading-stops : (m : Lent) (tb : List ℕ) (n : ℕ) (wb : List ℕ) → StopIn (λ e. 0 < e) (rowReading m tb n wb)
+rowReading-stops m tb n wb =
+    rowReading-in (λ e. 0 < e) (omega arith) (omega arith) (omega arith) (omega arith) m tb n wb (omega arith)
+    (λ k e. omega arith)

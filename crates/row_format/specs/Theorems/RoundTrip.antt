@@ -8,17 +8,18 @@ use lib.ListN.{length, take, drop, replicate, length-append}
 use lib.Seq.{drop-append-seam}
 use lib.Dec.{ltb}
 use borrow.Author.Tests.{ltb-false}
-use Rattle.bitstream.specs.Bits.{flat, bytesOf, wordsOf, halvesOf, stream, wordsFor}
+use Rattle.bitstream.specs.Bits.{wordsOf, halvesOf, stream, wordsFor}
 use Rattle.bitstream.specs.Bits.Laws.{Below}
-use Rattle.answer.specs.Outcome.{wrote}
+use Rattle.answer.specs.Outcome.{wrote, Lent, lent}
 use Rattle.row_format.specs.Lists.{any}
 use Rattle.row_format.specs.Lists.Laws.{any-false-head, any-false-tail}
 use Rattle.row_format.specs.BitLaws.{stream-bytesOf}
 use Rattle.row_format.specs.Table.Laws.{Accepted, accepted, tableNumber-verdict}
-use Rattle.row_format.specs.Row.{Item, State, fresh, previous, itemFor, after, itemBits, itemsFor, pixelsOf, bits, rowBits}
-use Rattle.row_format.specs.Reading.{readItem, done, readBy, readItems}
-use Rattle.row_format.specs.Calls.{afterRun, packNumber, packed, unpacked}
-use Rattle.row_format.specs.Calls.Laws.{Packable, Unpackable, packable, rowBytes, packed-done, unpackNumber-unpackable}
+use Rattle.row_format.specs.Row.{Item, State, fresh, previous, itemFor, after, itemBits, itemsFor, pixelsOf, bits, rowBits, rowBytes}
+use Rattle.row_format.specs.Reading.{readItem, done, readBy, readItems, rowReading}
+use Rattle.row_format.specs.Reading.Laws.{Readable, firstNumber-readable, lent-room}
+use Rattle.row_format.specs.Calls.{packNumber, packed, unpacked}
+use Rattle.row_format.specs.Calls.Laws.{Packable, packable, packed-done}
 use Rattle.row_format.specs.Row.Laws.{length-itemsFor}
 use Rattle.row_format.specs.Theorems.Items.{FitAll, after-height, readItem-own, itemFor-right}
 use Rattle.row_format.specs.Theorems.Words.{below-rowBits, stray-zeros, bytesOf-halvesOf}
@@ -63,18 +64,20 @@ readItems-rowBits t ok ps r e =
     rw (length-itemsFor t fresh ps) at (readBy-own t ok fresh (itemsFor t fresh ps) r fits)
 
 -- ---- the calls
--- a reading of a row's words, whatever words follow
-pub afterRun-rowBytes : (t : List ℕ) (ok : Accepted t) (ps rest m : List ℕ) → any (ltb 4095) ps ≡ false
-    → afterRun (stream (rowBytes t ps ++ rest)) (length ps) m (readItems t (length ps) (stream (rowBytes t ps ++ rest)))
-    ≡ wrote (length (rowBits t ps)) (bytesOf (2 * length ps) (flat 16 ps)) m
-afterRun-rowBytes t ok ps rest m e =
+-- a row's words are read as the row, whatever words follow
+pub rowReading-rowBytes : (m : Lent) (tb ps rest : List ℕ) → Readable m tb (length ps) → any (ltb 4095) ps ≡ false
+    → let t = wordsOf tb in
+    rowReading m tb (length ps) (rowBytes t ps ++ rest) ≡ done (itemsFor t fresh ps) (length (rowBits t ps))
+unfolding rowReading
+rowReading-rowBytes m tb ps rest ok e =
+    let t = wordsOf tb in
     let b = rowBits t ps in
     let padding = replicate (32 * wordsFor (length b) - length b) 0 ++ stream rest in
     rw (
+      firstNumber-readable m tb (length ps) ok,
       stream-bytesOf b rest (below-rowBits t ps),
-      readItems-rowBits t ok ps padding e,
+      readItems-rowBits t (accepted t (tableNumber-verdict tb (ok .table))) ps padding e,
       stray-zeros b (stream rest),
-      pixelsOf-itemsFor t ps e,
     )
 
 -- what packing wrote is unpacked: the bits are those written, and the pixels' bytes the row's own
@@ -84,12 +87,12 @@ pub unpacked-rowBytes : (tb pb rest m : List ℕ) → Below 256 pb → Packable 
     ≡ wrote (length (rowBits (wordsOf tb) (halvesOf pb))) (take (2 * length (halvesOf pb)) pb) m
 unfolding unpacked
 unpacked-rowBytes tb pb rest m bytes ok room =
-    let t = wordsOf tb in
     let ps = halvesOf pb in
-    let asked : Unpackable tb (length ps) (length m / 2) = record { table = ok .table; few = ok .few; room = room } in
+    let asked : Readable (lent (length m)) tb (length ps) =
+    record { table = ok .table; few = ok .few; room = lent-room (length m) (length ps) (omega arith) } in
     rw (
-      unpackNumber-unpackable tb (length ps) (length m / 2) asked,
-      afterRun-rowBytes t (accepted t (tableNumber-verdict tb (ok .table))) ps rest m (ok .pixels),
+      rowReading-rowBytes (lent (length m)) tb ps rest asked (ok .pixels),
+      pixelsOf-itemsFor (wordsOf tb) ps (ok .pixels),
       bytesOf-halvesOf pb bytes,
     )
 

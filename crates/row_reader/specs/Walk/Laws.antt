@@ -10,17 +10,17 @@ use lib.ListN.{length, drop}
 use lib.Seq.{drop-drop}
 use lib.Dec.{ltb, eqb}
 use borrow.Author.Tests.{le-ltb, eq-eqb, ne-eqb, eqb-false}
-use Rattle.bitstream.specs.Bits.{flat, bytesOf, wordsOf, stream}
-use Rattle.answer.specs.Outcome.{refused, wrote}
+use Rattle.bitstream.specs.Bits.{wordsOf, stream}
+use Rattle.answer.specs.Outcome.{refused, wrote, lent}
 use Rattle.row_format.specs.Lists.Laws.{by-test}
 use Rattle.row_format.specs.Table.{tableNumber, maxItemBits}
 use Rattle.row_format.specs.Table.Laws.{accepted, tableNumber-verdict, maxItemBits-most}
 use Rattle.row_format.specs.Row as row
-use Rattle.row_format.specs.Row.{pixelsOf}
-use Rattle.row_format.specs.Reading.{Reading, item, fault, Run, done, stop, prepend, readItem, readBy, readItems, stray}
-use Rattle.row_format.specs.Calls.{unpacked, afterRun}
-use Rattle.row_format.specs.Calls.Laws.{Unpackable, unpackNumber-unpackable}
-use Rattle.row_format.specs.Theorems.Bounds.{bitsOfReading, readItem-uses}
+use Rattle.row_format.specs.Row.{pixelsOf, pixelBytes}
+use Rattle.row_format.specs.Reading.{Reading, item, fault, bitsOfReading, Run, done, stop, prepend, readItem, readBy, readItems, stray, withoutStray, rowReading}
+use Rattle.row_format.specs.Reading.Laws.{Readable, firstNumber-readable, lent-room}
+use Rattle.row_format.specs.Calls.{unpacked, rowOutcome}
+use Rattle.row_format.specs.Theorems.Bounds.{readItem-uses}
 use Rattle.row_format.specs.Theorems.Numbers.{FaultIn, readItem-in}
 use Rattle.row_item.specs.Coded.{progress, stateOf}
 use Rattle.row_item.specs.Coded.Laws.{stateOf-progress}
@@ -167,16 +167,16 @@ module _ (tb wb : List ℕ) where
     start = record { is = refl; most = omega arith; opened = ok }
 
     module _ (n : ℕ) (m : List ℕ) (rm : n ≤ length m / 2) (lim : n ≤ 4096) where
-      passes : Unpackable tb n (length m / 2)
-      passes = record { table = ok; few = lim; room = rm }
+      passes : Readable (lent (length m)) tb n
+      passes = record { table = ok; few = lim; room = lent-room (length m) n (omega arith) }
 
-      row-is : (x : Run) → readItems (wordsOf tb) n (stream wb) ≡ x → unpacked tb wb n m ≡ afterRun (stream wb) n m x
-      unfolding unpacked
-      row-is x e = rw (unpackNumber-unpackable tb n (length m / 2) passes, e)
+      row-is : (x : Run) → readItems (wordsOf tb) n (stream wb) ≡ x → unpacked tb wb n m ≡ rowOutcome m (withoutStray (stream wb) x)
+      unfolding unpacked rowReading
+      row-is x e = rw (firstNumber-readable (lent (length m)) tb n passes, e)
 
       -- where it gives n items, a row call of n with room for them gives those pixels or refuses 10
       whole-row : (ps : List ℕ) (pl : Place) → Whole (startPlace tb) row.fresh n ps pl
-          → (unpacked tb wb n m ≡ wrote (pl .at) (bytesOf (2 * n) (flat 16 ps)) m) ⊎ (unpacked tb wb n m ≡ refused 10 m)
+          → (unpacked tb wb n m ≡ wrote (pl .at) (pixelBytes ps) m) ⊎ (unpacked tb wb n m ≡ refused 10 m)
       whole-row ps pl w = by-test (stray (w .used) (stream wb))
           (λ e. inr (row-is (done (w .items) (w .used)) (unfold readItems in w .read) ∙ rw e))
           (λ e. inl (row-is (done (w .items) (w .used)) (unfold readItems in w .read) ∙ rw (e, w .pixels, w .place, zero-add (w .used))))
@@ -186,7 +186,7 @@ module _ (tb wb : List ℕ) where
 
       -- by a walk's own answer
       pub gives : (ps : List ℕ) (pl : Place) → walk tb wb n (startPlace tb) ≡ gave ps pl
-          → (unpacked tb wb n m ≡ wrote (pl .at) (bytesOf (2 * n) (flat 16 ps)) m) ⊎ (unpacked tb wb n m ≡ refused 10 m)
+          → (unpacked tb wb n m ≡ wrote (pl .at) (pixelBytes ps) m) ⊎ (unpacked tb wb n m ≡ refused 10 m)
       gives ps pl e = whole-row ps pl (subst (Agrees (startPlace tb) row.fresh n) e (walk-agrees n (startPlace tb) row.fresh start (omega arith)))
 
       pub refuses : (k e i : ℕ) → k ≤ 4096 → walk tb wb k (startPlace tb) ≡ ended e i → i < n → unpacked tb wb n m ≡ refused e m

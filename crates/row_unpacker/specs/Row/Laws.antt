@@ -14,8 +14,8 @@ use Rattle.row_format.specs.Table.{codewords, longest, maxItemBits}
 use Rattle.row_format.specs.Table.Laws.{getD-codewords, length-codewordAt, longest-most}
 use Rattle.row_format.specs.Row.{State, fresh, pixelOf, after, pixelsOf}
 use Rattle.row_format.specs.Row as row
-use Rattle.row_format.specs.Reading.{Reading, item, fault, Run, done, stop, prepend, follow, readBy, readItem}
-use Rattle.row_format.specs.Theorems.Bounds.{bitsOfReading, readItem-uses}
+use Rattle.row_format.specs.Reading.{bitsOfReading, Reading, item, fault, Run, done, stop, prepend, follow, readBy, readItem}
+use Rattle.row_format.specs.Theorems.Bounds.{readItem-uses}
 use Rattle.row_item.specs.declared.Item.{Item}
 use Rattle.row_item.specs.declared.Progress.{Progress}
 use Rattle.row_item.specs.Coded.{coded, progress, Followed, stateOf}

@@ -64,8 +64,7 @@ returns-2 c =
     let the-if1 = c .before .before .before .before .before .if1 in
     let the-copy = c .before .before .copy in
     row-done (stream (args .words .now)) (args .n) (args .pixels .now) (the-read-row .last .1 .1 .1 .0)
-    (the-read-row .result) (the-read .given .0 .0) (the-read .given .1)
-    (readItems (wordsOf (args .table .now)) (args .n) (stream (args .words .now))) (the-read-row .ensures)
+    (the-read-row .result) (the-read .given .0 .0) (the-read .given .1) (wordsOf (args .table .now)) (the-read-row .ensures)
     (sym (the-if1 .left) ∙ the-stray-bit .ensures) (the-copy .last .1 .1 .0) (the-copy .ensures)
 
 returns-3 : tie.Need-returns-3

@@ -1,7 +1,10 @@
 pub mod Line
+pub mod Fields
+pub mod Context
+pub mod Kind
+pub mod Kinds
 pub mod Record
 pub mod Reading
 pub mod Writing
 pub mod Sheet
 pub mod Theorems
-pub mod Cases

@@ -1,17 +1,24 @@
 -- Document 01, "A sheet is records one after another": the records of a whole sheet up to its end or to the first that is
--- refused. Definitions only. Assumes nothing.
+-- refused, and what they store. Definitions only. Assumes nothing.
 use Prim.Native.Nat.{ℕ, zero, suc}
-use mathlib.Core.List.{List, [], _∷_}
+use mathlib.Core.List.{List, [], _∷_, map}
+use mathlib.Core.Bool.{cond}
 use lib.ListN.{length, take, drop}
-use Rattle.sheet_format.specs.declared.SheetState.{SheetState}
+use lib.Dec.{eqb}
+use lib.IntN.{ℤ}
+use Rattle.bitstream.specs.Bits.{halvesOf, wordsOf}
 use Rattle.sheet_format.specs.declared.RecordRead.{RecordRead}
-use Rattle.sheet_format.specs.Record.{bodyOf, Kind, tableRecord, packedRecord, plainRecord, lineRecord, unknown, kindOf}
-use Rattle.sheet_format.specs.Reading.{newSheet, tableAfter, recordJudged}
+use Rattle.sheet_format.specs.Context.{Context, newSheet}
+use Rattle.sheet_format.specs.Line.{signedOf}
+use Rattle.sheet_format.specs.Kind.{Holds, aTable, aRow, aLine, nothing}
+use Rattle.sheet_format.specs.Kinds.{kindOf}
+use Rattle.sheet_format.specs.Reading.{contextAfter, recordContent, recordJudged}
 pub mod Laws
 
--- an accepted record of a sheet: what it holds, and its bytes
+-- an accepted record of a sheet: what it holds, its content, and its bytes
 pub record SheetRecord : Type 0 where
   pub answer : RecordRead
+  pub content : List ℕ
   pub bytes : List ℕ
 
 -- a sheet's records before its end or before the refused one, and the number: 0 where the whole sheet is accepted. "refused N
@@ -32,33 +39,82 @@ fromRecord [] e x rest = endsWith 0
 fromRecord (y ∷ r) zero x rest = putFirst x rest
 fromRecord (y ∷ r) (suc e) x rest = endsWith (suc e)
 
--- the records from a place on, where the sheet holds tb and st so far. Every record has bytes, so that there are no more
--- records than bytes: n bounds them
-unfoldable pub recordsFrom : ℕ → List ℕ → SheetState → List ℕ → SheetRead
-recordsFrom zero tb st r = endsWith 0
-recordsFrom (suc n) tb st r =
-    let a : RecordRead = recordJudged tb r st in
-    let table : List ℕ = tableAfter (kindOf (a .kind)) tb (bodyOf r) in
-    let rest : SheetRead = recordsFrom n table (a .state) (drop (a .length) r) in
-    fromRecord r (a .number) (record { answer = a; bytes = take (a .length) r }) rest
+-- the record at r
+abbrev pub recordHere : Context → List ℕ → SheetRecord
+recordHere c r =
+    record {
+      answer = recordJudged c r;
+      content = recordContent c r;
+      bytes = take (recordJudged c r .length) r;
+    }
+
+-- the bytes after it
+abbrev pub restNext : Context → List ℕ → List ℕ
+restNext c r = drop (recordJudged c r .length) r
+
+-- the records from a place on, where the sheet holds c so far. Every record has bytes, so that there are no more records than
+-- bytes: n bounds them
+unfoldable pub recordsFrom : ℕ → Context → List ℕ → SheetRead
+recordsFrom zero c r = endsWith 0
+recordsFrom (suc n) c r =
+    fromRecord r (recordJudged c r .number) (recordHere c r) (recordsFrom n (contextAfter c r) (restNext c r))
+
+abbrev pub records : Context → List ℕ → SheetRead
+records c r = recordsFrom (length r) c r
 
 -- "A sheet with no records is refused 16"
 unfoldable pub sheetRead : List ℕ → SheetRead
 sheetRead [] = endsWith 16
-sheetRead (x ∷ r) = recordsFrom (length (x ∷ r)) [] newSheet (x ∷ r)
+sheetRead (x ∷ r) = records newSheet (x ∷ r)
 
--- ---- of some records: their kinds, and their row numbers "over kinds 2 and 3"
+-- ---- what records store
+-- what a record holds: a table, a row or a line
+abbrev pub recordHolds : SheetRecord → Holds
+recordHolds x = kindOf (x .answer .kind) .holds
+
+-- a row: its number and its heights
+pub record StoredRow : Type 0 where
+  pub number : ℕ
+  pub heights : List ℕ
+
+abbrev pub rowOf : SheetRecord → StoredRow
+rowOf x = record { number = x .answer .row; heights = halvesOf (x .content) }
+
+abbrev pub withRow : Holds → StoredRow → List StoredRow → List StoredRow
+withRow aTable y ys = ys
+withRow aRow y ys = y ∷ ys
+withRow aLine y ys = ys
+withRow nothing y ys = ys
+
+-- the rows, as their records come
+unfoldable pub storedRows : List SheetRecord → List StoredRow
+storedRows [] = []
+storedRows (x ∷ xs) = withRow (recordHolds x) (rowOf x) (storedRows xs)
+
+abbrev pub withLine : Holds → List ℤ → List (List ℤ) → List (List ℤ)
+withLine aTable y ys = ys
+withLine aRow y ys = ys
+withLine aLine y ys = y ∷ ys
+withLine nothing y ys = ys
+
+-- the lines' numbers, as their records come
+unfoldable pub storedLines : List SheetRecord → List (List ℤ)
+storedLines [] = []
+storedLines (x ∷ xs) = withLine (recordHolds x) (map signedOf (wordsOf (x .content))) (storedLines xs)
+
+-- rows by their number: the heights of a row, or that there is none
+pub data Heights : Type 0 where
+  absent : Heights
+  present : List ℕ → Heights
+
+unfoldable pub heightsOf : ℕ → List StoredRow → Heights
+heightsOf n [] = absent
+heightsOf n (y ∷ ys) = cond (eqb n (y .number)) (present (y .heights)) (heightsOf n ys)
+
+-- ---- of some records: their kinds, and their row numbers
 unfoldable pub recordKinds : List SheetRecord → List ℕ
 recordKinds [] = []
 recordKinds (x ∷ xs) = x .answer .kind ∷ recordKinds xs
 
-abbrev pub withRow : Kind → ℕ → List ℕ → List ℕ
-withRow tableRecord row rows = rows
-withRow packedRecord row rows = row ∷ rows
-withRow plainRecord row rows = row ∷ rows
-withRow lineRecord row rows = rows
-withRow unknown row rows = rows
-
-unfoldable pub rowNumbers : List SheetRecord → List ℕ
-rowNumbers [] = []
-rowNumbers (x ∷ xs) = withRow (kindOf (x .answer .kind)) (x .answer .row) (rowNumbers xs)
+abbrev pub rowNumbers : List SheetRecord → List ℕ
+rowNumbers xs = map (λ (y : StoredRow). y .number) (storedRows xs)

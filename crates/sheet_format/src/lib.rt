@@ -29,7 +29,7 @@ pub struct RecordRead {
 
 // What reading answers for a refused record: "Every refusal returns 0 for all counts and values"; the state is as given.
 pub fn refused(number: u32, state: SheetState) -> RecordRead
-    ensures { λ r. ⌜ r ≡ refusedRecord number state ⌝ }
+    ensures { λ r. ⌜ r ≡ refusedRecord state number ⌝ }
 {
     RecordRead {
         number,

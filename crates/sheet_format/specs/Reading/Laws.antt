@@ -1,53 +1,97 @@
 -- The laws of the record calls' answers: their numbers, and what they answer where done. Assumes nothing.
-use Prim.Native.Nat.{ℕ, zero, suc}
-use mathlib.Core.Path.{_≡_, refl}
+use Prim.Native.Nat.{ℕ, suc, _+_, _-_, _≤_}
+use native.Mathlib.Omega.{arith}
+use mathlib.Core.Path.{_≡_, refl, sym, ap, _∙_}
 use mathlib.Core.List.{List}
-use lib.ListN.{length}
-use Rattle.sheet_format.specs.declared.SheetState.{SheetState}
+use lib.ListN.{length, take, drop}
+use Rattle.answer.specs.Outcome.{Outcome, outcome, writes, unless, nothing, lent}
+use Rattle.answer.specs.Outcome.Laws.{unless-part, unless-number}
 use Rattle.sheet_format.specs.declared.RecordRead.{RecordRead}
-use Rattle.sheet_format.specs.Record.{nothing, lent, recordNumber}
-use Rattle.sheet_format.specs.Reading.{refusedRecord, readRefused, recordHeld, recordContent, heldUnless, readUnless, recordJudged, recordRead, readDone}
+use Rattle.sheet_format.specs.Context.{Context, stateOf}
+use Rattle.sheet_format.specs.Record.{lengthField, kindField, bodyOf, recordNumber}
+use Rattle.sheet_format.specs.Record.Laws.{Read, recordNumber-read}
+use Rattle.sheet_format.specs.Kinds.{kindOf}
+use Rattle.sheet_format.specs.Reading.{afterBody, recordHeld, recordContent, contextAfter, refusedRecord, recordJudged, recordRead}
 
-readUnless-answer : (e : ℕ) (st : SheetState) (m : List ℕ) (a : RecordRead) (c : List ℕ)
-    → readUnless e st m a c .answer ≡ heldUnless e st a
-readUnless-answer zero st m a c = refl
-readUnless-answer (suc e) st m a c = refl
+abbrev pub readNumber : RecordRead → ℕ
+readNumber a = a .number
 
-heldUnless-number : (e : ℕ) (st : SheetState) (a : RecordRead) → a .number ≡ 0 → heldUnless e st a .number ≡ e
-heldUnless-number zero st a h = h
-heldUnless-number (suc e) st a h = refl
+-- ---- by the kind's code and the body
+module _ (c : Context) (r : List ℕ) {code : ℕ} {b : List ℕ} (kind : kindField r ≡ code) (body : bodyOf r ≡ b) where
+  pub recordContent-of : recordContent c r ≡ kindOf code .content c b
+  unfolding recordContent
+  recordContent-of = ap (λ (n : ℕ). kindOf n .content c (bodyOf r)) kind ∙ ap (kindOf code .content c) body
 
-module _ (tb r : List ℕ) (st : SheetState) where
-  pub recordJudged-number : recordJudged tb r st .number ≡ recordNumber nothing tb r st
+  pub contextAfter-of : contextAfter c r ≡ afterBody (kindOf code) b c
+  unfolding contextAfter
+  contextAfter-of =
+      ap (λ (n : ℕ). afterBody (kindOf n) (bodyOf r) c) kind ∙ ap (λ (l : List ℕ). afterBody (kindOf code) l c) body
+
+-- ---- judging
+module _ (c : Context) (r : List ℕ) where
+  pub recordJudged-number : recordJudged c r .number ≡ recordNumber nothing c r
   unfolding recordJudged recordHeld
-  recordJudged-number = heldUnless-number (recordNumber nothing tb r st) st (recordHeld tb r st) refl
+  recordJudged-number =
+      unless-number readNumber (refusedRecord (stateOf c)) (recordHeld c r) (λ k. refl) (recordNumber nothing c r) refl
 
-  pub recordJudged-done : recordNumber nothing tb r st ≡ 0 → recordJudged tb r st ≡ recordHeld tb r st
+  pub recordJudged-done : recordNumber nothing c r ≡ 0 → recordJudged c r ≡ recordHeld c r
   unfolding recordJudged
   recordJudged-done e = rw e
 
-  pub recordJudged-refuses : (e : ℕ) → recordNumber nothing tb r st ≡ suc e → recordJudged tb r st ≡ refusedRecord (suc e) st
+  pub recordJudged-refuses : (e : ℕ) → recordNumber nothing c r ≡ suc e → recordJudged c r ≡ refusedRecord (stateOf c) (suc e)
   unfolding recordJudged
   recordJudged-refuses e h = rw h
 
-  module _ (m : List ℕ) where
-    pub recordRead-answer : recordRead tb r st m .answer
-        ≡ heldUnless (recordNumber (lent (length m)) tb r st) st (recordHeld tb r st)
-    unfolding recordRead
-    recordRead-answer =
-        readUnless-answer (recordNumber (lent (length m)) tb r st) st m (recordHeld tb r st) (recordContent tb r)
+-- ---- reading
+module _ (c : Context) (r m : List ℕ) where
+  pub recordRead-answer : recordRead c r m .answer
+      ≡ unless (recordNumber (lent (length m)) c r) (refusedRecord (stateOf c)) (recordHeld c r)
+  unfolding recordRead
+  recordRead-answer =
+      unless-part (λ (o : Outcome RecordRead). o .answer) (recordNumber (lent (length m)) c r)
+      (λ e. outcome (refusedRecord (stateOf c) e) m) (writes (recordHeld c r) (recordContent c r) m)
 
-    pub recordRead-number : recordRead tb r st m .answer .number ≡ recordNumber (lent (length m)) tb r st
-    unfolding recordHeld
-    recordRead-number =
-        rw recordRead-answer (heldUnless-number (recordNumber (lent (length m)) tb r st) st (recordHeld tb r st) refl)
+  pub recordRead-number : recordRead c r m .answer .number ≡ recordNumber (lent (length m)) c r
+  unfolding recordHeld
+  recordRead-number =
+      ap readNumber recordRead-answer
+      ∙ unless-number readNumber (refusedRecord (stateOf c)) (recordHeld c r) (λ k. refl) (recordNumber (lent (length m)) c r) refl
 
-    pub recordRead-done : recordNumber (lent (length m)) tb r st ≡ 0
-        → recordRead tb r st m ≡ readDone (recordHeld tb r st) (recordContent tb r) m
-    unfolding recordRead
-    recordRead-done e = rw e
+  pub recordRead-done : recordNumber (lent (length m)) c r ≡ 0 → recordRead c r m ≡ writes (recordHeld c r) (recordContent c r) m
+  unfolding recordRead
+  recordRead-done e = rw e
 
-    pub recordRead-refuses : (e : ℕ) → recordNumber (lent (length m)) tb r st ≡ suc e
-        → recordRead tb r st m ≡ readRefused (suc e) st m
-    unfolding recordRead
-    recordRead-refuses e h = rw h
+  pub recordRead-refuses : (e : ℕ) → recordNumber (lent (length m)) c r ≡ suc e
+      → recordRead c r m ≡ outcome (refusedRecord (stateOf c) (suc e)) m
+  unfolding recordRead
+  recordRead-refuses e h = rw h
+
+-- ---- a record that judging accepts
+module _ (c : Context) (r : List ℕ) (ok : recordJudged c r .number ≡ 0) where
+  pub judged-read : Read nothing c r
+  judged-read = recordNumber-read nothing c r (sym (recordJudged-number c r) ∙ ok)
+
+  pub judged-held : recordJudged c r ≡ recordHeld c r
+  judged-held = recordJudged-done c r (sym (recordJudged-number c r) ∙ ok)
+
+  pub judged-kind : recordJudged c r .kind ≡ kindField r
+  unfolding recordHeld
+  judged-kind = rw judged-held
+
+  pub judged-state : recordJudged c r .state ≡ stateOf (contextAfter c r)
+  unfolding recordHeld contextAfter
+  judged-state = rw judged-held
+
+  -- the bytes of the record
+  pub judged-length : (6 ≤ recordJudged c r .length) × (recordJudged c r .length ≤ 32778) × (recordJudged c r .length ≤ length r)
+  unfolding recordHeld
+  judged-length =
+      let size = judged-read .size in
+      rw judged-held (omega (arith, size .least, size .most, size .there))
+
+  -- and its body stands behind length and kind
+  pub judged-body : take (recordJudged c r .length - 6) (drop 6 r) ≡ bodyOf r
+  unfolding recordHeld
+  judged-body =
+      let size : 4 + lengthField r - 6 ≡ lengthField r - 2 = omega arith in
+      rw judged-held (ap (λ (k : ℕ). take k (drop 6 r)) size)

@@ -1,5 +1,5 @@
 -- The laws of a record's number: it is 0 exactly where each of its parts is. Assumes nothing.
-use Prim.Native.Nat.{ℕ, zero, suc, _+_, _-_, _≤_, _<_}
+use Prim.Native.Nat.{ℕ, suc, _+_, _-_, _≤_, _<_}
 use native.Mathlib.Decide.{decLt}
 use native.Mathlib.Omega.{arith}
 use mathlib.Core.Path.{_≡_, refl, ap, _∙_}
@@ -9,17 +9,13 @@ use mathlib.Core.List.{List}
 use lib.ListN.{length, take, drop}
 use lib.Dec.{ltb}
 use borrow.Author.Tests.{lt-ltb, le-ltb}
-use Rattle.answer.specs.Outcome.{_orElse_, refuseIf}
+use Rattle.answer.specs.Outcome.{_orElse_, refuseIf, Lent}
 use Rattle.answer.specs.Outcome.Laws.{lessNumber-zero, orElse-zero-left, orElse-zero-right}
 use Rattle.row_format.specs.Lists.Laws.{drop-take}
-use Rattle.row_format.specs.Calls.Laws.{tooMany-zero}
-use Rattle.row_format.specs.Calls.{tooMany}
-use Rattle.sheet_format.specs.declared.SheetState.{SheetState}
-use Rattle.sheet_format.specs.Record.{lengthField, kindField, bodyOf, Kind, unknown, kindOf, rowNumber, lengthNumber, kindNumber, fixedNumber, placeNumber, Lent, bodyNumber, leftoverNumber, lastRoomNumber, contentNumber, recordNumber}
-
--- ---- the count
-pub few : (n e : ℕ) → tooMany n orElse e ≡ 0 → n ≤ 4096
-few n e h = tooMany-zero n (orElse-zero-left (tooMany n) e h)
+use Rattle.sheet_format.specs.Context.{Context}
+use Rattle.sheet_format.specs.Kind.{Kind}
+use Rattle.sheet_format.specs.Kinds.{kindOf}
+use Rattle.sheet_format.specs.Record.{lengthField, kindField, bodyOf, lengthNumber, contentNumber, recordNumber}
 
 -- ---- the length
 pub record RightLength (r : List ℕ) : Type 0 where
@@ -89,82 +85,48 @@ bodyOf-whole r =
     let same : 4 + lengthField r - 6 ≡ lengthField r - 2 = omega arith in
     drop-take 6 (4 + lengthField r) r ∙ ap (λ (k : ℕ). take k (drop 6 r)) same
 
--- ---- the kind
-pub kindOf-known : (code : ℕ) → kindNumber (kindOf code) ≡ 0 → code ≤ 4
-unfolding kindNumber
-kindOf-known zero e = omega arith
-kindOf-known (suc zero) e = omega arith
-kindOf-known (suc (suc zero)) e = omega arith
-kindOf-known (suc (suc (suc zero))) e = omega arith
-kindOf-known (suc (suc (suc (suc zero)))) e = omega arith
-kindOf-known (suc (suc (suc (suc (suc k))))) e = absurd (omega arith)
-
-pub kindNumber-known : (code : ℕ) → 1 ≤ code → code ≤ 4 → kindNumber (kindOf code) ≡ 0
-unfolding kindNumber
-kindNumber-known zero h g = absurd (omega arith)
-kindNumber-known (suc zero) h g = refl
-kindNumber-known (suc (suc zero)) h g = refl
-kindNumber-known (suc (suc (suc zero))) h g = refl
-kindNumber-known (suc (suc (suc (suc zero)))) h g = refl
-kindNumber-known (suc (suc (suc (suc (suc k))))) h g = absurd (omega arith)
-
-pub kindOf-unknown : (code : ℕ) → 4 < code → kindOf code ≡ unknown
-kindOf-unknown zero h = absurd (omega arith)
-kindOf-unknown (suc zero) h = absurd (omega arith)
-kindOf-unknown (suc (suc zero)) h = absurd (omega arith)
-kindOf-unknown (suc (suc (suc zero))) h = absurd (omega arith)
-kindOf-unknown (suc (suc (suc (suc zero)))) h = absurd (omega arith)
-kindOf-unknown (suc (suc (suc (suc (suc k))))) h = refl
-
 -- ---- the parts after the kind
-pub record Passed (k : Kind) (m : Lent) (tb b : List ℕ) (st : SheetState) : Type 0 where
-  pub fixed : fixedNumber k b ≡ 0
-  pub place : placeNumber k (rowNumber b) st ≡ 0
-  pub body : bodyNumber k m tb b ≡ 0
-  pub leftover : leftoverNumber k tb b ≡ 0
-  pub room : lastRoomNumber k m b ≡ 0
+pub record Passed (k : Kind) (m : Lent) (c : Context) (b : List ℕ) : Type 0 where
+  pub fixed : k .fixed b ≡ 0
+  pub place : k .place c (k .heading b) ≡ 0
+  pub own : k .own m c b ≡ 0
 
-module _ (k : Kind) (m : Lent) (tb b : List ℕ) (st : SheetState) where
-  pub contentNumber-passed : Passed k m tb b st → contentNumber k m tb b st ≡ 0
+module _ (k : Kind) (m : Lent) (c : Context) (b : List ℕ) where
+  pub contentNumber-passed : Passed k m c b → contentNumber k m c b ≡ 0
   unfolding contentNumber
-  contentNumber-passed p = rw (p .fixed, p .place, p .body, p .leftover, p .room)
+  contentNumber-passed p = rw (p .fixed, p .place, p .own)
 
-  pub passed : contentNumber k m tb b st ≡ 0 → Passed k m tb b st
+  pub passed : contentNumber k m c b ≡ 0 → Passed k m c b
   unfolding contentNumber
   passed e =
-      let e1 = orElse-zero-right (fixedNumber k b) _ e in
-      let e2 = orElse-zero-right (placeNumber k (rowNumber b) st) _ e1 in
-      let e3 = orElse-zero-right (bodyNumber k m tb b) _ e2 in
+      let place = k .place c (k .heading b) in
+      let own = k .own m c b in
+      let rest = orElse-zero-right (k .fixed b) (place orElse own) e in
       record {
-        fixed = orElse-zero-left (fixedNumber k b) _ e;
-        place = orElse-zero-left (placeNumber k (rowNumber b) st) _ e1;
-        body = orElse-zero-left (bodyNumber k m tb b) _ e2;
-        leftover = orElse-zero-left (leftoverNumber k tb b) _ e3;
-        room = orElse-zero-right (leftoverNumber k tb b) _ e3;
+        fixed = orElse-zero-left (k .fixed b) (place orElse own) e;
+        place = orElse-zero-left place own rest;
+        own = orElse-zero-right place own rest;
       }
 
 -- ---- the whole record
-pub record Read (m : Lent) (tb r : List ℕ) (st : SheetState) : Type 0 where
+pub record Read (m : Lent) (c : Context) (r : List ℕ) : Type 0 where
   pub size : RightLength r
-  pub kind : kindField r ≤ 4
-  pub known : kindNumber (kindOf (kindField r)) ≡ 0
-  pub parts : Passed (kindOf (kindField r)) m tb (bodyOf r) st
+  pub readable : kindOf (kindField r) .readable ≡ 0
+  pub parts : Passed (kindOf (kindField r)) m c (bodyOf r)
 
-pub recordNumber-read : (m : Lent) (tb r : List ℕ) (st : SheetState) → recordNumber m tb r st ≡ 0 → Read m tb r st
+pub recordNumber-read : (m : Lent) (c : Context) (r : List ℕ) → recordNumber m c r ≡ 0 → Read m c r
 unfolding recordNumber
-recordNumber-read m tb r st e =
+recordNumber-read m c r e =
     let k = kindOf (kindField r) in
-    let e1 = orElse-zero-right (lengthNumber r) _ e in
-    let known = orElse-zero-left (kindNumber k) _ e1 in
+    let rest = orElse-zero-right (lengthNumber r) _ e in
     record {
       size = right-length r (orElse-zero-left (lengthNumber r) _ e);
-      kind = kindOf-known (kindField r) known;
-      known = known;
-      parts = passed k m tb (bodyOf r) st (orElse-zero-right (kindNumber k) _ e1);
+      readable = orElse-zero-left (k .readable) _ rest;
+      parts = passed k m c (bodyOf r) (orElse-zero-right (k .readable) _ rest);
     }
 
-pub read-recordNumber : (m : Lent) (tb r : List ℕ) (st : SheetState) → Read m tb r st → recordNumber m tb r st ≡ 0
+pub read-recordNumber : (m : Lent) (c : Context) (r : List ℕ) → Read m c r → recordNumber m c r ≡ 0
 unfolding recordNumber
-read-recordNumber m tb r st h =
-    rw (lengthNumber-right r (h .size), h .known)
-    (contentNumber-passed (kindOf (kindField r)) m tb (bodyOf r) st (h .parts))
+read-recordNumber m c r h =
+    rw (lengthNumber-right r (h .size), h .readable)
+    (contentNumber-passed (kindOf (kindField r)) m c (bodyOf r) (h .parts))

@@ -1,33 +1,13 @@
 -- The laws of a sheet's records: the equations that a reader expects, without the bound on their count. Assumes nothing.
-use Prim.Native.Nat.{ℕ, zero, suc, _+_, _-_, _≤_}
+use Prim.Native.Nat.{ℕ, zero, suc, _≤_}
 use native.Mathlib.Omega.{arith}
 use mathlib.Core.Path.{_≡_, refl, sym, ap, _∙_}
 use mathlib.Core.List.{List, [], _∷_}
-use lib.ListN.{length, take, drop, length-drop}
-use Rattle.sheet_format.specs.declared.SheetState.{SheetState}
-use Rattle.sheet_format.specs.Record.{lengthField, bodyOf, kindOf, nothing}
-use Rattle.sheet_format.specs.Record.Laws.{recordNumber-read}
-use Rattle.sheet_format.specs.Reading.{tableAfter, recordHeld, recordJudged}
-use Rattle.sheet_format.specs.Reading.Laws.{recordJudged-number, recordJudged-done}
-use Rattle.sheet_format.specs.Sheet.{SheetRecord, SheetRead, endsWith, putFirst, fromRecord, recordsFrom}
-
--- the bytes of an accepted record
-pub judged-length : (tb r : List ℕ) (st : SheetState) → recordJudged tb r st .number ≡ 0
-    → (6 ≤ recordJudged tb r st .length) × (recordJudged tb r st .length ≤ 32778) × (recordJudged tb r st .length ≤ length r)
-unfolding recordHeld
-judged-length tb r st ok =
-    let e = sym (recordJudged-number tb r st) ∙ ok in
-    let size = recordNumber-read nothing tb r st e .size in
-    rw (recordJudged-done tb r st e) (omega (arith, size .least, size .most, size .there))
-
--- and its body stands behind length and kind
-pub judged-body : (tb r : List ℕ) (st : SheetState) → recordJudged tb r st .number ≡ 0
-    → take (recordJudged tb r st .length - 6) (drop 6 r) ≡ bodyOf r
-unfolding recordHeld
-judged-body tb r st ok =
-    let e = sym (recordJudged-number tb r st) ∙ ok in
-    let size : 4 + lengthField r - 6 ≡ lengthField r - 2 = omega arith in
-    rw (recordJudged-done tb r st e) (ap (λ (k : ℕ). take k (drop 6 r)) size)
+use lib.ListN.{length, length-drop}
+use Rattle.sheet_format.specs.Context.{Context}
+use Rattle.sheet_format.specs.Reading.{contextAfter, recordJudged}
+use Rattle.sheet_format.specs.Reading.Laws.{judged-length}
+use Rattle.sheet_format.specs.Sheet.{SheetRecord, SheetRead, endsWith, putFirst, fromRecord, recordHere, restNext, recordsFrom, records}
 
 -- at the end, refused, or accepted
 pub fromRecord-cases : (P : SheetRead → Type 0) (r : List ℕ) (e : ℕ) (x : SheetRecord) (rest : SheetRead)
@@ -53,62 +33,56 @@ fromRecord-refused : (y : ℕ) (r : List ℕ) (e : ℕ) (x : SheetRecord) (rest 
 fromRecord-refused y r zero x rest h = absurd (h refl)
 fromRecord-refused y r (suc e) x rest h = refl
 
--- what follows a record
-abbrev pub tableNext : List ℕ → List ℕ → SheetState → List ℕ
-tableNext tb r st = tableAfter (kindOf (recordJudged tb r st .kind)) tb (bodyOf r)
-
-abbrev pub restNext : List ℕ → List ℕ → SheetState → List ℕ
-restNext tb r st = drop (recordJudged tb r st .length) r
-
-abbrev pub recordHere : List ℕ → List ℕ → SheetState → SheetRecord
-recordHere tb r st = record { answer = recordJudged tb r st; bytes = take (recordJudged tb r st .length) r }
-
 nil-of : (r : List ℕ) → length r ≤ 0 → r ≡ []
 nil-of [] h = refl
 nil-of (x ∷ r) h = absurd (omega arith)
 
-recordsFrom-nil : (n : ℕ) (tb : List ℕ) (st : SheetState) → recordsFrom n tb st [] ≡ endsWith 0
+recordsFrom-nil : (n : ℕ) (c : Context) → recordsFrom n c [] ≡ endsWith 0
 unfolding recordsFrom
-recordsFrom-nil zero tb st = refl
-recordsFrom-nil (suc n) tb st = refl
+recordsFrom-nil zero c = refl
+recordsFrom-nil (suc n) c = refl
 
 -- any bound that is not below the count of the bytes gives the same records
-pub recordsFrom-bound : (n k : ℕ) (tb : List ℕ) (st : SheetState) (r : List ℕ) → length r ≤ n → length r ≤ k
-    → recordsFrom n tb st r ≡ recordsFrom k tb st r
+recordsFrom-bound : (n k : ℕ) (c : Context) (r : List ℕ) → length r ≤ n → length r ≤ k → recordsFrom n c r ≡ recordsFrom k c r
 unfolding recordsFrom
-recordsFrom-bound zero k tb st r h g = rw (nil-of r h) (sym (recordsFrom-nil k tb st))
-recordsFrom-bound (suc n) zero tb st r h g = rw (nil-of r g)
-recordsFrom-bound (suc n) (suc k) tb st r h g =
-    let ih = recordsFrom-bound n k (tableNext tb r st) (recordJudged tb r st .state) (restNext tb r st) in
-    fromRecord-same r (recordJudged tb r st .number) (recordHere tb r st) _ _
-    (λ ok. let size = judged-length tb r st ok in
-    let left = length-drop (recordJudged tb r st .length) r in
+recordsFrom-bound zero k c r h g = rw (nil-of r h) (sym (recordsFrom-nil k c))
+recordsFrom-bound (suc n) zero c r h g = rw (nil-of r g)
+recordsFrom-bound (suc n) (suc k) c r h g =
+    let ih = recordsFrom-bound n k (contextAfter c r) (restNext c r) in
+    fromRecord-same r (recordJudged c r .number) (recordHere c r) _ _
+    (λ ok. let size = judged-length c r ok in
+    let left = length-drop (recordJudged c r .length) r in
     ih (omega arith) (omega arith))
 
 -- ---- the records of the bytes r
-abbrev pub records : List ℕ → SheetState → List ℕ → SheetRead
-records tb st r = recordsFrom (length r) tb st r
+pub records-end : (c : Context) → records c [] ≡ endsWith 0
+records-end c = recordsFrom-nil 0 c
 
--- those after the record at r
-abbrev pub recordsNext : List ℕ → List ℕ → SheetState → SheetRead
-recordsNext tb r st = records (tableNext tb r st) (recordJudged tb r st .state) (restNext tb r st)
-
-pub records-end : (tb : List ℕ) (st : SheetState) → records tb st [] ≡ endsWith 0
-records-end tb st = recordsFrom-nil 0 tb st
-
-pub records-refused : (tb : List ℕ) (st : SheetState) (x : ℕ) (r : List ℕ) → (recordJudged tb (x ∷ r) st .number ≡ 0 → ⊥)
-    → records tb st (x ∷ r) ≡ endsWith (recordJudged tb (x ∷ r) st .number)
+pub records-refused : (c : Context) (x : ℕ) (r : List ℕ) → (recordJudged c (x ∷ r) .number ≡ 0 → ⊥)
+    → records c (x ∷ r) ≡ endsWith (recordJudged c (x ∷ r) .number)
 unfolding recordsFrom
-records-refused tb st x r h = fromRecord-refused x r (recordJudged tb (x ∷ r) st .number) (recordHere tb (x ∷ r) st) _ h
+records-refused c x r h = fromRecord-refused x r (recordJudged c (x ∷ r) .number) (recordHere c (x ∷ r)) _ h
 
-pub records-more : (tb : List ℕ) (st : SheetState) (x : ℕ) (r : List ℕ) → recordJudged tb (x ∷ r) st .number ≡ 0
-    → records tb st (x ∷ r) ≡ putFirst (recordHere tb (x ∷ r) st) (recordsNext tb (x ∷ r) st)
+pub records-more : (c : Context) (x : ℕ) (r : List ℕ) → recordJudged c (x ∷ r) .number ≡ 0
+    → records c (x ∷ r) ≡ putFirst (recordHere c (x ∷ r)) (records (contextAfter c (x ∷ r)) (restNext c (x ∷ r)))
 unfolding recordsFrom
-records-more tb st x r h =
-    let size = judged-length tb (x ∷ r) st h in
-    let rest = restNext tb (x ∷ r) st in
-    let left : length rest ≤ length r = omega (arith, length-drop (recordJudged tb (x ∷ r) st .length) (x ∷ r)) in
-    fromRecord-accepted x r (recordJudged tb (x ∷ r) st .number) (recordHere tb (x ∷ r) st) _ h
-    ∙ ap (putFirst (recordHere tb (x ∷ r) st))
-    (recordsFrom-bound (length r) (length rest) (tableNext tb (x ∷ r) st) (recordJudged tb (x ∷ r) st .state) rest
-    left (omega arith))
+records-more c x r h =
+    let size = judged-length c (x ∷ r) h in
+    let rest = restNext c (x ∷ r) in
+    let left : length rest ≤ length r = omega (arith, length-drop (recordJudged c (x ∷ r) .length) (x ∷ r)) in
+    fromRecord-accepted x r (recordJudged c (x ∷ r) .number) (recordHere c (x ∷ r)) _ h
+    ∙ ap (putFirst (recordHere c (x ∷ r)))
+    (recordsFrom-bound (length r) (length rest) (contextAfter c (x ∷ r)) rest left (omega arith))
+
+-- to show something of all records, show it of a sheet that ends, that is refused, and after an accepted record
+pub recordsFrom-all : (P : Context → SheetRead → Type 0) → ((c : Context) (e : ℕ) → P c (endsWith e))
+    → ((c : Context) (r : List ℕ) (rest : SheetRead) → recordJudged c r .number ≡ 0 → P (contextAfter c r) rest
+    → P c (putFirst (recordHere c r) rest))
+    → (n : ℕ) (c : Context) (r : List ℕ) → P c (recordsFrom n c r)
+unfolding recordsFrom
+recordsFrom-all P ends more zero c r = ends c 0
+recordsFrom-all P ends more (suc n) c r =
+    let rest = recordsFrom n (contextAfter c r) (restNext c r) in
+    let ih = recordsFrom-all P ends more n (contextAfter c r) (restNext c r) in
+    fromRecord-cases (P c) r (recordJudged c r .number) (recordHere c r) rest (ends c 0) (λ k e. ends c (suc k))
+    (λ ok. more c r rest ok ih)

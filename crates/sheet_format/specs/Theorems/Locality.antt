@@ -10,11 +10,12 @@ use lib.Seq.{take-append-le, drop-append-le, take-take, length-take-le, take-all
 use borrow.Author.Tests.{le-ltb, lt-ltb}
 use Rattle.bitstream.specs.Bits.{numberOf}
 use Rattle.row_format.specs.Lists.Laws.{field-take}
-use Rattle.sheet_format.specs.declared.SheetState.{SheetState}
-use Rattle.sheet_format.specs.Record.{lengthField, kindField, bodyOf, Lent, nothing, lent, lengthNumber, recordNumber, recordSpan}
-use Rattle.sheet_format.specs.Record.Laws.{RightLength, lengthNumber-right, lengthNumber-wrong, recordNumber-read}
-use Rattle.sheet_format.specs.Reading.{recordHeld, recordContent, refusedRecord, recordJudged, recordRead, readRefused}
-use Rattle.sheet_format.specs.Reading.Laws.{recordJudged-number, recordJudged-done}
+use Rattle.answer.specs.Outcome.{outcome, Lent, nothing, lent}
+use Rattle.sheet_format.specs.Context.{Context, stateOf}
+use Rattle.sheet_format.specs.Record.{lengthField, kindField, bodyOf, lengthNumber, recordNumber, recordSpan}
+use Rattle.sheet_format.specs.Record.Laws.{RightLength, right-length, lengthNumber-right, lengthNumber-wrong}
+use Rattle.sheet_format.specs.Reading.{recordHeld, recordContent, contextAfter, refusedRecord, recordJudged, recordRead}
+use Rattle.sheet_format.specs.Reading.Laws.{recordContent-of, contextAfter-of, judged-read, judged-held}
 
 pub field-front : (at n k : ℕ) (l rest : List ℕ) → at + n ≤ k → k ≤ length l
     → take n (drop at (take k l ++ rest)) ≡ take n (drop at l)
@@ -31,24 +32,26 @@ pub record Alike (r s : List ℕ) : Type 0 where
   pub kind : kindField s ≡ kindField r
   pub body : bodyOf s ≡ bodyOf r
 
-module _ (r s : List ℕ) (a : Alike r s) (tb : List ℕ) (st : SheetState) where
-  pub recordNumber-alike : (m : Lent) → recordNumber m tb s st ≡ recordNumber m tb r st
+module _ (r s : List ℕ) (a : Alike r s) (c : Context) where
+  pub recordNumber-alike : (m : Lent) → recordNumber m c s ≡ recordNumber m c r
   unfolding recordNumber
   recordNumber-alike m = rw (a .size, a .body, a .kind)
 
-  pub recordHeld-alike : recordHeld tb s st ≡ recordHeld tb r st
+  pub recordHeld-alike : recordHeld c s ≡ recordHeld c r
   unfolding recordHeld
   recordHeld-alike = rw (a .body, a .kind, a .whole)
 
-  pub recordContent-alike : recordContent tb s ≡ recordContent tb r
-  unfolding recordContent
-  recordContent-alike = rw (a .body, a .kind)
+  pub recordContent-alike : recordContent c s ≡ recordContent c r
+  recordContent-alike = recordContent-of c s (a .kind) (a .body) ∙ sym (recordContent-of c r refl refl)
 
-  pub recordRead-alike : (m : List ℕ) → recordRead tb s st m ≡ recordRead tb r st m
+  pub contextAfter-alike : contextAfter c s ≡ contextAfter c r
+  contextAfter-alike = contextAfter-of c s (a .kind) (a .body) ∙ sym (contextAfter-of c r refl refl)
+
+  pub recordRead-alike : (m : List ℕ) → recordRead c s m ≡ recordRead c r m
   unfolding recordRead
   recordRead-alike m = rw (recordNumber-alike (lent (length m)), recordHeld-alike, recordContent-alike)
 
-  pub recordJudged-alike : recordJudged tb s st ≡ recordJudged tb r st
+  pub recordJudged-alike : recordJudged c s ≡ recordJudged c r
   unfolding recordJudged
   recordJudged-alike = rw (recordNumber-alike nothing, recordHeld-alike)
 
@@ -85,21 +88,21 @@ pub data Same (r s : List ℕ) : Type 0 where
   fields : Alike r s → Same r s
   unfit : lengthNumber r ≡ 14 → lengthNumber s ≡ 14 → Same r s
 
-module _ (tb : List ℕ) (st : SheetState) where
-  refused-read : (s : List ℕ) (m : List ℕ) → lengthNumber s ≡ 14 → recordRead tb s st m ≡ readRefused 14 st m
+module _ (c : Context) where
+  refused-read : (s m : List ℕ) → lengthNumber s ≡ 14 → recordRead c s m ≡ outcome (refusedRecord (stateOf c) 14) m
   unfolding recordRead recordNumber
   refused-read s m e = rw e
 
-  refused-judged : (s : List ℕ) → lengthNumber s ≡ 14 → recordJudged tb s st ≡ refusedRecord 14 st
+  refused-judged : (s : List ℕ) → lengthNumber s ≡ 14 → recordJudged c s ≡ refusedRecord (stateOf c) 14
   unfolding recordJudged recordNumber
   refused-judged s e = rw e
 
-  pub recordRead-same : (r s m : List ℕ) → Same r s → recordRead tb s st m ≡ recordRead tb r st m
-  recordRead-same r s m (fields a) = recordRead-alike r s a tb st m
+  pub recordRead-same : (r s m : List ℕ) → Same r s → recordRead c s m ≡ recordRead c r m
+  recordRead-same r s m (fields a) = recordRead-alike r s a c m
   recordRead-same r s m (unfit e d) = refused-read s m d ∙ sym (refused-read r m e)
 
-  pub recordJudged-same : (r s : List ℕ) → Same r s → recordJudged tb s st ≡ recordJudged tb r st
-  recordJudged-same r s (fields a) = recordJudged-alike r s a tb st
+  pub recordJudged-same : (r s : List ℕ) → Same r s → recordJudged c s ≡ recordJudged c r
+  recordJudged-same r s (fields a) = recordJudged-alike r s a c
   recordJudged-same r s (unfit e d) = refused-judged s d ∙ sym (refused-judged r e)
 
 -- ---- the bytes that a reader has to hold
@@ -135,17 +138,27 @@ module _ (r : List ℕ) where
       (fields (record { size = refl; whole = refl; kind = refl; body = refl })))
 
   -- of an accepted record they have its body, and all its bytes
-  module _ (tb : List ℕ) (st : SheetState) (ok : recordJudged tb r st .number ≡ 0) where
-    number : recordNumber nothing tb r st ≡ 0
-    number = sym (recordJudged-number tb r st) ∙ ok
-
+  module _ (c : Context) (ok : recordJudged c r .number ≡ 0) where
     right : RightLength r
-    right = recordNumber-read nothing tb r st number .size
+    right = judged-read c r ok .size
 
-    pub span-whole : recordSpan r ≡ recordJudged tb r st .length
+    pub span-whole : recordSpan r ≡ recordJudged c r .length
     unfolding recordHeld
-    span-whole = recordSpan-inside r (right .least) (right .most) ∙ rw (recordJudged-done tb r st number)
+    span-whole = recordSpan-inside r (right .least) (right .most) ∙ rw (judged-held c r ok)
 
     pub span-body : bodyOf (take (recordSpan r) r) ≡ bodyOf r
     span-body =
         rw (recordSpan-inside r (right .least) (right .most), sym (append-nil (take (4 + lengthField r) r))) (same-body r [] right)
+
+-- ---- the calls
+pub record-alike : (c : Context) (r : List ℕ) → lengthNumber r ≡ 0 → (rest : List ℕ)
+    → let front = take (4 + lengthField r) r in
+    (recordJudged c (front ++ rest) ≡ recordJudged c r) × ((m : List ℕ) → recordRead c (front ++ rest) m ≡ recordRead c r m)
+record-alike c r e rest =
+    let same = alike r rest (right-length r e) in
+    (recordJudged-alike r _ same c, recordRead-alike r _ same c)
+
+pub span-alike : (c : Context) (r : List ℕ)
+    → (recordJudged c (take (recordSpan r) r) ≡ recordJudged c r)
+    × ((m : List ℕ) → recordRead c (take (recordSpan r) r) m ≡ recordRead c r m)
+span-alike c r = (recordJudged-same c r _ (span-same r), λ m. recordRead-same c r _ m (span-same r))

@@ -1,77 +1,50 @@
--- A refused call moves nothing; a done one changes only the bytes that it counts. Assumes nothing.
+-- A refused call moves nothing, and a done write changes only the bytes that it counts. Assumes nothing.
 use Prim.Native.Nat.{ℕ, zero, suc, _≤_}
-use native.Mathlib.Omega.{arith}
 use mathlib.Core.Path.{_≡_, refl}
-use mathlib.Core.List.{List, _++_}
-use lib.ListN.{length, drop, length-append, length-drop}
-use lib.Seq.{drop-append-seam}
-use Rattle.sheet_format.specs.declared.SheetState.{SheetState}
+use mathlib.Core.List.{List}
+use lib.ListN.{length}
+use Rattle.answer.specs.Outcome.{Outcome, outcome, writes, nothing, lent, Kept, Within}
+use Rattle.answer.specs.Outcome.Laws.{unless-in, unless-kept, writes-within}
 use Rattle.sheet_format.specs.declared.RecordRead.{RecordRead}
-use Rattle.sheet_format.specs.Record.{kindOf, nothing, lent, recordNumber}
-use Rattle.sheet_format.specs.Reading.{stateAfter, refusedRecord, heldUnless, readUnless, recordHeld, recordContent, recordJudged, recordRead, readRefused}
-use Rattle.sheet_format.specs.Writing.{writeNumber, WriteOutcome, writtenUnless, recordWritten, recordFor}
+use Rattle.sheet_format.specs.declared.RecordWritten.{RecordWritten}
+use Rattle.sheet_format.specs.Context.{Heading, Context, stateOf}
+use Rattle.sheet_format.specs.Record.{recordNumber}
+use Rattle.sheet_format.specs.Reading.{refusedRecord, recordHeld, recordContent, recordJudged, recordRead}
+use Rattle.sheet_format.specs.Reading.Laws.{readNumber}
+use Rattle.sheet_format.specs.Writing.{writeNumber, notWritten, recordDone, recordWritten, recordFor}
 use Rattle.sheet_format.specs.Writing.Laws.{writeNumber-room, recordWritten-done, recordWritten-refused}
 
--- memory that keeps its length and, past its first k bytes, its bytes
-pub record Within (k : ℕ) (m m′ : List ℕ) : Type 0 where
-  pub size : length m′ ≡ length m
-  pub rest : drop k m′ ≡ drop k m
+-- ---- judging and reading
+pub recordJudged-refused : (c : Context) (r : List ℕ) → (recordJudged c r .number ≡ 0 → ⊥)
+    → recordJudged c r ≡ refusedRecord (stateOf c) (recordJudged c r .number)
+unfolding recordJudged recordHeld
+recordJudged-refused c r =
+    unless-in (λ a. (a .number ≡ 0 → ⊥) → a ≡ refusedRecord (stateOf c) (a .number)) (recordNumber nothing c r)
+    (refusedRecord (stateOf c)) (recordHeld c r) (λ k e some. refl) (λ e some. absurd (some refl))
 
-pub within-front : (b m : List ℕ) → length b ≤ length m → Within (length b) m (b ++ drop (length b) m)
-within-front b m h = record {
-  size = omega (arith, length-append b (drop (length b) m), length-drop (length b) m);
-  rest = drop-append-seam b (drop (length b) m);
-}
+pub recordRead-kept : (c : Context) (r m : List ℕ) → (recordRead c r m .answer .number ≡ 0 → ⊥)
+    → Kept (refusedRecord (stateOf c) (recordRead c r m .answer .number)) m (recordRead c r m)
+unfolding recordRead recordHeld
+recordRead-kept c r m =
+    unless-kept (refusedRecord (stateOf c)) m (writes (recordHeld c r) (recordContent c r) m) readNumber (λ k. refl)
+    (recordNumber (lent (length m)) c r) (λ some. absurd (some refl))
 
 -- ---- writing
-pub record WriteKept (st : SheetState) (m : List ℕ) (o : WriteOutcome) : Type 0 where
-  pub count : o .answer .count ≡ 0
-  pub state : o .answer .state ≡ st
-  pub memory : o .memory ≡ m
-
-writtenUnless-kept : (e : ℕ) (st : SheetState) (m : List ℕ) (st′ : SheetState) (b : List ℕ)
-    → (writtenUnless e st m st′ b .answer .number ≡ 0 → ⊥) → WriteKept st m (writtenUnless e st m st′ b)
-writtenUnless-kept zero st m st′ b h = absurd (h refl)
-writtenUnless-kept (suc e) st m st′ b h = record { count = refl; state = refl; memory = refl }
-
-module _ (code row : ℕ) (tb c : List ℕ) (st : SheetState) (m : List ℕ) where
-  pub recordWritten-kept : (recordWritten code row tb c st m .answer .number ≡ 0 → ⊥)
-      → WriteKept st m (recordWritten code row tb c st m)
+module _ (code : ℕ) (h : Heading) (c : Context) (x m : List ℕ) where
+  pub recordWritten-kept : (recordWritten code h c x m .answer .number ≡ 0 → ⊥)
+      → Kept (notWritten (stateOf c) (recordWritten code h c x m .answer .number)) m (recordWritten code h c x m)
   unfolding recordWritten
   recordWritten-kept =
-      writtenUnless-kept (writeNumber code row tb c st (length m)) st m (stateAfter (kindOf code) row st)
-      (recordFor code row tb c)
+      unless-kept (notWritten (stateOf c)) m (writes (recordDone code h c x) (recordFor code h c x) m)
+      (λ (a : RecordWritten). a .number) (λ k. refl) (writeNumber code h c x (length m)) (λ some. absurd (some refl))
 
-  pub recordWritten-within :
-      Within (recordWritten code row tb c st m .answer .count) m (recordWritten code row tb c st m .memory)
-  recordWritten-within = by-number (writeNumber code row tb c st (length m)) refl
+  pub recordWritten-within : Within (recordWritten code h c x m .answer .count) m (recordWritten code h c x m)
+  recordWritten-within = by-number (writeNumber code h c x (length m)) refl
     where
-      by-number : (e : ℕ) → writeNumber code row tb c st (length m) ≡ e
-          → Within (recordWritten code row tb c st m .answer .count) m (recordWritten code row tb c st m .memory)
+      by-number : (e : ℕ) → writeNumber code h c x (length m) ≡ e
+          → Within (recordWritten code h c x m .answer .count) m (recordWritten code h c x m)
       by-number zero e =
-          rw (recordWritten-done code row tb c st m e)
-          (within-front (recordFor code row tb c) m (writeNumber-room code row tb c st (length m) e))
-      by-number (suc k) e = rw (recordWritten-refused code row tb c st m k e) (record { size = refl; rest = refl })
-
--- ---- judging and reading
-heldUnless-refused : (e : ℕ) (st : SheetState) (a : RecordRead) → a .number ≡ 0 → (heldUnless e st a .number ≡ 0 → ⊥)
-    → heldUnless e st a ≡ refusedRecord (heldUnless e st a .number) st
-heldUnless-refused zero st a done h = absurd (h done)
-heldUnless-refused (suc e) st a done h = refl
-
-pub recordJudged-refused : (tb r : List ℕ) (st : SheetState) → (recordJudged tb r st .number ≡ 0 → ⊥)
-    → recordJudged tb r st ≡ refusedRecord (recordJudged tb r st .number) st
-unfolding recordJudged recordHeld
-recordJudged-refused tb r st = heldUnless-refused (recordNumber nothing tb r st) st (recordHeld tb r st) refl
-
-readUnless-refused : (e : ℕ) (st : SheetState) (m : List ℕ) (a : RecordRead) (c : List ℕ) → a .number ≡ 0
-    → (readUnless e st m a c .answer .number ≡ 0 → ⊥)
-    → readUnless e st m a c ≡ readRefused (readUnless e st m a c .answer .number) st m
-readUnless-refused zero st m a c done h = absurd (h done)
-readUnless-refused (suc e) st m a c done h = refl
-
-pub recordRead-refused : (tb r : List ℕ) (st : SheetState) (m : List ℕ) → (recordRead tb r st m .answer .number ≡ 0 → ⊥)
-    → recordRead tb r st m ≡ readRefused (recordRead tb r st m .answer .number) st m
-unfolding recordRead recordHeld
-recordRead-refused tb r st m =
-    readUnless-refused (recordNumber (lent (length m)) tb r st) st m (recordHeld tb r st) (recordContent tb r) refl
+          let b = recordFor code h c x in
+          rw (recordWritten-done code h c x m e)
+          (writes-within (recordDone code h c x) (length b) b m refl (writeNumber-room code h c x (length m) e))
+      by-number (suc k) e = rw (recordWritten-refused code h c x m k e) (record { size = refl; rest = refl })

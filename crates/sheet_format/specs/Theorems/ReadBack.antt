@@ -1,84 +1,75 @@
 -- What is written is read back, whatever follows it. Assumes nothing.
-use Prim.Native.Nat.{ℕ, _+_, _≤_, _<_}
+use Prim.Native.Nat.{ℕ, _+_, _*_, _≤_, _<_}
 use native.Mathlib.Omega.{arith}
-use mathlib.Core.Path.{_≡_, refl}
+use mathlib.Core.Path.{_≡_, refl, ap, _∙_}
 use mathlib.Core.List.{List, _++_}
 use lib.ListN.{length}
-use lib.Dec.{ltb}
+use lib.Seq.{length-take-le}
 use Rattle.bitstream.specs.Bits.Laws.{Below}
-use Rattle.answer.specs.Outcome.{_orElse_}
-use Rattle.answer.specs.Outcome.Laws.{refuseIf-zero, lessNumber-zero, lessNumber-none, orElse-zero-left, orElse-zero-right}
-use Rattle.row_format.specs.Lists.{any}
-use Rattle.row_format.specs.Table.{tableNumber}
-use Rattle.row_format.specs.Calls.{tooMany}
-use Rattle.sheet_format.specs.declared.SheetState.{SheetState}
-use Rattle.sheet_format.specs.Record.{bodyOf, Kind, tableRecord, packedRecord, plainRecord, lineRecord, unknown, kindOf, kindNumber, Lent, nothing, lent, roomNumber, recordNumber}
-use Rattle.sheet_format.specs.Record.Laws.{kindOf-known, contentNumber-passed, few}
-use Rattle.sheet_format.specs.Reading.{recordHeld, recordContent, recordJudged, recordRead, readDone}
-use Rattle.sheet_format.specs.Writing.{givenPixels, givenNumbers, bodyFor, tooHigh, givenNumber, recordFor}
-use Rattle.sheet_format.specs.Writing.Laws.{Fields, fields-recordBytes, length-recordBytes, Writable, doneAnswer}
-use Rattle.sheet_format.specs.Theorems.Given.{contentGiven, recordGiven}
-use Rattle.sheet_format.specs.Theorems.Bodies.{Back, table-back, packed-back, plain-back, line-back}
+use Rattle.answer.specs.Outcome.{writes, Lent, nothing, lent, roomNumber}
+use Rattle.answer.specs.Outcome.Laws.{lessNumber-none}
+use Rattle.sheet_format.specs.Context.{Heading, Context, stateOf}
+use Rattle.sheet_format.specs.Kind.{Kind, afterRecord}
+use Rattle.sheet_format.specs.Kind.Lawful.{contentGiven, Back}
+use Rattle.sheet_format.specs.Kinds.{kindOf}
+use Rattle.sheet_format.specs.Kinds.Laws.{lawful, kindOf-known}
+use Rattle.sheet_format.specs.Record.{recordNumber}
+use Rattle.sheet_format.specs.Record.Laws.{contentNumber-passed}
+use Rattle.sheet_format.specs.Reading.{recordHeld, recordContent, contextAfter, recordJudged, recordRead}
+use Rattle.sheet_format.specs.Reading.Laws.{recordContent-of, contextAfter-of}
+use Rattle.sheet_format.specs.Writing.{recordFor, recordDone}
+use Rattle.sheet_format.specs.Writing.Laws.{Fields, fields-recordBytes, length-recordBytes, Writable}
+use Rattle.sheet_format.specs.Theorems.Given.{recordGiven}
 
-body-back : (k : Kind) (row : ℕ) (tb c : List ℕ) → row < 65536 → Below 256 c → kindNumber k ≡ 0 → givenNumber k tb c ≡ 0
-    → Back k row tb c (bodyFor k row tb c)
-unfolding kindNumber givenNumber bodyFor
-body-back tableRecord row tb c small bytes known given = table-back row tb c given
-body-back packedRecord row tb c small bytes known given =
-    let n = length (givenPixels c) in
-    let after-table = orElse-zero-right (tableNumber tb) (tooMany n orElse tooHigh c) given in
-    packed-back row tb c small bytes (few n (tooHigh c) after-table)
-    (refuseIf-zero (any (ltb 4095) (givenPixels c)) 3 (orElse-zero-right (tooMany n) (tooHigh c) after-table))
-    (orElse-zero-left (tableNumber tb) (tooMany n orElse tooHigh c) given)
-body-back plainRecord row tb c small bytes known given =
-    let n = length (givenPixels c) in
-    plain-back row tb c small bytes (few n (tooHigh c) given)
-    (refuseIf-zero (any (ltb 4095) (givenPixels c)) 3 (orElse-zero-right (tooMany n) (tooHigh c) given))
-body-back lineRecord row tb c small bytes known given =
-    line-back row tb c bytes (lessNumber-zero 4096 (length (givenNumbers c)) 10 given)
-body-back unknown row tb c small bytes known given = absurd (omega arith)
+module _ (code : ℕ) (h : Heading) (c : Context) (x : List ℕ) (small : h .row < 65536) (bytes : Below 256 x)
+    (w : Writable code h c x) (rest : List ℕ) where
+  abbrev k : Kind
+  k = kindOf code
 
-module _ (code row : ℕ) (tb c : List ℕ) (st : SheetState) (small : row < 65536) (bytes : Below 256 c)
-    (w : Writable code row tb c st) (rest : List ℕ) where
-  back : Back (kindOf code) row tb c (bodyFor (kindOf code) row tb c)
-  back = body-back (kindOf code) row tb c small bytes (w .known) (w .given)
+  abbrev body : List ℕ
+  body = k .body h c x
 
-  found : Fields (recordFor code row tb c ++ rest) code (bodyFor (kindOf code) row tb c)
-  found =
-      fields-recordBytes code (bodyFor (kindOf code) row tb c) rest
-      (omega (arith, kindOf-known code (w .known))) (back .short)
+  back : Back k h c x body
+  back = lawful code .back h c x small bytes (w .writable) (w .given)
 
-  pub bodyOf-back : bodyOf (recordFor code row tb c ++ rest) ≡ bodyFor (kindOf code) row tb c
-  bodyOf-back = found .body
+  readable : k .readable ≡ 0
+  readable = lawful code .readable-back (w .writable)
 
-  pub recordNumber-back : (m : Lent) → roomNumber m (length (contentGiven (kindOf code) c)) ≡ 0
-      → recordNumber m tb (recordFor code row tb c ++ rest) st ≡ 0
+  found : Fields (recordFor code h c x ++ rest) code body
+  found = fields-recordBytes code body rest (omega (arith, kindOf-known code readable)) (back .short)
+
+  pub recordNumber-back : (m : Lent) → roomNumber m (k .each * k .givenCount x) ≡ 0
+      → recordNumber m c (recordFor code h c x ++ rest) ≡ 0
   unfolding recordNumber
   recordNumber-back m room =
-      rw (found .right, found .body, found .kind, w .known)
-      (contentNumber-passed (kindOf code) m tb (bodyFor (kindOf code) row tb c) st (back .passes m st (w .place) room))
+      rw (found .right, found .body, found .kind, readable)
+      (contentNumber-passed k m c body (record {
+        fixed = back .fixed;
+        place = back .place ∙ w .place;
+        own = back .own m room;
+      }))
 
-  pub recordHeld-back : recordHeld tb (recordFor code row tb c ++ rest) st
-      ≡ recordGiven code row tb c (doneAnswer code row tb c st)
+  pub recordHeld-back : recordHeld c (recordFor code h c x ++ rest) ≡ recordGiven code h c x (recordDone code h c x)
   unfolding recordHeld
   recordHeld-back =
-      let size : 4 + (2 + length (bodyFor (kindOf code) row tb c)) ≡ length (recordFor code row tb c) =
-      omega (arith, length-recordBytes code (bodyFor (kindOf code) row tb c)) in
-      rw (found .body, found .kind, found .size, size, back .held, back .count, back .bits, back .state st)
+      let size : 4 + (2 + length body) ≡ length (recordFor code h c x) = omega (arith, length-recordBytes code body) in
+      rw (found .body, found .kind, found .size, size, back .after, back .heading, back .count, back .bits)
 
-  pub recordContent-back : recordContent tb (recordFor code row tb c ++ rest) ≡ contentGiven (kindOf code) c
-  unfolding recordContent
-  recordContent-back = rw (found .body, found .kind, back .content)
+  pub recordContent-back : recordContent c (recordFor code h c x ++ rest) ≡ contentGiven k x
+  recordContent-back = recordContent-of c (recordFor code h c x ++ rest) (found .kind) (found .body) ∙ back .content
 
-  pub recordJudged-back : recordJudged tb (recordFor code row tb c ++ rest) st
-      ≡ recordGiven code row tb c (doneAnswer code row tb c st)
+  pub contextAfter-back : contextAfter c (recordFor code h c x ++ rest) ≡ afterRecord (k .holds) h x c
+  contextAfter-back = contextAfter-of c (recordFor code h c x ++ rest) (found .kind) (found .body) ∙ back .after
+
+  pub recordJudged-back : recordJudged c (recordFor code h c x ++ rest) ≡ recordGiven code h c x (recordDone code h c x)
   unfolding recordJudged
   recordJudged-back = rw (recordNumber-back nothing refl, recordHeld-back)
 
-  pub recordRead-back : (m : List ℕ) → length (contentGiven (kindOf code) c) ≤ length m
-      → recordRead tb (recordFor code row tb c ++ rest) st m
-      ≡ readDone (recordGiven code row tb c (doneAnswer code row tb c st)) (contentGiven (kindOf code) c) m
+  pub recordRead-back : (m : List ℕ) → length (contentGiven k x) ≤ length m
+      → recordRead c (recordFor code h c x ++ rest) m
+      ≡ writes (recordGiven code h c x (recordDone code h c x)) (contentGiven k x) m
   unfolding recordRead
   recordRead-back m room =
-      let granted = lessNumber-none (length m) (length (contentGiven (kindOf code) c)) 5 room in
+      let size = length-take-le (k .each * k .givenCount x) x (lawful code .given-size x) in
+      let granted = lessNumber-none (length m) (k .each * k .givenCount x) 5 (omega (arith, size)) in
       rw (recordNumber-back (lent (length m)) granted, recordHeld-back, recordContent-back)

@@ -1,100 +1,119 @@
--- When reading a record is refused for room, and what a done reading writes. Assumes nothing.
+-- Judging a record and reading it: they agree wherever the lent memory is long enough, when reading is refused for room, and
+-- what a done reading writes. Assumes nothing.
 use Prim.Native.Nat.{ℕ, zero, suc, _*_, _≤_, _<_}
 use native.Mathlib.Omega.{arith}
-use mathlib.Core.Path.{_≡_, refl, sym, _∙_}
+use mathlib.Core.Path.{_≡_, refl, sym, ap, _∙_}
 use mathlib.Core.List.{List}
 use lib.ListN.{length}
-use Rattle.bitstream.specs.Bits.{stream}
-use Rattle.answer.specs.Outcome.{_orElse_}
-use Rattle.answer.specs.Outcome.Laws.{lessNumber-zero, lessNumber-none, lessNumber-given, orElse-zero-left, orElse-zero-right}
-use Rattle.row_format.specs.Table.{tableNumber}
-use Rattle.row_format.specs.Calls.{tooMany}
-use Rattle.sheet_format.specs.declared.SheetState.{SheetState}
-use Rattle.sheet_format.specs.Record.{kindField, bodyOf, Kind, tableRecord, packedRecord, plainRecord, lineRecord, unknown, kindOf, pixelCount, rowContent, runOf, nothing, lent, runNumber, packedNumber, bodyNumber, lastRoomNumber, contentNumber, recordNumber}
+use Rattle.answer.specs.Outcome.{_orElse_, unless, Lent, nothing, lent, roomNumber, writes, Within}
+use Rattle.answer.specs.Outcome.Laws.{lessNumber-zero, lessNumber-none, lessNumber-given, orElse-zero-left, orElse-zero-right, orElse-same, writes-within}
+use Rattle.sheet_format.specs.Context.{Context, stateOf}
+use Rattle.sheet_format.specs.Kind.{Kind}
+use Rattle.sheet_format.specs.Kind.Lawful.{Lawful}
+use Rattle.sheet_format.specs.Kinds.{kindOf}
+use Rattle.sheet_format.specs.Kinds.Laws.{lawful}
+use Rattle.sheet_format.specs.Record.{kindField, bodyOf, contentNumber, recordNumber}
 use Rattle.sheet_format.specs.Record.Laws.{lengthNumber-right, Passed, Read, recordNumber-read, read-recordNumber}
-use Rattle.sheet_format.specs.Reading.{countHeld, contentBytes, answerBytes, recordHeld, recordContent, recordJudged, recordRead, readDone}
-use Rattle.sheet_format.specs.Theorems.Memory.{Within, within-front, recordRead-refused}
-use Rattle.sheet_format.specs.Theorems.Judged.{passed-content, passed-other}
-use Rattle.sheet_format.specs.Reading.Laws.{recordJudged-number, recordJudged-done, recordRead-number, recordRead-done}
+use Rattle.sheet_format.specs.Reading.{answerBytes, recordHeld, recordContent, refusedRecord, recordJudged, recordRead}
+use Rattle.sheet_format.specs.Reading.Laws.{judged-read, judged-held, recordRead-answer, recordRead-number, recordRead-done, recordRead-refuses}
 
--- ---- a body that is accepted, and too little memory for it
-packed-full : (n : ℕ) (tb b : List ℕ) → packedNumber nothing tb b ≡ 0 → n < 2 * pixelCount b → packedNumber (lent n) tb b ≡ 5
-packed-full n tb b e less =
-    let p = pixelCount b in
-    let run = runNumber (stream (rowContent b)) (runOf tb b) in
-    rw (
-      orElse-zero-left (tableNumber tb) (tooMany p orElse run) e,
-      orElse-zero-left (tooMany p) run (orElse-zero-right (tableNumber tb) (tooMany p orElse run) e),
-      lessNumber-given n (2 * p) 5 less,
-    )
+-- ---- a lawful kind's own refusals, with memory lent and without
+module _ {k : Kind} (L : Lawful k) (c : Context) (b : List ℕ) where
+  abbrev size : ℕ
+  size = k .each * k .count b
 
-contentNumber-full : (k : Kind) (n : ℕ) (tb b : List ℕ) (st : SheetState) → Passed k nothing tb b st
-    → n < contentBytes k (countHeld k b) → contentNumber k (lent n) tb b st ≡ 5
-unfolding contentNumber bodyNumber lastRoomNumber
-contentNumber-full tableRecord n tb b st p less = absurd (omega arith)
-contentNumber-full packedRecord n tb b st p less = rw (p .fixed, p .place, packed-full n tb b (p .body) less)
-contentNumber-full plainRecord n tb b st p less =
-    rw (p .fixed, p .place, p .body, p .leftover, lessNumber-given n _ 5 less)
-contentNumber-full lineRecord n tb b st p less =
-    rw (p .fixed, p .place, p .body, p .leftover, lessNumber-given n _ 5 less)
-contentNumber-full unknown n tb b st p less = absurd (omega arith)
+  -- room is asked between the parts, and what follows does not depend on it
+  own-granted : (m : Lent) → roomNumber m size ≡ 0 → k .own m c b ≡ k .own nothing c b
+  own-granted m room = L .own-parts m c b ∙ rw room (sym (L .own-parts nothing c b))
 
-module _ (tb r : List ℕ) (st : SheetState) (m : List ℕ) (ok : recordJudged tb r st .number ≡ 0) where
-  judged : Read nothing tb r st
-  judged = recordNumber-read nothing tb r st (sym (recordJudged-number tb r st) ∙ ok)
+  own-room : (m : Lent) → k .own m c b ≡ 0 → roomNumber m size ≡ 0
+  own-room m e =
+      let parts = sym (L .own-parts m c b) ∙ e in
+      orElse-zero-left (roomNumber m size) _ (orElse-zero-right (L .first c b) _ parts)
 
-  same : recordJudged tb r st ≡ recordHeld tb r st
-  same = recordJudged-done tb r st (sym (recordJudged-number tb r st) ∙ ok)
+  own-full : (n : ℕ) → k .own nothing c b ≡ 0 → n < size → k .own (lent n) c b ≡ 5
+  own-full n e less =
+      let parts = sym (L .own-parts nothing c b) ∙ e in
+      L .own-parts (lent n) c b ∙ rw (orElse-zero-left (L .first c b) _ parts, lessNumber-given n size 5 less)
 
-  need : answerBytes (recordJudged tb r st)
-      ≡ contentBytes (kindOf (kindField r)) (countHeld (kindOf (kindField r)) (bodyOf r))
+  -- 16384 bytes are room for every content
+  own-enough : (n : ℕ) → 16384 ≤ n → k .own (lent n) c b ≡ k .own nothing c b
+  own-enough n enough =
+      L .own-parts (lent n) c b
+      ∙ orElse-same (L .first c b) _ _ (λ e. rw (lessNumber-none n size 5 (omega (arith, L .most c b e))))
+      ∙ sym (L .own-parts nothing c b)
+
+-- ---- with 16384 bytes lent, judging and reading answer the same
+pub recordNumber-enough : (n : ℕ) → 16384 ≤ n → (c : Context) (r : List ℕ)
+    → recordNumber (lent n) c r ≡ recordNumber nothing c r
+unfolding recordNumber contentNumber
+recordNumber-enough n enough c r = rw (own-enough (lawful (kindField r)) c (bodyOf r) n enough)
+
+pub recordRead-judged : (c : Context) (r m : List ℕ) → 16384 ≤ length m → recordRead c r m .answer ≡ recordJudged c r
+unfolding recordJudged
+recordRead-judged c r m enough =
+    recordRead-answer c r m
+    ∙ ap (λ (e : ℕ). unless e (refusedRecord (stateOf c)) (recordHeld c r)) (recordNumber-enough (length m) enough c r)
+
+-- ---- of a record that judging accepts
+module _ (c : Context) (r m : List ℕ) (ok : recordJudged c r .number ≡ 0) where
+  parts : Passed (kindOf (kindField r)) nothing c (bodyOf r)
+  parts = judged-read c r ok .parts
+
+  need : answerBytes (recordJudged c r) ≡ kindOf (kindField r) .each * kindOf (kindField r) .count (bodyOf r)
   unfolding recordHeld
-  need = rw same
+  need = rw (judged-held c r ok)
 
-  number-granted : answerBytes (recordJudged tb r st) ≤ length m → recordNumber (lent (length m)) tb r st ≡ 0
+  number-granted : answerBytes (recordJudged c r) ≤ length m → recordNumber (lent (length m)) c r ≡ 0
   number-granted h =
-      let k = kindOf (kindField r) in
       let room = lessNumber-none (length m) _ 5 (rw need at h) in
-      read-recordNumber (lent (length m)) tb r st (record {
-        size = judged .size;
-        kind = judged .kind;
-        known = judged .known;
-        parts = passed-other nothing (lent (length m)) tb (bodyOf r) st k (judged .parts) room;
+      read-recordNumber (lent (length m)) c r (record {
+        size = judged-read c r ok .size;
+        readable = judged-read c r ok .readable;
+        parts = record {
+          fixed = parts .fixed;
+          place = parts .place;
+          own = own-granted (lawful (kindField r)) c (bodyOf r) (lent (length m)) room ∙ parts .own;
+        };
       })
 
-  number-full : length m < answerBytes (recordJudged tb r st) → recordNumber (lent (length m)) tb r st ≡ 5
-  unfolding recordNumber
+  number-full : length m < answerBytes (recordJudged c r) → recordNumber (lent (length m)) c r ≡ 5
+  unfolding recordNumber contentNumber
   number-full h =
-      let k = kindOf (kindField r) in
-      rw (lengthNumber-right r (judged .size), judged .known)
-      (contentNumber-full k (length m) tb (bodyOf r) st (judged .parts) (rw need at h))
+      rw (
+        lengthNumber-right r (judged-read c r ok .size),
+        judged-read c r ok .readable,
+        parts .fixed,
+        parts .place,
+      ) (own-full (lawful (kindField r)) c (bodyOf r) (length m) (parts .own) (rw need at h))
 
-  pub recordRead-granted : answerBytes (recordJudged tb r st) ≤ length m
-      → recordRead tb r st m ≡ readDone (recordJudged tb r st) (recordContent tb r) m
-  recordRead-granted h = rw same (recordRead-done tb r st m (number-granted h))
+  pub recordRead-granted : answerBytes (recordJudged c r) ≤ length m
+      → recordRead c r m ≡ writes (recordJudged c r) (recordContent c r) m
+  recordRead-granted h = rw (judged-held c r ok) (recordRead-done c r m (number-granted h))
 
-  pub recordRead-full : length m < answerBytes (recordJudged tb r st) → recordRead tb r st m .answer .number ≡ 5
-  recordRead-full h = recordRead-number tb r st m ∙ number-full h
+  pub recordRead-full : length m < answerBytes (recordJudged c r) → recordRead c r m .answer .number ≡ 5
+  recordRead-full h = recordRead-number c r m ∙ number-full h
 
 -- ---- done or refused, only the content's bytes are written
-module _ (tb r : List ℕ) (st : SheetState) (m : List ℕ) where
-  pub content-bytes : recordNumber (lent (length m)) tb r st ≡ 0
-      → (length (recordContent tb r) ≡ answerBytes (recordHeld tb r st)) × (length (recordContent tb r) ≤ length m)
+module _ (c : Context) (r m : List ℕ) where
+  pub content-bytes : recordNumber (lent (length m)) c r ≡ 0
+      → (length (recordContent c r) ≡ answerBytes (recordHeld c r)) × (length (recordContent c r) ≤ length m)
   unfolding recordHeld recordContent
   content-bytes e =
-      let k = kindOf (kindField r) in
-      let c = passed-content (lent (length m)) tb (bodyOf r) st k (recordNumber-read (lent (length m)) tb r st e .parts) in
-      (c .size, rw (c .size) (lessNumber-zero (length m) (contentBytes k (countHeld k (bodyOf r))) 4 (c .room)))
+      let L = lawful (kindField r) in
+      let own = recordNumber-read (lent (length m)) c r e .parts .own in
+      let room = own-room L c (bodyOf r) (lent (length m)) own in
+      let same = L .size c (bodyOf r) (sym (own-granted L c (bodyOf r) (lent (length m)) room) ∙ own) in
+      (same, rw same (lessNumber-zero (length m) _ 4 room))
 
   -- what a done reading wrote, and where
-  pub recordRead-within : Within (answerBytes (recordRead tb r st m .answer)) m (recordRead tb r st m .memory)
-  recordRead-within = by-number (recordNumber (lent (length m)) tb r st) refl
+  pub recordRead-within : Within (answerBytes (recordRead c r m .answer)) m (recordRead c r m)
+  recordRead-within = by-number (recordNumber (lent (length m)) c r) refl
     where
-      by-number : (e : ℕ) → recordNumber (lent (length m)) tb r st ≡ e
-          → Within (answerBytes (recordRead tb r st m .answer)) m (recordRead tb r st m .memory)
+      by-number : (e : ℕ) → recordNumber (lent (length m)) c r ≡ e
+          → Within (answerBytes (recordRead c r m .answer)) m (recordRead c r m)
       by-number zero e =
-          let c = content-bytes e in
-          rw (recordRead-done tb r st m e, sym (c .0)) (within-front (recordContent tb r) m (c .1))
-      by-number (suc k) e =
-          let wrong : recordRead tb r st m .answer .number ≡ suc k = recordRead-number tb r st m ∙ e in
-          rw (recordRead-refused tb r st m (λ h. absurd (omega (arith, sym wrong ∙ h)))) (record { size = refl; rest = refl })
+          let b = content-bytes e in
+          rw (recordRead-done c r m e)
+          (writes-within (recordHeld c r) (answerBytes (recordHeld c r)) (recordContent c r) m (b .0) (rw (b .0) at (b .1)))
+      by-number (suc k) e = rw (recordRead-refuses c r m k e) (record { size = refl; rest = refl })

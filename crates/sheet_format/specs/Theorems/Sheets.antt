@@ -5,98 +5,92 @@ use mathlib.Core.Path.{_≡_, refl, sym, ap, _∙_}
 use mathlib.Core.List.{List, [], _∷_, _++_}
 use lib.ListN.{length, take, drop, length-append}
 use lib.Seq.{take-append-seam, drop-append-seam}
-use Rattle.sheet_format.specs.declared.SheetState.{SheetState}
+use Rattle.answer.specs.Outcome.{Outcome}
 use Rattle.sheet_format.specs.declared.RecordRead.{RecordRead}
-use Rattle.sheet_format.specs.Record.{bodyOf, Kind, tableRecord, packedRecord, plainRecord, lineRecord, unknown, kindOf}
-use Rattle.sheet_format.specs.Reading.{newSheet, tableAfter, recordJudged}
-use Rattle.sheet_format.specs.Writing.{bodyFor, writeNumber, recordFor}
-use Rattle.sheet_format.specs.Writing.Laws.{length-recordBytes, Writable, writable, recordWritten-number, recordWritten-answer, recordWritten-front, doneAnswer}
-use Rattle.sheet_format.specs.Sheet.{SheetRead, putFirst, sheetRead}
-use Rattle.sheet_format.specs.Sheet.Laws.{recordHere, records, recordsNext, records-end, records-more}
-use Rattle.sheet_format.specs.Theorems.Given.{recordGiven, givenBy, Write, writtenBy, tableGiven, bytesWritten, Done, AllDone, sheetBytes, sheetGiven}
-use Rattle.sheet_format.specs.Theorems.ReadBack.{recordJudged-back, bodyOf-back}
-
-table-same : (k : Kind) (row : ℕ) (tb c : List ℕ) → tableAfter k tb (bodyFor k row tb c) ≡ tableAfter k tb c
-unfolding bodyFor
-table-same tableRecord row tb c = refl
-table-same packedRecord row tb c = refl
-table-same plainRecord row tb c = refl
-table-same lineRecord row tb c = refl
-table-same unknown row tb c = refl
+use Rattle.sheet_format.specs.declared.RecordWritten.{RecordWritten}
+use Rattle.sheet_format.specs.Context.{Context, newSheet}
+use Rattle.sheet_format.specs.Kinds.{kindOf}
+use Rattle.sheet_format.specs.Reading.{contextAfter, recordContent, recordJudged}
+use Rattle.sheet_format.specs.Writing.{writeNumber, recordFor, recordDone}
+use Rattle.sheet_format.specs.Writing.Laws.{length-recordBytes, Writable, writable, recordWritten-number, recordWritten-done, recordWritten-front}
+use Rattle.sheet_format.specs.Sheet.{SheetRead, putFirst, recordHere, restNext, records, sheetRead}
+use Rattle.sheet_format.specs.Sheet.Laws.{records-end, records-more}
+use Rattle.sheet_format.specs.Theorems.Given.{recordGiven, givenBy, Write, writtenBy, contextWritten, bytesWritten, Done, AllDone, sheetBytes, sheetGiven}
+use Rattle.sheet_format.specs.Theorems.ReadBack.{recordJudged-back, recordContent-back, contextAfter-back}
 
 -- the same of bytes that are not written out as a first byte and the rest
-records-accepted : (tb : List ℕ) (st : SheetState) (r : List ℕ) → 0 < length r → recordJudged tb r st .number ≡ 0
-    → records tb st r ≡ putFirst (recordHere tb r st) (recordsNext tb r st)
-records-accepted tb st [] some ok = absurd (omega arith)
-records-accepted tb st (x ∷ r) some ok = records-more tb st x r ok
+records-accepted : (c : Context) (r : List ℕ) → 0 < length r → recordJudged c r .number ≡ 0
+    → records c r ≡ putFirst (recordHere c r) (records (contextAfter c r) (restNext c r))
+records-accepted c [] some ok = absurd (omega arith)
+records-accepted c (x ∷ r) some ok = records-more c x r ok
 
--- the sheet from a record a on, where the bytes r are left
-abbrev fromHere : List ℕ → List ℕ → RecordRead → SheetRead
-fromHere tb r a =
-    putFirst (record { answer = a; bytes = take (a .length) r })
-    (records (tableAfter (kindOf (a .kind)) tb (bodyOf r)) (a .state) (drop (a .length) r))
+-- the sheet from a record a with its content on, where the bytes r are left and the sheet holds next
+abbrev fromHere : List ℕ → List ℕ → Context → RecordRead → SheetRead
+fromHere r content next a =
+    putFirst (record { answer = a; content = content; bytes = take (a .length) r }) (records next (drop (a .length) r))
 
 -- the bytes of the record that is written
-abbrev whole : List ℕ → Write → List ℕ
-whole tb w = recordFor (w .kind) (w .row) tb (w .content)
+abbrev whole : Context → Write → List ℕ
+whole c w = recordFor (w .kind) (w .heading) c (w .content)
 
-whole-some : (tb : List ℕ) (w : Write) (rest : List ℕ) → 0 < length (whole tb w ++ rest)
-whole-some tb w rest =
-    let size = length-recordBytes (w .kind) (bodyFor (kindOf (w .kind)) (w .row) tb (w .content)) in
-    omega (arith, length-append (whole tb w) rest)
+whole-some : (c : Context) (w : Write) (rest : List ℕ) → 0 < length (whole c w ++ rest)
+whole-some c w rest =
+    let size = length-recordBytes (w .kind) (kindOf (w .kind) .body (w .heading) c (w .content)) in
+    omega (arith, length-append (whole c w) rest)
 
-module _ (tb : List ℕ) (st : SheetState) (w : Write) (d : Done tb st w) where
-  number : writeNumber (w .kind) (w .row) tb (w .content) st (length (w .memory)) ≡ 0
-  number = sym (recordWritten-number (w .kind) (w .row) tb (w .content) st (w .memory)) ∙ d .done
+module _ (c : Context) (w : Write) (d : Done c w) where
+  number : writeNumber (w .kind) (w .heading) c (w .content) (length (w .memory)) ≡ 0
+  number = sym (recordWritten-number (w .kind) (w .heading) c (w .content) (w .memory)) ∙ d .done
 
-  can : Writable (w .kind) (w .row) tb (w .content) st
-  can = writable (w .kind) (w .row) tb (w .content) st (length (w .memory)) number
+  can : Writable (w .kind) (w .heading) c (w .content)
+  can = writable (w .kind) (w .heading) c (w .content) (length (w .memory)) number
 
-  bytes-written : bytesWritten tb st w ≡ whole tb w
-  bytes-written = recordWritten-front (w .kind) (w .row) tb (w .content) st (w .memory) number
+  bytes-written : bytesWritten c w ≡ whole c w
+  bytes-written = recordWritten-front (w .kind) (w .heading) c (w .content) (w .memory) number
 
-  answer-written : writtenBy tb st w .answer ≡ doneAnswer (w .kind) (w .row) tb (w .content) st
-  answer-written = recordWritten-answer (w .kind) (w .row) tb (w .content) st (w .memory) number
+  answered : writtenBy c w .answer ≡ recordDone (w .kind) (w .heading) c (w .content)
+  answered =
+      ap (λ (o : Outcome RecordWritten). o .answer)
+      (recordWritten-done (w .kind) (w .heading) c (w .content) (w .memory) number)
 
   module _ (rest : List ℕ) where
-    back : recordJudged tb (whole tb w ++ rest) st
-        ≡ recordGiven (w .kind) (w .row) tb (w .content) (writtenBy tb st w .answer)
-    back = rw answer-written (recordJudged-back (w .kind) (w .row) tb (w .content) st (d .small) (d .bytes) can rest)
+    back : recordJudged c (whole c w ++ rest) ≡ recordGiven (w .kind) (w .heading) c (w .content) (writtenBy c w .answer)
+    back =
+        recordJudged-back (w .kind) (w .heading) c (w .content) (d .small) (d .bytes) can rest
+        ∙ ap (recordGiven (w .kind) (w .heading) c (w .content)) (sym answered)
 
-    size : writtenBy tb st w .answer .count ≡ length (whole tb w)
-    size = rw answer-written
+    size : writtenBy c w .answer .count ≡ length (whole c w)
+    size = ap (λ (a : RecordWritten). a .count) answered
 
-    table : tableAfter (kindOf (w .kind)) tb (bodyOf (whole tb w ++ rest)) ≡ tableGiven tb w
-    table =
-        rw (bodyOf-back (w .kind) (w .row) tb (w .content) st (d .small) (d .bytes) can rest)
-        (table-same (kindOf (w .kind)) (w .row) tb (w .content))
+    next : contextAfter c (whole c w ++ rest) ≡ contextWritten c w
+    next = contextAfter-back (w .kind) (w .heading) c (w .content) (d .small) (d .bytes) can rest
 
-    written-first : records tb st (whole tb w ++ rest)
-        ≡ putFirst (givenBy tb st w) (records (tableGiven tb w) (writtenBy tb st w .answer .state) rest)
+    written-first : records c (whole c w ++ rest) ≡ putFirst (givenBy c w) (records (contextWritten c w) rest)
     written-first =
-        records-accepted tb st (whole tb w ++ rest) (whole-some tb w rest) (ap (λ (a : RecordRead). a .number) back)
-        ∙ ap (fromHere tb (whole tb w ++ rest)) back
-        ∙ rw (bytes-written, size, take-append-seam (whole tb w) rest, drop-append-seam (whole tb w) rest, table)
+        let r = whole c w ++ rest in
+        let content = recordContent-back (w .kind) (w .heading) c (w .content) (d .small) (d .bytes) can rest in
+        records-accepted c r (whole-some c w rest) (ap (λ (a : RecordRead). a .number) back)
+        ∙ ap (fromHere r (recordContent c r) (contextAfter c r)) back
+        ∙ rw (content, next, bytes-written, size, take-append-seam (whole c w) rest, drop-append-seam (whole c w) rest)
 
-pub records-written : (tb : List ℕ) (st : SheetState) (ws : List Write) → AllDone tb st ws
-    → records tb st (sheetBytes tb st ws) ≡ record { records = sheetGiven tb st ws; number = 0 }
+records-written : (c : Context) (ws : List Write) → AllDone c ws
+    → records c (sheetBytes c ws) ≡ record { records = sheetGiven c ws; number = 0 }
 unfolding sheetBytes sheetGiven
-records-written tb st [] d = records-end tb st
-records-written tb st (w ∷ ws) d =
-    let st′ = writtenBy tb st w .answer .state in
-    let rest = sheetBytes (tableGiven tb w) st′ ws in
-    ap (λ (b : List ℕ). records tb st (b ++ rest)) (bytes-written tb st w (d .0))
-    ∙ written-first tb st w (d .0) rest
-    ∙ ap (putFirst (givenBy tb st w)) (records-written (tableGiven tb w) st′ ws (d .1))
+records-written c [] d = records-end c
+records-written c (w ∷ ws) d =
+    let rest = sheetBytes (contextWritten c w) ws in
+    ap (λ (b : List ℕ). records c (b ++ rest)) (bytes-written c w (d .0))
+    ∙ written-first c w (d .0) rest
+    ∙ ap (putFirst (givenBy c w)) (records-written (contextWritten c w) ws (d .1))
 
-sheetRead-records : (s : List ℕ) → 0 < length s → sheetRead s ≡ records [] newSheet s
+sheetRead-records : (s : List ℕ) → 0 < length s → sheetRead s ≡ records newSheet s
 unfolding sheetRead
 sheetRead-records [] some = absurd (omega arith)
 sheetRead-records (x ∷ s) some = refl
 
-pub sheetRead-written : (w : Write) (ws : List Write) → AllDone [] newSheet (w ∷ ws)
-    → sheetRead (sheetBytes [] newSheet (w ∷ ws)) ≡ record { records = sheetGiven [] newSheet (w ∷ ws); number = 0 }
-sheetRead-written w ws d = sheetRead-records (sheetBytes [] newSheet (w ∷ ws)) some ∙ records-written [] newSheet (w ∷ ws) d
+pub sheetRead-written : (w : Write) (ws : List Write) → AllDone newSheet (w ∷ ws)
+    → sheetRead (sheetBytes newSheet (w ∷ ws)) ≡ record { records = sheetGiven newSheet (w ∷ ws); number = 0 }
+sheetRead-written w ws d = sheetRead-records (sheetBytes newSheet (w ∷ ws)) some ∙ records-written newSheet (w ∷ ws) d
   where
-    some : 0 < length (sheetBytes [] newSheet (w ∷ ws))
-    some = unfold sheetBytes in (rw (bytes-written [] newSheet w (d .0)) (whole-some [] w _))
+    some : 0 < length (sheetBytes newSheet (w ∷ ws))
+    some = unfold sheetBytes in (rw (bytes-written newSheet w (d .0)) (whole-some newSheet w _))

@@ -1,54 +1,21 @@
--- The fields of a record that was written, whatever follows it. Assumes nothing.
-use Prim.Native.Nat.{ℕ, zero, suc, _+_, _-_, _*_, _^_, _≤_, _<_}
-use native.Mathlib.Nat.{mod-eq-of-lt}
+-- The fields of a record that was written, whatever follows it, and what a done write passed. Assumes nothing.
+use Prim.Native.Nat.{ℕ, suc, _+_, _-_, _≤_, _<_}
 use native.Mathlib.Omega.{arith}
 use mathlib.Core.Path.{_≡_, refl, sym, ap, _∙_}
 use mathlib.Core.List.{List, [], _++_, append-assoc, append-nil}
 use lib.ListN.{length, take, drop, length-append}
-use lib.Seq.{take-at, drop-at, take-all, drop-drop}
+use lib.Seq.{take-at, drop-at, drop-drop}
 use lib.Dec.{ltb}
 use borrow.Author.Tests.{le-ltb}
-use Rattle.bitstream.specs.Bits.{digits, numberOf, bytesOf}
-use Rattle.bitstream.specs.Bits.Laws.{length-digits, below-digits, flat-cut, numOf-digits, length-cut}
-use Rattle.row_format.specs.BitLaws.{pad-within}
-use Rattle.answer.specs.Outcome.{refuseIf}
-use Rattle.answer.specs.Outcome.Laws.{lessNumber-zero, orElse-zero-left, orElse-zero-right}
-use Rattle.sheet_format.specs.declared.SheetState.{SheetState}
+use Rattle.answer.specs.Outcome.{Outcome, outcome, writes, refuseIf}
+use Rattle.answer.specs.Outcome.Laws.{lessNumber-zero, orElse-zero-left, orElse-zero-right, unless-number}
 use Rattle.sheet_format.specs.declared.RecordWritten.{RecordWritten}
-use Rattle.sheet_format.specs.Record.{lengthField, kindField, bodyOf, kindOf, lengthNumber, kindNumber, placeNumber}
-use Rattle.sheet_format.specs.Reading.{stateAfter}
-use Rattle.sheet_format.specs.Writing.{twoBytes, fourBytes, bodyFor, recordBytes, givenNumber, writeNumber, writtenUnless, recordWritten, recordFor}
-
--- a number in n bytes is read back from them
-pub numberOf-bytesOf : (n v : ℕ) → v < 2 ^ (8 * n) → numberOf (bytesOf n (digits (8 * n) v)) ≡ v
-numberOf-bytesOf n v small =
-    let all : 8 * n ≤ length (digits (8 * n) v) = omega (arith, length-digits (8 * n) v) in
-    let most : length (digits (8 * n) v) ≤ 8 * n = omega (arith, length-digits (8 * n) v) in
-    rw (
-      flat-cut 8 n (digits (8 * n) v) (below-digits (8 * n) v),
-      pad-within (8 * n) (digits (8 * n) v) all,
-      take-all (8 * n) (digits (8 * n) v) most,
-    )
-    (numOf-digits (8 * n) v ∙ mod-eq-of-lt small)
-
-pub numberOf-twoBytes : (v : ℕ) → v < 65536 → numberOf (twoBytes v) ≡ v
-numberOf-twoBytes v small = numberOf-bytesOf 2 v small
-
-pub numberOf-fourBytes : (v : ℕ) → v < 4294967296 → numberOf (fourBytes v) ≡ v
-numberOf-fourBytes v small = numberOf-bytesOf 4 v small
-
-pub length-twoBytes : (v : ℕ) → length (twoBytes v) ≡ 2
-length-twoBytes v = length-cut 8 2 (digits 16 v)
-
-pub length-fourBytes : (v : ℕ) → length (fourBytes v) ≡ 4
-length-fourBytes v = length-cut 8 4 (digits 32 v)
-
--- two bytes in front
-pub take-twoBytes : (v : ℕ) (s : List ℕ) → take 2 (twoBytes v ++ s) ≡ twoBytes v
-take-twoBytes v s = take-at (twoBytes v) s 2 (length-twoBytes v)
-
-pub drop-twoBytes : (v : ℕ) (s : List ℕ) → drop 2 (twoBytes v ++ s) ≡ s
-drop-twoBytes v s = drop-at (twoBytes v) s 2 (length-twoBytes v)
+use Rattle.sheet_format.specs.Context.{Heading, Context, stateOf}
+use Rattle.sheet_format.specs.Fields.{twoBytes, fourBytes}
+use Rattle.sheet_format.specs.Fields.Laws.{numberOf-twoBytes, numberOf-fourBytes, length-twoBytes, length-fourBytes, take-twoBytes, drop-twoBytes}
+use Rattle.sheet_format.specs.Kinds.{kindOf}
+use Rattle.sheet_format.specs.Record.{lengthField, kindField, bodyOf, lengthNumber}
+use Rattle.sheet_format.specs.Writing.{recordBytes, recordFor, writeNumber, notWritten, recordDone, recordWritten}
 
 pub length-recordBytes : (code : ℕ) (b : List ℕ) → length (recordBytes code b) ≡ 6 + length b
 unfolding recordBytes
@@ -113,89 +80,65 @@ module _ (code : ℕ) (b rest : List ℕ) (small : code < 65536) (short : length
     right = lengthNumber-recordBytes;
   }
 
-pub writtenUnless-number : (e : ℕ) (st : SheetState) (m : List ℕ) (st′ : SheetState) (b : List ℕ)
-    → writtenUnless e st m st′ b .answer .number ≡ e
-writtenUnless-number zero st m st′ b = refl
-writtenUnless-number (suc e) st m st′ b = refl
-
 -- a table's record holds its bytes from place 6 on
-pub recordBytes-table : (code row : ℕ) (tb c : List ℕ) → code ≡ 1 → drop 6 (recordFor code row tb c) ≡ c
-recordBytes-table code row tb c one =
-    let b = bodyFor (kindOf code) row tb c in
+pub recordBytes-table : (code : ℕ) (h : Heading) (c : Context) (x : List ℕ) → code ≡ 1 → drop 6 (recordFor code h c x) ≡ x
+recordBytes-table code h c x one =
+    let b = kindOf code .body h c x in
     ap (drop 6) (sym (append-nil (recordBytes code b)))
     ∙ drop-recordBytes code b []
     ∙ append-nil b
-    ∙ body code one
-  where
-    body : (k : ℕ) → k ≡ 1 → bodyFor (kindOf k) row tb c ≡ c
-    body k e = rw (ap kindOf e) (unfold bodyFor in refl)
-
--- what a done write answers
-abbrev pub doneAnswer : ℕ → ℕ → List ℕ → List ℕ → SheetState → RecordWritten
-doneAnswer code row tb c st =
-    record {
-      number = 0;
-      count = length (recordFor code row tb c);
-      state = stateAfter (kindOf code) row st;
-    }
+    ∙ ap (λ (k : ℕ). kindOf k .body h c x) one
 
 -- ---- what a done write passed
-pub record Writable (code row : ℕ) (tb c : List ℕ) (st : SheetState) : Type 0 where
-  pub known : kindNumber (kindOf code) ≡ 0
-  pub place : placeNumber (kindOf code) row st ≡ 0
-  pub given : givenNumber (kindOf code) tb c ≡ 0
+pub record Writable (code : ℕ) (h : Heading) (c : Context) (x : List ℕ) : Type 0 where
+  pub writable : kindOf code .writable ≡ 0
+  pub place : kindOf code .place c h ≡ 0
+  pub given : kindOf code .given h c x ≡ 0
 
-module _ (code row : ℕ) (tb c : List ℕ) (st : SheetState) where
-  pub writable : (room : ℕ) → writeNumber code row tb c st room ≡ 0 → Writable code row tb c st
+module _ (code : ℕ) (h : Heading) (c : Context) (x : List ℕ) where
+  pub writable : (room : ℕ) → writeNumber code h c x room ≡ 0 → Writable code h c x
   unfolding writeNumber
   writable room e =
       let k = kindOf code in
-      let e1 = orElse-zero-right (kindNumber k) _ e in
-      let e2 = orElse-zero-right (placeNumber k row st) _ e1 in
+      let e1 = orElse-zero-right (k .writable) _ e in
+      let e2 = orElse-zero-right (k .place c h) _ e1 in
       record {
-        known = orElse-zero-left (kindNumber k) _ e;
-        place = orElse-zero-left (placeNumber k row st) _ e1;
-        given = orElse-zero-left (givenNumber k tb c) _ e2;
+        writable = orElse-zero-left (k .writable) _ e;
+        place = orElse-zero-left (k .place c h) _ e1;
+        given = orElse-zero-left (k .given h c x) _ e2;
       }
 
   -- then only room is left to ask for
-  pub writeNumber-writable : (room : ℕ) → Writable code row tb c st
-      → writeNumber code row tb c st room ≡ refuseIf (ltb room (length (recordFor code row tb c))) 5
+  pub writeNumber-writable : (room : ℕ) → Writable code h c x
+      → writeNumber code h c x room ≡ refuseIf (ltb room (length (recordFor code h c x))) 5
   unfolding writeNumber
-  writeNumber-writable room w = rw (w .known, w .place, w .given)
+  writeNumber-writable room w = rw (w .writable, w .place, w .given)
 
-  pub writeNumber-room : (room : ℕ) → writeNumber code row tb c st room ≡ 0
-      → length (recordFor code row tb c) ≤ room
+  pub writeNumber-room : (room : ℕ) → writeNumber code h c x room ≡ 0 → length (recordFor code h c x) ≤ room
   writeNumber-room room e =
-      lessNumber-zero room (length (recordFor code row tb c)) 4 (sym (writeNumber-writable room (writable room e)) ∙ e)
+      lessNumber-zero room (length (recordFor code h c x)) 4 (sym (writeNumber-writable room (writable room e)) ∙ e)
 
   -- ---- the call
   module _ (m : List ℕ) where
-    pub recordWritten-number : recordWritten code row tb c st m .answer .number ≡ writeNumber code row tb c st (length m)
+    pub recordWritten-number : recordWritten code h c x m .answer .number ≡ writeNumber code h c x (length m)
     unfolding recordWritten
     recordWritten-number =
-        writtenUnless-number (writeNumber code row tb c st (length m)) st m (stateAfter (kindOf code) row st)
-        (recordFor code row tb c)
+        unless-number (λ (o : Outcome RecordWritten). o .answer .number) (λ e. outcome (notWritten (stateOf c) e) m)
+        (writes (recordDone code h c x) (recordFor code h c x) m) (λ k. refl) (writeNumber code h c x (length m)) refl
 
-    pub recordWritten-done : writeNumber code row tb c st (length m) ≡ 0
-        → recordWritten code row tb c st m ≡ writtenUnless 0 st m (stateAfter (kindOf code) row st) (recordFor code row tb c)
+    pub recordWritten-done : writeNumber code h c x (length m) ≡ 0
+        → recordWritten code h c x m ≡ writes (recordDone code h c x) (recordFor code h c x) m
     unfolding recordWritten
     recordWritten-done e = rw e
 
-    pub recordWritten-answer : writeNumber code row tb c st (length m) ≡ 0
-        → recordWritten code row tb c st m .answer ≡ doneAnswer code row tb c st
-    recordWritten-answer e = rw (recordWritten-done e)
-
-    pub recordWritten-refused : (e : ℕ) → writeNumber code row tb c st (length m) ≡ suc e
-        → recordWritten code row tb c st m
-        ≡ writtenUnless (suc e) st m (stateAfter (kindOf code) row st) (recordFor code row tb c)
+    pub recordWritten-refused : (e : ℕ) → writeNumber code h c x (length m) ≡ suc e
+        → recordWritten code h c x m ≡ outcome (notWritten (stateOf c) (suc e)) m
     unfolding recordWritten
     recordWritten-refused e h = rw h
 
     -- the bytes that a done write counts are the record's
-    pub recordWritten-front : writeNumber code row tb c st (length m) ≡ 0
-        → take (recordWritten code row tb c st m .answer .count) (recordWritten code row tb c st m .memory)
-        ≡ recordFor code row tb c
+    pub recordWritten-front : writeNumber code h c x (length m) ≡ 0
+        → take (recordWritten code h c x m .answer .count) (recordWritten code h c x m .memory) ≡ recordFor code h c x
     recordWritten-front e =
-        let b = recordFor code row tb c in
+        let b = recordFor code h c x in
         rw (recordWritten-done e) (take-at b (drop (length b) m) (length b) refl)

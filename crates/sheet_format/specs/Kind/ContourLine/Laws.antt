@@ -1,0 +1,186 @@
+-- The contour line's kind is lawful. Assumes nothing.
+use Prim.Native.Nat.{ℕ, zero, suc, _+_, _*_, _/_, _≤_, _<_}
+use native.Mathlib.Nat.{le-refl}
+use native.Mathlib.Omega.{arith}
+use mathlib.Core.Path.{_≡_, refl, sym, ap, _∙_}
+use mathlib.Core.List.{List, [], _∷_, _++_, append-nil, map}
+use lib.ListN.{length, take, drop, length-append, length-map}
+use lib.Seq.{length-take-le}
+use lib.Dec.{ltb, leb}
+use lib.IntN.{ℤ}
+use Rattle.bitstream.specs.Bits.{flat, bitsOf, wordsOf}
+use Rattle.bitstream.specs.Bits.Laws.{Below, below-flat, below-cut, length-cut}
+use Rattle.answer.specs.Outcome.{_orElse_, refuseIf, Lent, nothing, roomNumber}
+use Rattle.answer.specs.Outcome.Laws.{lessNumber-none, lessNumber-zero, refuseIf-in, orElse-in, orElse-none, orElse-zero-left, orElse-zero-right}
+use Rattle.row_format.specs.Lists.Laws.{by-test}
+use Rattle.row_format.specs.Row.{tooMany}
+use Rattle.row_format.specs.Row.Laws.{tooMany-zero}
+use Rattle.adaptive.specs.Number.{Front, whole, fault, before, front, Reading, accepted, rejected, signed, judged, readAs}
+use Rattle.sheet_format.specs.Context.{Heading, Context}
+use Rattle.sheet_format.specs.Fields.{twoBytes}
+use Rattle.sheet_format.specs.Fields.Laws.{numberOf-twoBytes, length-twoBytes, take-twoBytes, drop-twoBytes}
+use Rattle.sheet_format.specs.Line.{Line, numbers, faulty, prepend, follow, wordOf, readLine, lineBytes}
+use Rattle.sheet_format.specs.Line.Laws.{Gives, readLine-gives, in-range-signedOf, readLine-lineBytes, length-lineBytes, map-wordOf-signedOf, bytesOf-wordsOf}
+use Rattle.sheet_format.specs.Kind.Lawful.{Listed, Back, Lawful}
+use Rattle.sheet_format.specs.Kind.Row.{noTable}
+use Rattle.sheet_format.specs.Kind.Row.Laws.{noTable-zero, noTable-in}
+use Rattle.sheet_format.specs.Kind.ContourLine.{numberCount, lineContent, lineOf, faultNumber, bytesOfLine, lineNumber, lineOwn, numberBytes, readNumbers, linePlace, givenNumbers, lineGiven, lineBody, lineKind}
+
+-- ---- room is asked last
+line-parts : (m : Lent) (c : Context) (b : List ℕ)
+    → lineOwn m c b ≡ lineNumber b orElse (roomNumber m (4 * numberCount b) orElse 0)
+unfolding lineOwn
+line-parts m c b = rw (orElse-none (roomNumber m (4 * numberCount b)))
+
+line-most : (c : Context) (b : List ℕ) → lineNumber b ≡ 0 → 4 * numberCount b ≤ 16384
+unfolding lineNumber
+line-most c b e = omega (arith, tooMany-zero (numberCount b) (orElse-zero-left (tooMany (numberCount b)) _ e))
+
+line-content : (n : ℕ) (s : List ℕ) (x : Line) → Gives n s x → faultNumber x ≡ 0 → length (numberBytes x) ≡ 4 * n
+line-content n s (numbers vs u) g e = length-cut 8 (4 * length vs) (flat 32 (map wordOf vs)) ∙ ap (4 *_) (g .count)
+line-content n s (faulty k) g e = absurd (omega arith)
+
+line-size : (c : Context) (b : List ℕ) → lineOwn nothing c b ≡ 0 → length (readNumbers c b) ≡ 4 * numberCount b
+unfolding lineOwn lineNumber readNumbers
+line-size c b e =
+    let n = numberCount b in
+    let left = refuseIf (ltb (bytesOfLine (lineOf b)) (length (lineContent b))) 14 in
+    let number = orElse-zero-left (tooMany n orElse faultNumber (lineOf b) orElse left) 0 e in
+    let rest = orElse-zero-right (tooMany n) (faultNumber (lineOf b) orElse left) number in
+    line-content n (lineContent b) (lineOf b) (readLine-gives n (lineContent b)) (orElse-zero-left (faultNumber (lineOf b)) left rest)
+
+-- ---- a line that was written
+record LineFields (b : List ℕ) (n : ℕ) (w : List ℕ) : Type 0 where
+  pub count : numberCount b ≡ n
+  pub content : lineContent b ≡ w
+  pub size : length b ≡ 2 + length w
+
+line-fields : (n : ℕ) (w : List ℕ) → n < 65536 → LineFields (twoBytes n ++ w) n w
+line-fields n w few = record {
+  count = rw (take-twoBytes n w) (numberOf-twoBytes n few);
+  content = drop-twoBytes n w;
+  size = length-append (twoBytes n) w ∙ ap (_+ length w) (length-twoBytes n);
+}
+
+given-count : (x : List ℕ) → length (givenNumbers x) ≡ length (wordsOf x)
+given-count x = length-map (wordsOf x) _
+
+given-numbers : (x : List ℕ) → 4 * length (givenNumbers x) ≤ length x
+given-numbers x = omega (arith, given-count x, length-cut 32 (length x / 4) (bitsOf x))
+
+module _ (h : Heading) (c : Context) (x : List ℕ) (bytes : Below 256 x) (few : length (givenNumbers x) ≤ 4096) where
+  numbers-size : length (take (4 * length (givenNumbers x)) x) ≡ 4 * length (givenNumbers x)
+  numbers-size = length-take-le (4 * length (givenNumbers x)) x (given-numbers x)
+
+  words-low : Below 4294967296 (wordsOf x)
+  words-low = below-cut 32 (length x / 4) (bitsOf x) (below-flat 8 x)
+
+  line-body : (b : List ℕ) → LineFields b (length (givenNumbers x)) (lineBytes (givenNumbers x)) → Back lineKind h c x b
+  unfolding lineOwn lineNumber readNumbers linePlace
+  line-body b f = record {
+    fixed = lessNumber-none (length b) 2 14 (omega (arith, f .size));
+    heading = refl;
+    place = refl;
+    own = λ m room. rw (
+      reads,
+      f .count,
+      f .content,
+      lessNumber-none 4096 (length (givenNumbers x)) 11 few,
+      lessNumber-none (length (lineBytes (givenNumbers x))) (length (lineBytes (givenNumbers x))) 14 (le-refl _),
+    ) room;
+    count = f .count;
+    bits = refl;
+    content = rw (reads, map-wordOf-signedOf (wordsOf x) words-low, given-count x) (bytesOf-wordsOf x bytes);
+    after = refl;
+    short = omega (arith, f .size, length-lineBytes (givenNumbers x));
+  }
+    where
+      reads : lineOf b ≡ numbers (givenNumbers x) (length (lineBytes (givenNumbers x)))
+      reads =
+          rw (f .count, f .content)
+          (ap (readLine (length (givenNumbers x))) (sym (append-nil (lineBytes (givenNumbers x))))
+          ∙ readLine-lineBytes (givenNumbers x) [] (in-range-signedOf (wordsOf x) words-low))
+
+  line-written : Back lineKind h c x (lineBody h c x)
+  unfolding lineBody
+  line-written = line-body (lineBody h c x) (line-fields (length (givenNumbers x)) (lineBytes (givenNumbers x)) (omega arith))
+
+line-back : (h : Heading) (c : Context) (x : List ℕ) → Below 256 x → lineGiven h c x ≡ 0 → Back lineKind h c x (lineBody h c x)
+unfolding lineGiven
+line-back h c x bytes given = line-written h c x bytes (tooMany-zero (length (givenNumbers x)) given)
+
+-- ---- numbers: 12 or 13 at a number
+module _ (P : ℕ → Type 0) (p0 : P 0) (p12 : P 12) (p13 : P 13) where
+  abbrev FrontIn : Front → Type 0
+  FrontIn (whole bs) = Unit {0}
+  FrontIn (fault e) = P e
+
+  abbrev RejectedIn : Reading ℤ → Type 0
+  RejectedIn (accepted v n) = Unit {0}
+  RejectedIn (rejected e) = P e
+
+  before-in : (b : ℕ) (f : Front) → FrontIn f → FrontIn (before b f)
+  before-in b (whole bs) h = tt
+  before-in b (fault e) h = h
+
+  front-in : (n : ℕ) (s : List ℕ) → FrontIn (front n s)
+  unfolding front
+  front-in zero s = p13
+  front-in (suc n) [] = p12
+  front-in (suc n) (b ∷ s) =
+      let more = before-in b (front n s) (front-in n s) in
+      by-test (leb 128 b) (λ e. rw e more) (λ e. rw e tt)
+
+  judged-in : (f : Front) → FrontIn f → RejectedIn (judged signed f)
+  judged-in (whole bs) h = by-test (signed .inRange (signed .valueOf bs)) (λ e. rw e tt) (λ e. rw e p13)
+  judged-in (fault e) h = h
+
+  readAs-in : (s : List ℕ) → RejectedIn (readAs signed s)
+  unfolding readAs
+  readAs-in s = judged-in (front 5 s) (front-in 5 s)
+
+  prepend-in : (v : ℤ) (u : ℕ) (x : Line) → P (faultNumber x) → P (faultNumber (prepend v u x))
+  prepend-in v u (numbers vs w) h = p0
+  prepend-in v u (faulty e) h = h
+
+  follow-in : (x : Reading ℤ) (f : ℕ → Line) → RejectedIn x → ((u : ℕ) → P (faultNumber (f u))) → P (faultNumber (follow x f))
+  follow-in (accepted v u) f h rest = prepend-in v u (f u) (rest u)
+  follow-in (rejected e) f h rest = h
+
+  readLine-in : (n : ℕ) (s : List ℕ) → P (faultNumber (readLine n s))
+  unfolding readLine
+  readLine-in zero s = p0
+  readLine-in (suc n) s = follow-in (readAs signed s) _ (readAs-in s) (λ u. readLine-in n (drop u s))
+
+lineOwn-in : (P : ℕ → Type 0) → Listed P → (m : Lent) → ((n : ℕ) → P (roomNumber m n)) → (c : Context) (b : List ℕ)
+    → P (lineOwn m c b)
+unfolding lineOwn lineNumber
+lineOwn-in P l m room c b =
+    let n = numberCount b in
+    orElse-in P (lineNumber b) _
+    (orElse-in P (tooMany n) _ (refuseIf-in P (ltb 4096 n) 11 (l .p0) (l .p11))
+    (orElse-in P (faultNumber (lineOf b)) _ (readLine-in P (l .p0) (l .p12) (l .p13) n (lineContent b))
+    (refuseIf-in P (ltb (bytesOfLine (lineOf b)) (length (lineContent b))) 14 (l .p0) (l .p14))))
+    (room (4 * n))
+
+pub line-lawful : Lawful lineKind
+unfolding linePlace lineGiven
+line-lawful = record {
+  first = λ c b. lineNumber b;
+  last = λ c b. 0;
+  own-parts = line-parts;
+  most = line-most;
+  size = line-size;
+  given-size = given-numbers;
+  table-placed = λ e c h place. absurd (let z : _≡_ {A = ℕ} 0 1 = cc in omega arith);
+  table-before = λ other readable c h place. noTable-zero c place;
+  row-risen = λ e c h place. absurd (let z : _≡_ {A = ℕ} 0 1 = cc in omega arith);
+  readable-in = λ P p0 p15. p0;
+  writable-in = λ P p0 p15. p0;
+  fixed-in = λ P p0 p14 b. refuseIf-in P (ltb (length b) 2) 14 p0 p14;
+  place-in = λ P p0 p16 c h. noTable-in P p0 p16 c;
+  own-in = lineOwn-in;
+  given-in = λ P l h c x. refuseIf-in P (ltb 4096 (length (givenNumbers x))) 11 (l .p0) (l .p11);
+  readable-back = λ e. refl;
+  back = λ h c x small bytes writable given. line-back h c x bytes given;
+}

@@ -1,0 +1,78 @@
+-- What every kind of record owes, so that all that is proved of records is proved once, over a lawful kind. Assumes nothing.
+use Prim.Native.Nat.{ℕ, _*_, _≤_, _<_}
+use mathlib.Core.Path.{_≡_}
+use mathlib.Core.List.{List}
+use lib.ListN.{length, take}
+use Rattle.bitstream.specs.Bits.Laws.{Below}
+use Rattle.answer.specs.Outcome.{_orElse_, Lent, lent, roomNumber}
+use Rattle.answer.specs.Outcome as answers
+use Rattle.sheet_format.specs.Context.{Heading, Context}
+use Rattle.sheet_format.specs.Kind.{Kind, aTable, aRow, afterRecord, headingKept}
+
+-- the numbers that document 01 lists for a record's body and for what the writer is given
+pub record Listed (P : ℕ → Type 0) : Type 0 where
+  pub p0 : P 0
+  pub p1 : P 1
+  pub p2 : P 2
+  pub p3 : P 3
+  pub p4 : P 4
+  pub p6 : P 6
+  pub p7 : P 7
+  pub p8 : P 8
+  pub p9 : P 9
+  pub p10 : P 10
+  pub p11 : P 11
+  pub p12 : P 12
+  pub p13 : P 13
+  pub p14 : P 14
+
+pub record ListedGiven (P : ℕ → Type 0) : Type 0 where
+  pub p0 : P 0
+  pub p1 : P 1
+  pub p2 : P 2
+  pub p3 : P 3
+  pub p4 : P 4
+  pub p11 : P 11
+
+-- the content that was given, but for an incomplete pixel or number at its end
+abbrev pub contentGiven : Kind → List ℕ → List ℕ
+contentGiven k x = take (k .each * k .givenCount x) x
+
+-- what reading the body b finds, where it was written for the heading h and the content x
+pub record Back (k : Kind) (h : Heading) (c : Context) (x b : List ℕ) : Type 0 where
+  pub fixed : k .fixed b ≡ 0
+  pub heading : k .heading b ≡ headingKept (k .holds) h
+  pub place : k .place c (k .heading b) ≡ k .place c h
+  pub own : (m : Lent) → roomNumber m (k .each * k .givenCount x) ≡ 0 → k .own m c b ≡ 0
+  pub count : k .count b ≡ k .givenCount x
+  pub bits : k .bits c b ≡ k .givenBits h c x
+  pub content : k .content c b ≡ contentGiven k x
+  pub after : afterRecord (k .holds) (k .heading b) b c ≡ afterRecord (k .holds) h x c
+  pub short : length b ≤ 32772
+
+pub record Lawful (k : Kind) : Type 1 where
+  -- ---- the body's own refusals ask for room once, and before that bound the content
+  pub first : Context → List ℕ → ℕ
+  pub last : Context → List ℕ → ℕ
+  pub own-parts : (m : Lent) (c : Context) (b : List ℕ)
+      → k .own m c b ≡ first c b orElse (roomNumber m (k .each * k .count b) orElse last c b)
+  pub most : (c : Context) (b : List ℕ) → first c b ≡ 0 → k .each * k .count b ≤ 16384
+  pub size : (c : Context) (b : List ℕ) → k .own answers.nothing c b ≡ 0 → length (k .content c b) ≡ k .each * k .count b
+  pub given-size : (x : List ℕ) → k .each * k .givenCount x ≤ length x
+  -- ---- places
+  pub table-placed : k .holds ≡ aTable → (c : Context) (h : Heading) → k .place c h ≡ 0 → length (c .tables) ≡ 0
+  pub table-before : (k .holds ≡ aTable → ⊥) → k .readable ≡ 0 → (c : Context) (h : Heading) → k .place c h ≡ 0
+      → length (c .tables) ≡ 0 → ⊥
+  pub row-risen : k .holds ≡ aRow → (c : Context) (h : Heading) → k .place c h ≡ 0 → c .least ≤ h .row
+  -- ---- numbers: what document 01 lists, and nothing else
+  pub readable-in : (P : ℕ → Type 0) → P 0 → P 15 → P (k .readable)
+  pub writable-in : (P : ℕ → Type 0) → P 0 → P 15 → P (k .writable)
+  pub fixed-in : (P : ℕ → Type 0) → P 0 → P 14 → (b : List ℕ) → P (k .fixed b)
+  pub place-in : (P : ℕ → Type 0) → P 0 → P 16 → (c : Context) (h : Heading) → P (k .place c h)
+  pub own-in : (P : ℕ → Type 0) → Listed P → (m : Lent) → ((n : ℕ) → P (roomNumber m n)) → (c : Context) (b : List ℕ)
+      → P (k .own m c b)
+  pub given-in : (P : ℕ → Type 0) → ListedGiven P → (h : Heading) (c : Context) (x : List ℕ) → P (k .given h c x)
+  -- ---- what is written is read back
+  pub readable-back : k .writable ≡ 0 → k .readable ≡ 0
+  pub back : (h : Heading) (c : Context) (x : List ℕ) → h .row < 65536 → Below 256 x → k .writable ≡ 0
+      → k .given h c x ≡ 0 → Back k h c x (k .body h c x)

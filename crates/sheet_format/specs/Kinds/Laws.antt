@@ -1,0 +1,67 @@
+-- Every kind is lawful: the one split over all kinds. Assumes nothing.
+use Prim.Native.Nat.{ℕ, zero, suc, _≤_, _<_}
+use native.Mathlib.Omega.{arith}
+use mathlib.Core.Path.{_≡_, refl, sym}
+use Rattle.answer.specs.Outcome.Laws.{roomNumber-none, orElse-none}
+use Rattle.sheet_format.specs.Kind.{unknown, aTable}
+use Rattle.sheet_format.specs.Kind.Lawful.{Lawful}
+use Rattle.sheet_format.specs.Kind.Table.Laws.{table-lawful}
+use Rattle.sheet_format.specs.Kind.PackedRow.Laws.{packed-lawful}
+use Rattle.sheet_format.specs.Kind.PlainRow.Laws.{plain-lawful}
+use Rattle.sheet_format.specs.Kind.ContourLine.Laws.{line-lawful}
+use Rattle.sheet_format.specs.Kinds.{kindOf}
+
+unknown-lawful : Lawful unknown
+unknown-lawful = record {
+  first = λ c b. 0;
+  last = λ c b. 0;
+  own-parts = λ m c b. rw (roomNumber-none m);
+  most = λ c b e. omega arith;
+  size = λ c b e. refl;
+  given-size = λ x. omega arith;
+  table-placed = λ e c h place. absurd (let z : _≡_ {A = ℕ} 0 1 = cc in omega arith);
+  table-before = λ other readable c h place none. absurd (omega arith);
+  row-risen = λ e c h place. absurd (let z : _≡_ {A = ℕ} 0 1 = cc in omega arith);
+  readable-in = λ P p0 p15. p15;
+  writable-in = λ P p0 p15. p15;
+  fixed-in = λ P p0 p14 b. p0;
+  place-in = λ P p0 p16 c h. p0;
+  own-in = λ P l m room c b. l .p0;
+  given-in = λ P l h c x. l .p0;
+  readable-back = λ e. e;
+  back = λ h c x small bytes writable given. absurd (omega arith);
+}
+
+pub lawful : (code : ℕ) → Lawful (kindOf code)
+lawful zero = unknown-lawful
+lawful (suc zero) = table-lawful
+lawful (suc (suc zero)) = packed-lawful
+lawful (suc (suc (suc zero))) = plain-lawful
+lawful (suc (suc (suc (suc zero)))) = line-lawful
+lawful (suc (suc (suc (suc (suc k))))) = unknown-lawful
+
+-- ---- codes
+pub kindOf-unknown : (code : ℕ) → 4 < code → kindOf code ≡ unknown
+kindOf-unknown zero h = absurd (omega arith)
+kindOf-unknown (suc zero) h = absurd (omega arith)
+kindOf-unknown (suc (suc zero)) h = absurd (omega arith)
+kindOf-unknown (suc (suc (suc zero))) h = absurd (omega arith)
+kindOf-unknown (suc (suc (suc (suc zero)))) h = absurd (omega arith)
+kindOf-unknown (suc (suc (suc (suc (suc k))))) h = refl
+
+pub kindOf-known : (code : ℕ) → kindOf code .readable ≡ 0 → code ≤ 4
+kindOf-known zero e = omega arith
+kindOf-known (suc zero) e = omega arith
+kindOf-known (suc (suc zero)) e = omega arith
+kindOf-known (suc (suc (suc zero))) e = omega arith
+kindOf-known (suc (suc (suc (suc zero)))) e = omega arith
+kindOf-known (suc (suc (suc (suc (suc k))))) e = absurd (omega arith)
+
+-- a table is kind 1
+pub kindOf-table : (code : ℕ) → kindOf code .holds ≡ aTable → code ≡ 1
+kindOf-table zero e = absurd (let z : _≡_ {A = ℕ} 0 1 = cc in omega arith)
+kindOf-table (suc zero) e = refl
+kindOf-table (suc (suc zero)) e = absurd (let z : _≡_ {A = ℕ} 0 1 = cc in omega arith)
+kindOf-table (suc (suc (suc zero))) e = absurd (let z : _≡_ {A = ℕ} 0 1 = cc in omega arith)
+kindOf-table (suc (suc (suc (suc zero)))) e = absurd (let z : _≡_ {A = ℕ} 0 1 = cc in omega arith)
+kindOf-table (suc (suc (suc (suc (suc k))))) e = absurd (let z : _≡_ {A = ℕ} 0 1 = cc in omega arith)

@@ -1,6 +1,7 @@
 -- Document 01, "A sheet": a kind of record, as its rules. b is a record's body, x the content that the record writer is given.
 -- The kinds stand one by one in Kind/. Assumes nothing.
 use Prim.Native.Nat.{ℕ, _+_}
+use mathlib.Core.Bool.{Bool, true, false}
 use mathlib.Core.List.{List, [], _∷_, _++_}
 use Rattle.answer.specs.Outcome.{Lent}
 use Rattle.sheet_format.specs.Context.{Heading, noHeading, Context}
@@ -17,6 +18,18 @@ pub data Holds : Type 0 where
   aRow : Holds
   aLine : Holds
   nothing : Holds
+
+abbrev pub isTable : Holds → Bool
+isTable aTable = true
+isTable aRow = false
+isTable aLine = false
+isTable nothing = false
+
+abbrev pub isRow : Holds → Bool
+isRow aTable = false
+isRow aRow = true
+isRow aLine = false
+isRow nothing = false
 
 pub record Kind : Type 0 where
   pub holds : Holds

@@ -1,4 +1,8 @@
-// What the papers say of sheets. The definitions are in specs/; here are the types and limits that the code shares.
+// What the papers say of sheets. The definitions are in specs/; here are the types, limits and rules that the code shares.
+pub mod kind;
+pub mod place;
+pub mod word;
+
 ghost use mathlib.Core.Path.{_≡_};
 ghost use Rattle.sheet_format.specs.Reading.{refusedRecord};
 

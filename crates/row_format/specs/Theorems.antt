@@ -16,13 +16,13 @@ use Rattle.bitstream.specs.Bits.Laws.{Below}
 use Rattle.answer.specs.Outcome.{answerOf, refusal, wrote, lent, Kept, Within}
 use Rattle.answer.specs.Outcome.Laws.{refuseIf-in}
 use Rattle.row_format.specs.Lists.{any}
-use Rattle.row_format.specs.Table.{lowLimit, tableSize, codewordAt, escapeLength, signed, entryDifference, hasDifference, verdict, tableNumber, maxItemBits}
-use Rattle.row_format.specs.Table.Laws.{Accepted, accepted, verdict-accepted, signed-least, signed-most, signed-differenceTo, length-codewordAt, escapeLength-least, codewordAt-least, codewordAt-most, codewordAt-only, entryDifference-most, maxItemBits-least, maxItemBits-most}
+use Rattle.row_format.specs.Table.{lowLimit, tableSize, codewordAt, escapeLength, signed, entryDifference, hasDifference, verdict, tableNumber, maxItemBits, Accepted}
+use Rattle.row_format.specs.Table.Laws.{accepted, verdict-accepted, signed-least, signed-most, signed-differenceTo, length-codewordAt, escapeLength-least, codewordAt-least, codewordAt-most, codewordAt-only, entryDifference-most, maxItemBits-least, maxItemBits-most}
 use Rattle.row_format.specs.Row.{Item, difference, escape, State, fresh, previous, differenceTo, byDifference, itemFor, pixelOf, itemBits, itemsFor, pixelsOf, bits, rowBits, rowBytes}
 use Rattle.row_format.specs.Row.Laws.{itemFor-escape, length-pixelsOf}
 use Rattle.row_format.specs.Reading.{inside, bitsOfReading, readItem, done, bitsOfRun, readItems, stray, firstNumber, anyDeparts}
-use Rattle.row_format.specs.Calls.{packed, unpacked, bitsUsed, room}
-use Rattle.row_format.specs.Calls.Laws.{Packable, packable, packed-number, packed-done, packed-front, unpacked-number}
+use Rattle.row_format.specs.Calls.{packed, unpacked, bitsUsed, room, Packable}
+use Rattle.row_format.specs.Calls.Laws.{packable, packed-number, packed-done, packed-front, unpacked-number}
 use Bounds.{readItem-uses, bitsUsed-most, bitsUsed-none, bitsUsed-run, length-rowBits}
 use RoundTrip.{pixelsOf-itemsFor, unpacked-rowBytes, unpacked-packed}
 use Locality.{unpacked-alike}

@@ -2,7 +2,6 @@
 use Prim.Native.Nat.{ℕ, suc, _*_, _/_, _≤_}
 use native.Mathlib.Omega.{arith}
 use mathlib.Core.Path.{_≡_, refl, sym, ap, _∙_}
-use mathlib.Core.Bool.{false}
 use mathlib.Core.List.{List, []}
 use lib.ListN.{length, take, drop}
 use lib.Seq.{take-at}
@@ -20,7 +19,7 @@ use Rattle.row_format.specs.Row.{bits, itemsFor, rowBits, rowBytes, tooM
 use Rattle.row_format.specs.Row.Laws.{tooMany-zero}
 use Rattle.row_format.specs.Reading.{Run, done, stop, runNumber, rowReading}
 use Rattle.row_format.specs.Reading.Laws.{rowReading-nothing}
-use Rattle.row_format.specs.Calls.{checked, packNumber, packedRow, packed, rowOutcome, unpacked}
+use Rattle.row_format.specs.Calls.{checked, packNumber, packedRow, packed, rowOutcome, unpacked, Packable}
 
 -- ---- checking
 pub checked-number : (tb : List ℕ) → checked tb .number ≡ tableNumber tb
@@ -60,12 +59,6 @@ pub unpacked-nothing : (tb wb m : List ℕ) → unpacked tb wb 0 m .answer .numb
 unpacked-nothing tb wb m = unpacked-number tb wb 0 m ∙ rowReading-nothing (lent (length m)) tb wb
 
 -- ---- packing
--- what the refusals before the one for room ask of a table and a row
-pub record Packable (tb ps : List ℕ) : Type 0 where
-  pub table : tableNumber tb ≡ 0
-  pub few : length ps ≤ 4096
-  pub pixels : any (ltb 4095) ps ≡ false
-
 pub packNumber-packable : (tb ps : List ℕ) (roomWords : ℕ) → Packable tb ps
     → packNumber tb ps roomWords ≡ refuseIf (ltb roomWords (wordsFor (length (rowBits (wordsOf tb) ps)))) 5
 unfolding packNumber

@@ -7,24 +7,19 @@ use mathlib.Core.List.{List}
 use lib.ListN.{length}
 use Rattle.bitstream.specs.Bits.{wordsOf, stream}
 use Rattle.bitstream.specs.Bits.Laws.{below-flat}
-use Rattle.answer.specs.Outcome.{wrote, unless, Lent, lent, roomNumber}
+use Rattle.answer.specs.Outcome.{unless, Lent, lent, roomNumber}
 use Rattle.row_format.specs.Lists.Laws.{by-test}
 use Rattle.row_format.specs.Table.Laws.{accepted, tableNumber-verdict}
-use Rattle.row_format.specs.Row.{Item, fresh, pixelsOf, pixelBytes, bits}
-use Rattle.row_format.specs.Reading.{Run, done, stop, runNumber, readItem, readItems, stray, withoutStray, firstNumber, rowReading}
-use Rattle.row_format.specs.Reading.Laws.{Readable, readable, firstNumber-readable, readBy-count}
-use Rattle.row_format.specs.Calls.{unpacked, bitsUsed}
+use Rattle.row_format.specs.Row.{Item, fresh, bits}
+use Rattle.row_format.specs.Reading.{Run, done, stop, runNumber, readItem, readItems, stray, withoutStray, firstNumber, rowReading, Reads}
+use Rattle.row_format.specs.Reading.Laws.{readable, firstNumber-readable, readBy-count}
+use Rattle.row_format.specs.Calls.{unpacked, bitsUsed, Accepts}
 use Rattle.row_format.specs.Calls.Laws.{unpacked-number}
 use Rattle.row_format.specs.Theorems.Bounds.{bitsUsed-run}
 use Rattle.row_format.specs.Theorems.Standing.{readItems-stands}
 use Rattle.row_format.specs.Theorems.Numbers.{StopIn, rowReading-stops}
 
--- ---- a reading that is done: what was asked before its first item, its items and bits, and no stray bit
-pub record Reads (m : Lent) (tb : List ℕ) (n : ℕ) (wb : List ℕ) (is : List Item) (u : ℕ) : Type 0 where
-  pub given : Readable m tb n
-  pub read : readItems (wordsOf tb) n (stream wb) ≡ done is u
-  pub clean : stray u (stream wb) ≡ false
-
+-- ---- a reading that is done
 module _ (m : Lent) (tb : List ℕ) (n : ℕ) (wb : List ℕ) (is : List Item) (u : ℕ) where
   without-stray : (x : Run) → withoutStray (stream wb) x ≡ done is u
       → (x ≡ done is u) × (stray u (stream wb) ≡ false)
@@ -66,13 +61,7 @@ rowReading-gives m tb n wb = by-run (rowReading m tb n wb) refl
         record { count = readBy-count (readItem (wordsOf tb)) fresh n (stream wb) is u (got .read); room = got .given .room }
     by-run (stop k at u) e = tt
 
--- ---- an unpacking that is done: the items and bits of its reading, and what it left
-pub record Accepts (tb wb : List ℕ) (n : ℕ) (m : List ℕ) : Type 0 where
-  pub items : List Item
-  pub used : ℕ
-  pub reads : Reads (lent (length m)) tb n wb items used
-  pub left : unpacked tb wb n m ≡ wrote used (pixelBytes (pixelsOf fresh items)) m
-
+-- ---- an unpacking that is done
 module _ (tb wb : List ℕ) (n : ℕ) (m : List ℕ) where
   -- a refusal's number is never 0
   by-run : (x : Run) → rowReading (lent (length m)) tb n wb ≡ x → StopIn (λ e. 0 < e) x → runNumber x ≡ 0 → Accepts tb wb n m

@@ -4,7 +4,7 @@ use native.Mathlib.Nat.{sub-add-cancel, mod-eq-of-lt}
 use native.Mathlib.Omega.{arith}
 use mathlib.Core.Path.{_≡_, refl, sym, ap, _∙_}
 use mathlib.Core.Bool.{true}
-use mathlib.Core.List.{List, [], _∷_, _++_, append-assoc}
+use mathlib.Core.List.{List, _++_, append-assoc}
 use lib.ListN.{length, take, drop, length-append}
 use lib.Seq.{drop-at, take-at}
 use lib.Dec.{leb, ltb}
@@ -13,10 +13,9 @@ use Rattle.bitstream.specs.Bits.{digits, numOf}
 use Rattle.bitstream.specs.Bits.Laws.{length-digits, numOf-digits}
 use Rattle.row_format.specs.Lists.Laws.{and-true-left, and-true-right}
 use Rattle.row_format.specs.BitLaws.{begins-append}
-use Rattle.row_format.specs.Table.{lowLimit, tableSize, hasDifference, codewordAt}
-use Rattle.row_format.specs.Table.Laws.{Accepted}
+use Rattle.row_format.specs.Table.{lowLimit, tableSize, hasDifference, codewordAt, Accepted}
 use Rattle.row_format.specs.Row.{Item, difference, badPixel, badBias, escape, State, fresh, past, previous, differenceTo, byDifference, itemFor, pixelOf, after, itemBits}
-use Rattle.row_format.specs.Reading.{item, rawHeight, inside, matched, readItem}
+use Rattle.row_format.specs.Reading.{item, rawHeight, inside, matched, readItem, Fits}
 use Rattle.row_format.specs.Theorems.Search.{find-only}
 use Rattle.row_format.specs.Row.Laws.{itemFor-cases}
 
@@ -46,17 +45,6 @@ reached s k e =
       least = leb-true 4093 to (and-true-left (leb 4093 to) (leb to 8186) e);
       most = leb-true to 8186 (and-true-right (leb 4093 to) (leb to 8186) e);
     }
-
--- an item that may stand where s says what is previous
-abbrev pub Fits : List ℕ → State → Item → Type 0
-Fits t s (difference k) = (hasDifference t k ≡ true) × (inside s k ≡ true)
-Fits t s badPixel = Unit {0}
-Fits t s badBias = Unit {0}
-Fits t s (escape h) = h < 4094
-
-abbrev pub FitAll : List ℕ → State → List Item → Type 0
-FitAll t s [] = Unit {0}
-FitAll t s (i ∷ is) = Fits t s i × FitAll t (after s i) is
 
 -- after an item that fits, what is previous is a height again
 pub after-height : (t : List ℕ) (s : State) (i : Item) → previous s ≤ 4093 → Fits t s i → previous (after s i) ≤ 4093

@@ -15,13 +15,13 @@ use Rattle.bitstream.specs.Bits.Laws.{Below, below-nil, below-cons, below-head,
 use Rattle.row_format.specs.Lists.{any}
 use Rattle.row_format.specs.Lists.Laws.{any-false-head, any-false-tail, or-false-left, or-false-right}
 use Rattle.row_format.specs.BitLaws.{bitsOf-inj, bitsOf-bytesOf, stream-take, length-stream}
-use Rattle.row_format.specs.Table.Laws.{Accepted, accepted-table}
-use Rattle.row_format.specs.Row.{Item, difference, badPixel, badBias, escape, State, fresh, previous, differenceTo, byDifference, itemFor, pixelOf, after, itemsFor, pixelsOf, pixelBytes, bits, rowBits, rowBytes}
-use Rattle.row_format.specs.Reading.{done, readItems, stray, departs, anyDeparts}
-use Rattle.row_format.specs.Calls.{packNumber, packed, unpacked}
+use Rattle.row_format.specs.Table.{Accepted}
+use Rattle.row_format.specs.Table.Laws.{accepted-table}
+use Rattle.row_format.specs.Row.{Item, difference, badPixel, badBias, escape, State, fresh, previous, differenceTo, byDifference, itemFor, pixelOf, after, itemsFor, pixelsOf, bits, rowBits, rowBytes}
+use Rattle.row_format.specs.Reading.{done, readItems, stray, departs, anyDeparts, Fits, FitAll}
+use Rattle.row_format.specs.Calls.{packNumber, packed, unpacked, Accepts}
 use Rattle.row_format.specs.Calls.Laws.{packed-front}
-use Rattle.row_format.specs.Theorems.Done.{Accepts}
-use Rattle.row_format.specs.Theorems.Items.{Fits, FitAll, reached, after-height, itemFor-right}
+use Rattle.row_format.specs.Theorems.Items.{reached, after-height, itemFor-right}
 use Rattle.row_format.specs.Theorems.Differences.{pixelOf-differenceTo}
 use Rattle.row_format.specs.Theorems.RoundTrip.{readBy-own, readItems-rowBits}
 use Rattle.row_format.specs.Row.Laws.{itemFor-cases, itemFor-escape, length-pixelsOf}

@@ -12,8 +12,8 @@ use Rattle.answer.specs.Outcome.{answerOf}
 use Rattle.answer.specs.Outcome.Laws.{refuseIf-given}
 use Rattle.row_format.specs.Table.{tableNumber, maxItemBits}
 use Rattle.row_format.specs.Row.{rowBits}
-use Rattle.row_format.specs.Calls.{packNumber, room}
-use Rattle.row_format.specs.Calls.Laws.{Packable, packNumber-packable}
+use Rattle.row_format.specs.Calls.{packNumber, room, Packable}
+use Rattle.row_format.specs.Calls.Laws.{packNumber-packable}
 use Rattle.row_format.specs.Theorems.Bounds.{length-rowBits}
 
 -- 5 exactly when the bits, rounded up to whole words, exceed the words lent

@@ -14,14 +14,15 @@ use Rattle.answer.specs.Outcome.{wrote, Lent, lent}
 use Rattle.row_format.specs.Lists.{any}
 use Rattle.row_format.specs.Lists.Laws.{any-false-head, any-false-tail}
 use Rattle.row_format.specs.BitLaws.{stream-bytesOf}
-use Rattle.row_format.specs.Table.Laws.{Accepted, accepted, tableNumber-verdict}
+use Rattle.row_format.specs.Table.{Accepted}
+use Rattle.row_format.specs.Table.Laws.{accepted, tableNumber-verdict}
 use Rattle.row_format.specs.Row.{Item, State, fresh, previous, itemFor, after, itemBits, itemsFor, pixelsOf, bits, rowBits, rowBytes}
-use Rattle.row_format.specs.Reading.{readItem, done, readBy, readItems, rowReading}
-use Rattle.row_format.specs.Reading.Laws.{Readable, firstNumber-readable, lent-room}
-use Rattle.row_format.specs.Calls.{packNumber, packed, unpacked}
-use Rattle.row_format.specs.Calls.Laws.{Packable, packable, packed-done}
+use Rattle.row_format.specs.Reading.{readItem, done, readBy, readItems, rowReading, FitAll, Readable}
+use Rattle.row_format.specs.Reading.Laws.{firstNumber-readable, lent-room}
+use Rattle.row_format.specs.Calls.{packNumber, packed, unpacked, Packable}
+use Rattle.row_format.specs.Calls.Laws.{packable, packed-done}
 use Rattle.row_format.specs.Row.Laws.{length-itemsFor}
-use Rattle.row_format.specs.Theorems.Items.{FitAll, after-height, readItem-own, itemFor-right}
+use Rattle.row_format.specs.Theorems.Items.{after-height, readItem-own, itemFor-right}
 use Rattle.row_format.specs.Theorems.Words.{below-rowBits, stray-zeros, bytesOf-halvesOf}
 
 -- ---- bits

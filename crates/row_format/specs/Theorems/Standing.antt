@@ -9,13 +9,12 @@ use lib.Seq.{drop-drop, length-take-le}
 use Rattle.bitstream.specs.Bits.{digits, numOf, begins}
 use Rattle.bitstream.specs.Bits.Laws.{Below, below-take, below-drop, length-digits, digits-numOf}
 use Rattle.row_format.specs.BitLaws.{begins-drop}
-use Rattle.row_format.specs.Table.{entryDifference, codewords, codewordAt}
-use Rattle.row_format.specs.Table.Laws.{Accepted, getD-codewords, length-codewords-size}
+use Rattle.row_format.specs.Table.{entryDifference, codewords, codewordAt, Accepted}
+use Rattle.row_format.specs.Table.Laws.{getD-codewords, length-codewords-size}
 use Rattle.row_format.specs.Row.{Item, difference, State, fresh, after, itemBits, bits}
 use Rattle.row_format.specs.Reading.Laws.{unmatched-cases, rawHeight-cases, matched-cases}
-use Rattle.row_format.specs.Reading.{Match, none, found, find, Reading, item, fault, rawHeight, unmatched, matched, taken, readItem, Run, done, stop, prepend, follow, readBy, readItems}
+use Rattle.row_format.specs.Reading.{Match, none, found, find, Reading, item, fault, rawHeight, unmatched, matched, taken, readItem, Run, done, stop, prepend, follow, readBy, readItems, Fits, FitAll}
 use Rattle.row_format.specs.Theorems.Search.{Found, find-found}
-use Rattle.row_format.specs.Theorems.Items.{Fits, FitAll}
 use Rattle.row_format.specs.Theorems.Differences.{hasDifference-entry, itemBits-entry}
 
 -- ---- one item

@@ -9,8 +9,8 @@ use mathlib.Core.List.{List, [], _∷_, _++_}
 use lib.ListN.{length, replicate, length-append, length-replicate}
 use lib.Dec.{ltb}
 use Rattle.row_format.specs.Lists.{any}
-use Rattle.row_format.specs.Table.{tableSize, hasDifference, codewords, codewordAt, longest, escapeLength, maxItemBits}
-use Rattle.row_format.specs.Table.Laws.{Accepted, getD-codewords, length-codewords-size, longest-most}
+use Rattle.row_format.specs.Table.{tableSize, hasDifference, codewords, codewordAt, longest, escapeLength, maxItemBits, Accepted}
+use Rattle.row_format.specs.Table.Laws.{getD-codewords, length-codewords-size, longest-most}
 use Rattle.row_format.specs.Row.{escape, past, byDifference, itemFor, itemBits, itemsFor, bits, rowBits}
 use Rattle.row_format.specs.Theorems.Bounds.{length-itemBits-escape}
 

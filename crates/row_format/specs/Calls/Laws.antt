@@ -19,9 +19,9 @@ use Rattle.row_format.specs.Row.{bits, itemsFor, rowBits, rowBytes, tooM
 use Rattle.row_format.specs.Row.Laws.{tooMany-zero}
 use Rattle.row_format.specs.Reading.{Run, done, stop, runNumber, rowReading}
 use Rattle.row_format.specs.Reading.Laws.{rowReading-nothing}
-use Rattle.row_format.specs.Calls.{checked, packNumber, packedRow, packed, rowOutcome, unpacked, Packable}
+use Rattle.row_format.specs.Calls.{checked, packNumber, packedRow, packed, rowOutcome, unpacked, room, Packable}
 
--- ---- checking
+-- ---- checking, and the room question
 pub checked-number : (tb : List ℕ) → checked tb .number ≡ tableNumber tb
 unfolding checked
 checked-number tb =
@@ -29,6 +29,12 @@ checked-number tb =
 
 pub answer-number : (tb : List ℕ) {a : Answer} → a ≡ checked tb → a .number ≡ tableNumber tb
 answer-number tb is = ap (λ (x : Answer). x .number) is ∙ checked-number tb
+
+pub room-number : (tb : List ℕ) (n : ℕ) → room tb n .number ≡ (tableNumber tb orElse tooMany n)
+unfolding room
+room-number tb n =
+    unless-number (λ (a : Answer). a .number) refusal (answerOf 0 (wordsFor (n * maxItemBits (wordsOf tb)))) (λ k. refl)
+    (tableNumber tb orElse tooMany n) refl
 
 -- ---- the numbers of the calls
 -- the number that a packing answers is that of its refusals

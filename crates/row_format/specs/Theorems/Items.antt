@@ -3,19 +3,20 @@ use Prim.Native.Nat.{ℕ, suc, _+_, _-_, _≤_, _<_}
 use native.Mathlib.Nat.{sub-add-cancel, mod-eq-of-lt}
 use native.Mathlib.Omega.{arith}
 use mathlib.Core.Path.{_≡_, refl, sym, ap, _∙_}
-use mathlib.Core.Bool.{true}
-use mathlib.Core.List.{List, _++_, append-assoc}
+use mathlib.Core.Bool.{true, false}
+use mathlib.Core.List.{List, [], _∷_, _++_, append-assoc}
 use lib.ListN.{length, take, drop, length-append}
 use lib.Seq.{drop-at, take-at}
 use lib.Dec.{leb, ltb}
 use borrow.Author.Tests.{leb-true, le-leb, ltb-true, lt-ltb, le-ltb}
 use Rattle.bitstream.specs.Bits.{digits, numOf}
 use Rattle.bitstream.specs.Bits.Laws.{length-digits, numOf-digits}
+use Rattle.row_format.specs.Lists.{any}
 use Rattle.row_format.specs.Lists.Laws.{and-true-left, and-true-right}
 use Rattle.row_format.specs.BitLaws.{begins-append}
 use Rattle.row_format.specs.Table.{lowLimit, tableSize, hasDifference, codewordAt, Accepted}
-use Rattle.row_format.specs.Row.{Item, difference, badPixel, badBias, escape, State, fresh, past, previous, differenceTo, byDifference, itemFor, pixelOf, after, itemBits}
-use Rattle.row_format.specs.Reading.{item, rawHeight, inside, matched, readItem, Fits}
+use Rattle.row_format.specs.Row.{Item, difference, badPixel, badBias, escape, State, fresh, past, previous, differenceTo, byDifference, itemFor, pixelOf, after, itemBits, pixelsOf}
+use Rattle.row_format.specs.Reading.{item, rawHeight, inside, matched, readItem, Fits, FitAll}
 use Rattle.row_format.specs.Theorems.Search.{find-only}
 use Rattle.row_format.specs.Row.Laws.{itemFor-cases}
 
@@ -104,3 +105,16 @@ itemFor-right t s p height most = itemFor-cases (Right t s p) t s p
     (λ e. record { fits = tt; pixel = sym e })
     (λ d e has. record { fits = (has, inside-differenceTo s p height (omega arith)); pixel = omega arith })
     (λ d e lacks. record { fits = omega arith; pixel = refl })
+
+-- ---- the pixels of items that fit are pixels
+pixelOf-most : (t : List ℕ) (s : State) (i : Item) → Fits t s i → pixelOf s i ≤ 4095
+pixelOf-most t s (difference k) fits = omega (arith, reached s k (fits .1))
+pixelOf-most t s badPixel fits = omega arith
+pixelOf-most t s badBias fits = omega arith
+pixelOf-most t s (escape h) fits = omega arith
+
+pub any-pixelsOf : (t : List ℕ) (s : State) (is : List Item) → FitAll t s is → any (ltb 4095) (pixelsOf s is) ≡ false
+unfolding pixelsOf any
+any-pixelsOf t s [] fits = refl
+any-pixelsOf t s (i ∷ is) fits =
+    rw (le-ltb 4095 (pixelOf s i) (pixelOf-most t s i (fits .0))) (any-pixelsOf t (after s i) is (fits .1))

@@ -17,9 +17,9 @@ use Rattle.answer.specs.Outcome.{answerOf, refusal, wrote, lent, Kept, Within}
 use Rattle.row_format.specs.Lists.{any}
 use Rattle.row_format.specs.Table.{lowLimit, tableSize, codewordAt, escapeLength, signed, entryDifference, hasDifference, clash, verdict, tableNumber, Apart, Accepted, maxItemBits}
 use Rattle.row_format.specs.Table.Laws.{clash-false-apart, apart-clash-false, accepted, verdict-accepted, signed-differenceTo, length-codewordAt, escapeLength-least, codewordAt-least, codewordAt-most, codewordAt-only, maxItemBits-least, maxItemBits-most}
-use Rattle.row_format.specs.Row.{Item, difference, escape, State, fresh, previous, differenceTo, byDifference, itemFor, pixelOf, afterAll, itemBits, itemsFor, pixelsOf, bits, rowBits, rowBytes}
+use Rattle.row_format.specs.Row.{Item, difference, escape, State, fresh, previous, differenceTo, byDifference, itemFor, pixelOf, afterAll, itemBits, itemsFor, pixelsOf, bits, rowBits, rowBytes, pixelBytes}
 use Rattle.row_format.specs.Row.Laws.{itemFor-escape}
-use Rattle.row_format.specs.Reading.{inside, Fits, FitAll, bitsOfReading, readItem, done, stop, bitsOfRun, prependAll, readBy, readItems, stray, firstNumber, departs, anyDeparts}
+use Rattle.row_format.specs.Reading.{inside, Fits, FitAll, bitsOfReading, readItem, done, stop, bitsOfRun, prependAll, readBy, readItems, stray, firstNumber, Reads, departs, anyDeparts}
 use Rattle.row_format.specs.Calls.{checked, Packable, packed, unpacked, Accepts, bitsUsed, room}
 use Rattle.row_format.specs.Calls.Laws.{packed-number, packed-done}
 use Bounds.{readItem-uses, bitsUsed-most, bitsUsed-none, bitsUsed-run, length-rowBits}
@@ -34,7 +34,7 @@ use Departures.{departs-needless, anyDeparts-needless}
 use OwnWords.{own-words, own-words-packed}
 use Memory.{packed-kept, packed-within, unpacked-kept, unpacked-within}
 use Numbers.{checked-in, room-in, packed-in, unpacked-in}
-use Done.{unpacked-accepts, unpacked-stands, bitsUsed-count, pixels-left}
+use Done.{unpacked-accepts, unpacked-reads, unpacked-stands, bitsUsed-count, pixels-left}
 pub mod Search
 pub mod Bounds
 pub mod Items
@@ -204,12 +204,18 @@ pub used-words-own : (t : List ℕ) → verdict t ≡ 0 → (wb : List ℕ) → 
     → (take (4 * wordsFor u) wb ≡ rowBytes t (pixelsOf fresh is)) ↔ (anyDeparts t fresh is ≡ false)
 used-words-own t ok = own-words t (accepted t ok)
 
--- a done unpacking has read items
+-- unpacking is done where what is asked before the first item is given, n items are read and no unused bit is set; and only
+-- there
+pub unpacked-granted : (tb wb : List ℕ) (n : ℕ) (m : List ℕ) (is : List Item) (u : ℕ) → Reads (lent (length m)) tb n wb is u
+    → unpacked tb wb n m ≡ wrote u (pixelBytes (pixelsOf fresh is)) m
+unpacked-granted = unpacked-reads
+
 pub unpacked-done : (tb wb : List ℕ) (n : ℕ) (m : List ℕ) → unpacked tb wb n m .answer .number ≡ 0 → Accepts tb wb n m
 unpacked-done = unpacked-accepts
 
 module _ (tb wb : List ℕ) (n : ℕ) (m : List ℕ) (got : Accepts tb wb n m) where
-  -- n of them, that may stand where they stand; its words begin with their bits; and it leaves the pixels that they stand for
+  -- the items are n, and may stand where they stand; its words begin with their bits; and it leaves the pixels that they
+  -- stand for
   pub unpacked-items : (length (got .items) ≡ n) × FitAll (wordsOf tb) fresh (got .items)
   unpacked-items = let there = unpacked-stands tb wb n m got in (there .count, there .fits)
 

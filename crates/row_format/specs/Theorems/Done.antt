@@ -10,11 +10,11 @@ use lib.Dec.{ltb}
 use borrow.Author.Tests.{ltb-false}
 use Rattle.bitstream.specs.Bits.{flat, bytesOf, wordsOf, halvesOf, stream}
 use Rattle.bitstream.specs.Bits.Laws.{Below, below-nil, below-cons, below-flat, length-cut}
-use Rattle.answer.specs.Outcome.{unless, Lent, lent, roomNumber}
+use Rattle.answer.specs.Outcome.{wrote, unless, Lent, lent, roomNumber}
 use Rattle.row_format.specs.Lists.{any}
 use Rattle.row_format.specs.Lists.Laws.{by-test, any-false-head, any-false-tail}
 use Rattle.row_format.specs.Table.Laws.{accepted-table}
-use Rattle.row_format.specs.Row.{Item, fresh, pixelsOf}
+use Rattle.row_format.specs.Row.{Item, fresh, pixelsOf, pixelBytes}
 use Rattle.row_format.specs.Row.Laws.{length-pixelsOf}
 use Rattle.row_format.specs.Reading.{Run, done, stop, runNumber, readItem, readItems, stray, withoutStray, firstNumber, rowReading, Reads}
 use Rattle.row_format.specs.Reading.Laws.{readable, firstNumber-readable, readBy-count}
@@ -81,6 +81,13 @@ module _ (tb wb : List ℕ) (n : ℕ) (m : List ℕ) where
   unpacked-accepts h =
       by-run (rowReading (lent (length m)) tb n wb) refl (rowReading-stops (lent (length m)) tb n wb)
       (sym (unpacked-number tb wb n m) ∙ h)
+
+-- and where a row is read, unpacking is done
+pub unpacked-reads : (tb wb : List ℕ) (n : ℕ) (m : List ℕ) (is : List Item) (u : ℕ) → Reads (lent (length m)) tb n wb is u
+    → unpacked tb wb n m ≡ wrote u (pixelBytes (pixelsOf fresh is)) m
+unfolding unpacked rowReading
+unpacked-reads tb wb n m is u got =
+    rw (firstNumber-readable (lent (length m)) tb n (got .given), got .read, got .clean)
 
 -- its items stand in the words, and fit; its count is the bits of them, and the bits that it used; and its pixels are those
 -- that they stand for

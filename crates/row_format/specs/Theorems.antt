@@ -156,7 +156,7 @@ pub fitting-read : (t : List ℕ) → verdict t ≡ 0 → (s : State) (is : List
     → readBy (readItem t) s (length is) (bits t is ++ r) ≡ done is (length (bits t is))
 fitting-read t ok = readBy-own t (accepted t ok)
 
--- and what is read is nothing else, of a reading of n items from the bits r that has given the items is and used u bits
+-- and nothing else is read. Of a reading of n items from the bits r that gave the items is and used u bits:
 module _ (t : List ℕ) (ok : verdict t ≡ 0) (n : ℕ) (r : List ℕ) (bin : Below 2 r) (is : List Item) (u : ℕ)
     (read : readItems t n r ≡ done is u) where
   stands : RunStands t fresh n r is u
@@ -182,21 +182,23 @@ module _ (t : List ℕ) (ok : verdict t ≡ 0) (n : ℕ) (r : List ℕ) (bin : B
   pub read-onward : (k : ℕ) → readItems t (n + k) r ≡ prependAll is u (readBy (readItem t) (afterAll fresh is) k (drop u r))
   read-onward k = readItems-add t n k r is u read
 
-  -- "accepts a raw item although the table has the step": none departs from what packing would write exactly when no raw item
-  -- is needless in this sense where it stands, after the items js and before the items ks
-  pub read-departs : (anyDeparts t fresh is ≡ false)
-      ↔ ((js ks : List Item) (h : ℕ) → is ≡ js ++ (escape h ∷ ks) → byDifference t (afterAll fresh js) h ≡ false)
-  read-departs = anyDeparts-needless t fresh is (stands .fits)
-
 -- "at the earliest faulty item": one that stops a reading stops every reading of more items
 pub read-stopped : (t : List ℕ) (n k : ℕ) (r : List ℕ) (e at u : ℕ) → readItems t n r ≡ stop e at u
     → readItems t (n + k) r ≡ stop e at u
 read-stopped = readItems-stop
 
--- one item that may stand where s says what is previous departs exactly where it is raw and the table has the step
+-- "accepts a raw item although the table has the step": an item that may stand where it stands, as all do that are read,
+-- departs from what packing would write exactly where it is raw and the table has the step
 pub item-departs : (t : List ℕ) (s : State) (i : Item) → Fits t s i
     → (departs t s i ≡ true) ↔ ((h : ℕ) × (i ≡ escape h) × (byDifference t s h ≡ true))
 item-departs = departs-needless
+
+-- and of such items none departs exactly when no raw item is needless in this sense where it stands, after the items js and
+-- before the items ks
+pub items-depart : (t : List ℕ) (s : State) (is : List Item) → FitAll t s is
+    → (anyDeparts t s is ≡ false)
+    ↔ ((js ks : List Item) (h : ℕ) → is ≡ js ++ (escape h ∷ ks) → byDifference t (afterAll s js) h ≡ false)
+items-depart = anyDeparts-needless
 
 -- "The used words of an accepted reading are the very words packing would write exactly when no raw item was needless"
 pub used-words-own : (t : List ℕ) → verdict t ≡ 0 → (wb : List ℕ) → Below 256 wb → (n : ℕ) (is : List Item) (u : ℕ)
@@ -274,7 +276,8 @@ pub reading-bits : (tb wb : List ℕ) (n : ℕ) (m : List ℕ) → bitsUsed tb w
 reading-bits = bitsUsed-most
 
 -- "Refused before its first item it uses none, and 10 adds none": else it uses the bits of its run, whether 10 is given or not
-pub reading-bits-none : (tb wb : List ℕ) (n : ℕ) (m : List ℕ) → (firstNumber (lent (length m)) tb n ≡ 0 → ⊥) → bitsUsed tb wb n m ≡ 0
+pub reading-bits-none : (tb wb : List ℕ) (n : ℕ) (m : List ℕ) → (firstNumber (lent (length m)) tb n ≡ 0 → ⊥)
+    → bitsUsed tb wb n m ≡ 0
 reading-bits-none = bitsUsed-none
 
 pub reading-bits-run : (tb wb : List ℕ) (n : ℕ) (m : List ℕ) → firstNumber (lent (length m)) tb n ≡ 0

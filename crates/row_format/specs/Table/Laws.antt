@@ -93,7 +93,10 @@ apart-clash-false [] h = refl
 apart-clash-false (s ∷ ss) h =
     let meets : List ℕ → Bool = λ u. begins s u || begins u s in
     let none : (k : ℕ) → k < length ss → meets (getD ss k []) ≡ false = λ k b.
-    rw (h 0 (suc k) (omega arith) (omega arith) (λ e. omega arith), h (suc k) 0 (omega arith) (omega arith) (λ e. omega arith)) in
+    rw (
+      h 0 (suc k) (omega arith) (omega arith) (λ e. omega arith),
+      h (suc k) 0 (omega arith) (omega arith) (λ e. omega arith),
+    ) in
     rw (any-false meets ss [] none)
     (apart-clash-false ss (λ i j hi hj n. h (suc i) (suc j) (omega arith) (omega arith) (λ e. n (omega arith))))
 

@@ -101,7 +101,8 @@ module _ (tb wb : List ℕ) (n : ℕ) (m : List ℕ) (got : Accepts tb wb n m) w
   pub unpacked-stands : RunStands (wordsOf tb) fresh n (stream wb) (got .items) (unpacked tb wb n m .answer .count)
   unpacked-stands =
       let ok = accepted-table tb (got .reads .given .table) in
-      rw (got .left) (readItems-stands (wordsOf tb) ok n (stream wb) (got .items) (got .used) (below-flat 8 _) (got .reads .read))
+      rw (got .left)
+      (readItems-stands (wordsOf tb) ok n (stream wb) (got .items) (got .used) (below-flat 8 _) (got .reads .read))
 
   pub bitsUsed-count : bitsUsed tb wb n m ≡ unpacked tb wb n m .answer .count
   bitsUsed-count =

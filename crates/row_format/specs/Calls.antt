@@ -1,14 +1,16 @@
 -- Document 01: what the table check, packing, unpacking and the room question answer, as functions of all their inputs,
 -- the memory lent for writing included. Tables, words and pixels are bytes. Assumes nothing.
-use Prim.Native.Nat.{ℕ, _*_, _/_}
+use Prim.Native.Nat.{ℕ, _*_, _/_, _≤_}
+use mathlib.Core.Path.{_≡_}
+use mathlib.Core.Bool.{false}
 use mathlib.Core.List.{List}
 use lib.ListN.{length}
 use lib.Dec.{ltb}
 use Rattle.bitstream.specs.Bits.{wordsOf, halvesOf, wordsFor}
 use Rattle.row_format.specs.Lists.{any}
 use Rattle.row_format.specs.Table.{tableNumber, maxItemBits}
-use Rattle.row_format.specs.Row.{fresh, rowBits, rowBytes, pixelsOf, pixelBytes, tooMany}
-use Rattle.row_format.specs.Reading.{Run, done, stop, bitsOfRun, rowReading}
+use Rattle.row_format.specs.Row.{fresh, rowBits, rowBytes, pixelsOf, pixelBytes, tooMany, Item}
+use Rattle.row_format.specs.Reading.{Run, done, stop, bitsOfRun, rowReading, Reads}
 use Rattle.answer.specs.declared.Answer.{Answer}
 use Rattle.answer.specs.Outcome.{Outcome, answerOf, refusal, refused, wrote, _orElse_, refuseIf, unless, lent}
 pub mod Laws
@@ -24,6 +26,12 @@ packNumber tb ps roomWords =
     orElse refuseIf (any (ltb 4095) ps) 4
     orElse refuseIf (ltb roomWords (wordsFor (length (rowBits (wordsOf tb) ps)))) 5
 
+-- what the refusals before the one for room ask of a table and a row
+pub record Packable (tb ps : List ℕ) : Type 0 where
+  pub table : tableNumber tb ≡ 0
+  pub few : length ps ≤ 4096
+  pub pixels : any (ltb 4095) ps ≡ false
+
 abbrev pub packedRow : List ℕ → List ℕ → List ℕ → Outcome Answer
 packedRow t ps m = wrote (length (rowBits t ps)) (rowBytes t ps) m
 
@@ -38,6 +46,13 @@ rowOutcome m (stop e at u) = refused e m
 
 unfoldable pub unpacked : List ℕ → List ℕ → ℕ → List ℕ → Outcome Answer
 unpacked tb wb n m = rowOutcome m (rowReading (lent (length m)) tb n wb)
+
+-- an unpacking that is done: the items and bits of its reading, and what it left
+pub record Accepts (tb wb : List ℕ) (n : ℕ) (m : List ℕ) : Type 0 where
+  pub items : List Item
+  pub used : ℕ
+  pub reads : Reads (lent (length m)) tb n wb items used
+  pub left : unpacked tb wb n m ≡ wrote used (pixelBytes (pixelsOf fresh items)) m
 
 -- the bits that it uses, done or refused
 unfoldable pub bitsUsed : List ℕ → List ℕ → ℕ → List ℕ → ℕ

@@ -1,14 +1,15 @@
 -- Document 01, "A row": reading items from bits by the same rules, what a faulty item is refused with, the bits that a
 -- reading uses, and what reading a row comes to. Assumes nothing.
-use Prim.Native.Nat.{ℕ, zero, suc, _+_, _-_, _*_}
-use mathlib.Core.Bool.{Bool, false, cond, not, _&&_, _||_}
-use mathlib.Core.List.{List, [], _∷_}
+use Prim.Native.Nat.{ℕ, zero, suc, _+_, _-_, _*_, _≤_, _<_}
+use mathlib.Core.Path.{_≡_}
+use mathlib.Core.Bool.{Bool, true, false, cond, not, _&&_, _||_}
+use mathlib.Core.List.{List, [], _∷_, _++_}
 use lib.ListN.{length, take, drop}
 use lib.Dec.{leb, ltb, eqb}
 use Rattle.bitstream.specs.Bits.{numOf, begins, wordsOf, stream, wordsFor}
 use Rattle.answer.specs.Outcome.{_orElse_, refuseIf, unless, Lent, roomNumber}
 use Rattle.row_format.specs.Lists.{any, least}
-use Rattle.row_format.specs.Table.{codewords, codewordAt, entryDifference, tableNumber}
+use Rattle.row_format.specs.Table.{codewords, codewordAt, entryDifference, tableNumber, hasDifference}
 use Rattle.row_format.specs.Row.{Item, difference, badPixel, badBias, escape, State, fresh, previous, pixelOf, pixelsOf, after, byDifference, tooMany}
 pub mod Laws
 
@@ -47,6 +48,19 @@ rawHeight n r =
 -- the difference k leads to a height: one of 0 to 4093
 abbrev pub inside : State → ℕ → Bool
 inside s k = leb 4093 (previous s + k) && leb (previous s + k) 8186
+
+-- an item that may stand where s says what is previous: a difference that the table has and that leads to a height, a bad
+-- pixel, a bad bias, or a raw height of 0 to 4093
+abbrev pub Fits : List ℕ → State → Item → Type 0
+Fits t s (difference k) = (hasDifference t k ≡ true) × (inside s k ≡ true)
+Fits t s badPixel = Unit {0}
+Fits t s badBias = Unit {0}
+Fits t s (escape h) = h < 4094
+
+-- items each of which may stand where it stands
+abbrev pub FitAll : List ℕ → State → List Item → Type 0
+FitAll t s [] = Unit {0}
+FitAll t s (i ∷ is) = Fits t s i × FitAll t (after s i) is
 
 -- the item whose string, of n bits, stands at place j of the table. 8: "a step leads outside 0 to 4093"
 unfoldable pub matched : List ℕ → State → List ℕ → ℕ → ℕ → Reading
@@ -87,9 +101,13 @@ abbrev pub pixelsOfRun : Run → List ℕ
 pixelsOfRun (done is u) = pixelsOf fresh is
 pixelsOfRun (stop e at u) = []
 
+-- items that use u bits, and what follows them
+abbrev pub prependAll : List Item → ℕ → Run → Run
+prependAll is u (done js v) = done (is ++ js) (u + v)
+prependAll is u (stop e at v) = stop e (u + at) (u + v)
+
 abbrev pub prepend : Item → ℕ → Run → Run
-prepend i u (done is v) = done (i ∷ is) (u + v)
-prepend i u (stop e at v) = stop e (u + at) (u + v)
+prepend i u x = prependAll (i ∷ []) u x
 
 abbrev pub follow : Reading → (Item → ℕ → Run) → Run
 follow (item i u) f = prepend i u (f i u)
@@ -120,6 +138,18 @@ firstNumber m tb n = tableNumber tb orElse tooMany n orElse roomNumber m (2 * n)
 unfoldable pub rowReading : Lent → List ℕ → ℕ → List ℕ → Run
 rowReading m tb n wb =
     unless (firstNumber m tb n) (λ e. stop e 0 0) (withoutStray (stream wb) (readItems (wordsOf tb) n (stream wb)))
+
+-- what is asked before the first item
+pub record Readable (m : Lent) (tb : List ℕ) (n : ℕ) : Type 0 where
+  pub table : tableNumber tb ≡ 0
+  pub few : n ≤ 4096
+  pub room : roomNumber m (2 * n) ≡ 0
+
+-- a reading that is done: what was asked before its first item, its items and bits, and no stray bit
+pub record Reads (m : Lent) (tb : List ℕ) (n : ℕ) (wb : List ℕ) (is : List Item) (u : ℕ) : Type 0 where
+  pub given : Readable m tb n
+  pub read : readItems (wordsOf tb) n (stream wb) ≡ done is u
+  pub clean : stray u (stream wb) ≡ false
 
 -- ---- departures: an item departs from what packing would write for its pixel where packing writes that pixel by its
 -- difference and the item is raw ("needless"), or the other way round

@@ -62,6 +62,11 @@ after s badBias = s
 after fresh (escape h) = past h
 after (past p) (escape h) = past p
 
+-- the state after some items
+unfoldable pub afterAll : State → List Item → State
+afterAll s [] = s
+afterAll s (i ∷ is) = afterAll (after s i) is
+
 -- the bits of an item: its string, and after the raw string "the pixel in 12 bits, least significant first"
 abbrev pub itemBits : List ℕ → Item → List ℕ
 itemBits t (difference k) = codewordAt t (3 + (k - lowLimit t))

@@ -1,7 +1,8 @@
 -- Document 01, "A table". A table is a list of 32-bit words: table id, lowLimit, tableSize, raw, bad-pixel and bad-bias
 -- string, then the entries. What the document calls a string is a codeword here, a step is a difference, and the raw
 -- string is the escape codeword. Every definition is total; accepted tables are those of verdict 0. Assumes nothing.
-use Prim.Native.Nat.{ℕ, _+_, _/_, _%_, _^_, max}
+use Prim.Native.Nat.{ℕ, _+_, _/_, _%_, _^_, max, _≤_, _<_}
+use mathlib.Core.Path.{_≡_}
 use mathlib.Core.Bool.{Bool, false, cond, not, _&&_, _||_}
 use mathlib.Core.List.{List, [], _∷_, map}
 use lib.ListN.{length, drop, getD}
@@ -75,6 +76,26 @@ verdict t = cond (wrongSize t) 1 (cond (wrongCodeword t) 2 (cond (clash (codewor
 -- of a table's bytes: an incomplete word at the end is refused 1
 unfoldable pub tableNumber : List ℕ → ℕ
 tableNumber b = cond (eqb (length b % 4) 0) (verdict (wordsOf b)) 1
+
+-- ---- what document 01 asks of a table, in plain words; `table-accepted` says that the tables of verdict 0 are these
+-- a codeword's word: "Lengths are 1 to 27 .. No bit is set above the string"
+pub record RightWord (w : ℕ) : Type 0 where
+  pub least : 1 ≤ w % 32
+  pub most : w % 32 ≤ 27
+  pub above : w / 32 < 2 ^ (w % 32)
+
+-- "No string equals or begins another": of n strings, by their places
+abbrev pub Apart : ℕ → (ℕ → List ℕ) → Type 0
+Apart n string = (i j : ℕ) → i < n → j < n → (i ≡ j → ⊥) → begins (string i) (string j) ≡ false
+
+pub record Accepted (t : List ℕ) : Type 0 where
+  pub size-least : 1 ≤ tableSize t
+  pub size-most : tableSize t ≤ 8187
+  pub sum-most : lowLimit t + tableSize t ≤ 8187
+  pub words : length t ≡ 6 + tableSize t
+  pub escape-most : escapeLength t ≤ 15
+  pub word : (j : ℕ) → j < 3 + tableSize t → RightWord (getD t (3 + j) 0)
+  pub apart : Apart (3 + tableSize t) (codewordAt t)
 
 -- ---- M
 unfoldable pub longest : List (List ℕ) → ℕ

@@ -1,49 +1,52 @@
 -- The theorems about tables, rows and the calls, in the words of the customer's demands and of document 01; the files below
--- prove them. tb, pb and wb are the bytes of a table, of pixels and of words, t is a table's words, and m is the memory lent
--- for writing, as it was. A table is accepted where its verdict is 0. M is maxItemBits t, and an item's bits are those of
--- itemBits t. Assumes nothing.
+-- prove them. tb, pb and wb are the bytes of a table, of pixels and of words, t is a table's words, r is a run of bits, and m
+-- is the memory lent for writing, as it was. A table is accepted where its verdict is 0. M is maxItemBits t, and an item's
+-- bits are those of itemBits t. Assumes nothing.
 use Prim.Native.Nat.{ℕ, _+_, _*_, _/_, _^_, _≤_, _<_}
 use mathlib.Core.Path.{_≡_, refl, sym, _∙_}
 use mathlib.Core.Bool.{true, false}
 use mathlib.Core.List.{List, [], _∷_, _++_}
 use mathlib.Core.Logic.{_↔_}
-use lib.ListN.{length, take, getD}
+use lib.ListN.{length, take, drop, getD}
 use lib.IntN.{pos, negsuc, _-ℤ_}
 use lib.Signed.{_≤ℤ_}
 use lib.Dec.{ltb, eqb}
 use Rattle.bitstream.specs.Bits.{begins, wordsOf, halvesOf, stream, wordsFor}
 use Rattle.bitstream.specs.Bits.Laws.{Below}
 use Rattle.answer.specs.Outcome.{answerOf, refusal, wrote, lent, Kept, Within}
-use Rattle.answer.specs.Outcome.Laws.{refuseIf-in}
 use Rattle.row_format.specs.Lists.{any}
-use Rattle.row_format.specs.Table.{lowLimit, tableSize, codewordAt, escapeLength, signed, entryDifference, hasDifference, verdict, tableNumber, maxItemBits}
-use Rattle.row_format.specs.Table.Laws.{Accepted, accepted, verdict-accepted, signed-least, signed-most, signed-differenceTo, length-codewordAt, escapeLength-least, codewordAt-least, codewordAt-most, codewordAt-only, entryDifference-most, maxItemBits-least, maxItemBits-most}
-use Rattle.row_format.specs.Row.{Item, difference, escape, State, fresh, previous, differenceTo, byDifference, itemFor, pixelOf, itemBits, itemsFor, pixelsOf, bits, rowBits, rowBytes}
-use Rattle.row_format.specs.Row.Laws.{itemFor-escape, length-pixelsOf}
-use Rattle.row_format.specs.Reading.{inside, bitsOfReading, readItem, done, bitsOfRun, readItems, stray, firstNumber, anyDeparts}
-use Rattle.row_format.specs.Calls.{packed, unpacked, bitsUsed, room}
-use Rattle.row_format.specs.Calls.Laws.{Packable, packable, packed-number, packed-done, packed-front, unpacked-number}
+use Rattle.row_format.specs.Table.{lowLimit, tableSize, codewordAt, escapeLength, signed, entryDifference, hasDifference, clash, verdict, tableNumber, Apart, Accepted, maxItemBits}
+use Rattle.row_format.specs.Table.Laws.{clash-false-apart, apart-clash-false, accepted, verdict-accepted, signed-differenceTo, length-codewordAt, escapeLength-least, codewordAt-least, codewordAt-most, codewordAt-only, maxItemBits-least, maxItemBits-most}
+use Rattle.row_format.specs.Row.{Item, difference, escape, State, fresh, previous, differenceTo, byDifference, itemFor, pixelOf, afterAll, itemBits, itemsFor, pixelsOf, bits, rowBits, rowBytes, pixelBytes}
+use Rattle.row_format.specs.Row.Laws.{itemFor-escape}
+use Rattle.row_format.specs.Reading.{inside, Fits, FitAll, bitsOfReading, readItem, done, stop, bitsOfRun, prependAll, readBy, readItems, stray, firstNumber, Reads, departs, anyDeparts}
+use Rattle.row_format.specs.Calls.{checked, Packable, packed, unpacked, Accepts, bitsUsed, room}
+use Rattle.row_format.specs.Calls.Laws.{packed-number, packed-done}
 use Bounds.{readItem-uses, bitsUsed-most, bitsUsed-none, bitsUsed-run, length-rowBits}
-use RoundTrip.{pixelsOf-itemsFor, unpacked-rowBytes, unpacked-packed}
+use Differences.{entry-for, entry-signed, itemBits-entry, leads, pixelOf-differenceTo}
+use RoundTrip.{readBy-own, pixelsOf-itemsFor, unpacked-front, unpacked-packed}
+use Previous.{fit-height, itemsFor-height, itemsFor-append, readItems-add, readItems-stop}
 use Locality.{unpacked-alike}
-use Room.{packNumber-five, packNumber-done, room-done, packNumber-room}
-use Tightness.{steep, length-steep, any-steep, longest-escape, length-rowBits-steep}
-use Differences.{entry-for, itemBits-entry, leads, pixelOf-differenceTo}
-use Standing.{readItems-stands}
-use OwnWords.{own-words, own-words-packed, any-pixelsOf}
+use Room.{packed-five, packed-enough, room-done, packed-room-enough}
+use Tightness.{tight}
+use Standing.{RunStands, readItems-stands, stands-pixels}
+use Departures.{departs-needless, anyDeparts-needless}
+use OwnWords.{own-words, own-words-packed}
 use Memory.{packed-kept, packed-within, unpacked-kept, unpacked-within}
-use Numbers.{packNumber-in, rowReading-number-in}
-use Done.{unpacked-accepts, unpacked-count, bitsUsed-count}
+use Numbers.{checked-in, room-in, packed-in, unpacked-in}
+use Done.{unpacked-accepts, unpacked-reads, unpacked-stands, bitsUsed-count, pixels-left}
 pub mod Search
 pub mod Bounds
 pub mod Items
 pub mod Differences
 pub mod RoundTrip
+pub mod Previous
 pub mod Words
 pub mod Locality
 pub mod Room
 pub mod Tightness
 pub mod Standing
+pub mod Departures
 pub mod OwnWords
 pub mod Memory
 pub mod Numbers
@@ -53,6 +56,11 @@ pub mod Done
 -- a table is accepted exactly when what document 01 asks of one is true; the sentences one by one follow
 pub table-accepted : (t : List ℕ) → (verdict t ≡ 0) ↔ Accepted t
 table-accepted t = (accepted t, verdict-accepted t)
+
+-- 3 is "a string equals or begins another": the verdict's test fails exactly when of no two different places the string of one
+-- begins that of the other
+pub clash-apart : (ss : List (List ℕ)) → (clash ss ≡ false) ↔ Apart (length ss) (λ i. getD ss i [])
+clash-apart ss = (clash-false-apart ss, apart-clash-false ss)
 
 module _ (t : List ℕ) (ok : verdict t ≡ 0) where
   -- "A table is 6 + tableSize words"; "tableSize is 1 to 8187, and lowLimit + tableSize is at most 8187"
@@ -74,9 +82,7 @@ module _ (t : List ℕ) (ok : verdict t ≡ 0) where
   -- "So steps lie within -4093 to 4093"
   pub entry-differences : (i : ℕ) → i < tableSize t
       → (negsuc 4092 ≤ℤ signed (entryDifference t i)) × (signed (entryDifference t i) ≤ℤ pos 4093)
-  entry-differences i h =
-      let k = entryDifference t i in
-      (signed-least k, signed-most k (entryDifference-most t (accepted t ok) i h))
+  entry-differences = entry-signed t (accepted t ok)
 
   -- "If the table has the step": some entry stands for it; and "its string" is that entry's. (Of any table's words)
   pub has-difference : (k : ℕ) → (hasDifference t k ≡ true) ↔ ((i : ℕ) × (i < tableSize t) × (entryDifference t i ≡ k))
@@ -85,7 +91,12 @@ module _ (t : List ℕ) (ok : verdict t ≡ 0) where
   pub entry-codeword : (i : ℕ) → itemBits t (difference (entryDifference t i)) ≡ codewordAt t (3 + i)
   entry-codeword = itemBits-entry t
 
-  -- "No string equals or begins another, the three special ones included": no two can begin the same bits
+  -- "No string equals or begins another, the three special ones included"
+  pub prefix-free : (i j : ℕ) → i < 3 + tableSize t → j < 3 + tableSize t → (i ≡ j → ⊥)
+      → begins (codewordAt t i) (codewordAt t j) ≡ false
+  prefix-free = accepted t ok .apart
+
+  -- so that no two can begin the same bits
   pub codewords-apart : (i j : ℕ) (r : List ℕ) → i < 3 + tableSize t → j < 3 + tableSize t
       → begins (codewordAt t i) r ≡ true → begins (codewordAt t j) r ≡ true → i ≡ j
   codewords-apart = codewordAt-only t (accepted t ok)
@@ -107,6 +118,15 @@ difference-leads = leads
 pub difference-pixel : (s : State) (p : ℕ) → previous s ≤ 4093 → pixelOf s (difference (differenceTo s p)) ≡ p
 difference-pixel = pixelOf-differenceTo
 
+-- what is previous is at most 4093, as these three ask, wherever packing uses it: after the items of any pixels at most 4095,
+-- which is the state from which the next pixels are written
+pub row-previous : (t ps : List ℕ) → any (ltb 4095) ps ≡ false → previous (afterAll fresh (itemsFor t fresh ps)) ≤ 4093
+row-previous = itemsFor-height
+
+pub row-onward : (t ps qs : List ℕ)
+    → itemsFor t fresh (ps ++ qs) ≡ itemsFor t fresh ps ++ itemsFor t (afterAll fresh (itemsFor t fresh ps)) qs
+row-onward t ps qs = itemsFor-append t fresh ps qs
+
 -- "a step that the table lacks must come back as the height itself"
 pub lacking-difference : (t : List ℕ) (s : State) (p : ℕ) → p ≤ 4093 → byDifference t s p ≡ false → itemFor t s p ≡ escape p
 lacking-difference = itemFor-escape
@@ -122,23 +142,63 @@ module _ (tb pb m : List ℕ) (bytes : Below 256 pb) (packs : packed tb pb m .an
       → let front = take (4 * wordsFor (packed tb pb m .answer .count)) (packed tb pb m .memory) in
       unpacked tb (front ++ rest) (length (halvesOf pb)) m′
       ≡ wrote (packed tb pb m .answer .count) (take (2 * length (halvesOf pb)) pb) m′
-  round-trip rest m′ room =
-      let e = sym (packed-number tb pb m) ∙ packs in
-      rw (packed-front tb pb m e, packed-done tb pb m e)
-      (unpacked-rowBytes tb pb rest m′ bytes (packable tb (halvesOf pb) (length m / 4) e) room)
+  round-trip = unpacked-front tb pb m bytes packs
 
   -- the same from the very memory that packing leaves
   pub round-trip-memory : (m′ : List ℕ) → length (halvesOf pb) ≤ length m′ / 2
       → unpacked tb (packed tb pb m .memory) (length (halvesOf pb)) m′
       ≡ wrote (packed tb pb m .answer .count) (take (2 * length (halvesOf pb)) pb) m′
-  round-trip-memory m′ room = unpacked-packed tb pb m m′ bytes (sym (packed-number tb pb m) ∙ packs) room
+  round-trip-memory = unpacked-packed tb pb m bytes packs
 
--- what is read is a row: no pixel of it is above 4095, and n are given
-pub read-pixels : (t : List ℕ) → verdict t ≡ 0 → (n : ℕ) (r : List ℕ) → Below 2 r → (is : List Item) (u : ℕ)
-    → readItems t n r ≡ done is u → (length (pixelsOf fresh is) ≡ n) × (any (ltb 4095) (pixelsOf fresh is) ≡ false)
-read-pixels t ok n r bits is u e =
-    let stands = readItems-stands t (accepted t ok) n r is u bits e in
-    (length-pixelsOf fresh is ∙ stands .count, any-pixelsOf t fresh is (stands .fits))
+-- "Foreign words are read by the same rules or refused". Items that may stand where they stand, written one after the other,
+-- are read as those items, whatever bits follow
+pub fitting-read : (t : List ℕ) → verdict t ≡ 0 → (s : State) (is : List Item) (r : List ℕ) → FitAll t s is
+    → readBy (readItem t) s (length is) (bits t is ++ r) ≡ done is (length (bits t is))
+fitting-read t ok = readBy-own t (accepted t ok)
+
+-- and nothing else is read. Of a reading of n items from the bits r that gave the items is and used u bits:
+module _ (t : List ℕ) (ok : verdict t ≡ 0) (n : ℕ) (r : List ℕ) (bin : Below 2 r) (is : List Item) (u : ℕ)
+    (read : readItems t n r ≡ done is u) where
+  stands : RunStands t fresh n r is u
+  stands = readItems-stands t (accepted t ok) n r is u bin read
+
+  -- n items, each of which may stand where it stands: a step that the table has and that leads to 0 to 4093, or a raw height
+  -- below 4094
+  pub read-items : (length is ≡ n) × FitAll t fresh is
+  read-items = (stands .count, stands .fits)
+
+  -- their bits stand in front, and are the bits used
+  pub read-bits : (r ≡ bits t is ++ drop u r) × (u ≡ length (bits t is))
+  read-bits = (stands .front .there, stands .front .size)
+
+  -- they stand for a row: n pixels, none above 4095
+  pub read-pixels : (length (pixelsOf fresh is) ≡ n) × (any (ltb 4095) (pixelsOf fresh is) ≡ false)
+  read-pixels = stands-pixels t n r is u stands
+
+  -- what is previous after them is at most 4093, and from there and from the bits after theirs the next items are read
+  pub read-previous : previous (afterAll fresh is) ≤ 4093
+  read-previous = fit-height t is (stands .fits)
+
+  pub read-onward : (k : ℕ) → readItems t (n + k) r ≡ prependAll is u (readBy (readItem t) (afterAll fresh is) k (drop u r))
+  read-onward k = readItems-add t n k r is u read
+
+-- "at the earliest faulty item": one that stops a reading stops every reading of more items
+pub read-stopped : (t : List ℕ) (n k : ℕ) (r : List ℕ) (e at u : ℕ) → readItems t n r ≡ stop e at u
+    → readItems t (n + k) r ≡ stop e at u
+read-stopped = readItems-stop
+
+-- "accepts a raw item although the table has the step": an item that may stand where it stands, as all do that are read,
+-- departs from what packing would write exactly where it is raw and the table has the step
+pub item-departs : (t : List ℕ) (s : State) (i : Item) → Fits t s i
+    → (departs t s i ≡ true) ↔ ((h : ℕ) × (i ≡ escape h) × (byDifference t s h ≡ true))
+item-departs = departs-needless
+
+-- and of such items none departs exactly when no raw item is needless in this sense where it stands, after the items js and
+-- before the items ks
+pub items-depart : (t : List ℕ) (s : State) (is : List Item) → FitAll t s is
+    → (anyDeparts t s is ≡ false)
+    ↔ ((js ks : List Item) (h : ℕ) → is ≡ js ++ (escape h ∷ ks) → byDifference t (afterAll s js) h ≡ false)
+items-depart = anyDeparts-needless
 
 -- "The used words of an accepted reading are the very words packing would write exactly when no raw item was needless"
 pub used-words-own : (t : List ℕ) → verdict t ≡ 0 → (wb : List ℕ) → Below 256 wb → (n : ℕ) (is : List Item) (u : ℕ)
@@ -146,17 +206,35 @@ pub used-words-own : (t : List ℕ) → verdict t ≡ 0 → (wb : List ℕ) → 
     → (take (4 * wordsFor u) wb ≡ rowBytes t (pixelsOf fresh is)) ↔ (anyDeparts t fresh is ≡ false)
 used-words-own t ok = own-words t (accepted t ok)
 
--- the same of a done unpacking, and of a packing, with room enough, of the pixels that it left
-pub unpacked-words-own : (tb wb : List ℕ) (n : ℕ) (m : List ℕ) → Below 256 wb
-    → (h : unpacked tb wb n m .answer .number ≡ 0) (mw : List ℕ)
-    → let pb = take (2 * n) (unpacked tb wb n m .memory) in
-    packed tb pb mw .answer .number ≡ 0
-    → (take (4 * wordsFor (unpacked tb wb n m .answer .count)) wb
-    ≡ take (4 * wordsFor (packed tb pb mw .answer .count)) (packed tb pb mw .memory))
-    ↔ (anyDeparts (wordsOf tb) fresh (unpacked-accepts tb wb n m h .items) ≡ false)
-unpacked-words-own tb wb n m bytes h mw e =
-    let pb = take (2 * n) (unpacked tb wb n m .memory) in
-    own-words-packed tb wb n m bytes (unpacked-accepts tb wb n m h) mw (sym (packed-number tb pb mw) ∙ e)
+-- unpacking is done where what is asked before the first item is given, n items are read and no unused bit is set; and only
+-- there
+pub unpacked-granted : (tb wb : List ℕ) (n : ℕ) (m : List ℕ) (is : List Item) (u : ℕ) → Reads (lent (length m)) tb n wb is u
+    → unpacked tb wb n m ≡ wrote u (pixelBytes (pixelsOf fresh is)) m
+unpacked-granted = unpacked-reads
+
+pub unpacked-done : (tb wb : List ℕ) (n : ℕ) (m : List ℕ) → unpacked tb wb n m .answer .number ≡ 0 → Accepts tb wb n m
+unpacked-done = unpacked-accepts
+
+module _ (tb wb : List ℕ) (n : ℕ) (m : List ℕ) (got : Accepts tb wb n m) where
+  -- the items are n, and may stand where they stand; its words begin with their bits; and it leaves the pixels that they
+  -- stand for
+  pub unpacked-items : (length (got .items) ≡ n) × FitAll (wordsOf tb) fresh (got .items)
+  unpacked-items = let there = unpacked-stands tb wb n m got in (there .count, there .fits)
+
+  pub unpacked-words : stream wb ≡ bits (wordsOf tb) (got .items) ++ drop (unpacked tb wb n m .answer .count) (stream wb)
+  unpacked-words = unpacked-stands tb wb n m got .front .there
+
+  pub unpacked-pixels : halvesOf (take (2 * n) (unpacked tb wb n m .memory)) ≡ pixelsOf fresh (got .items)
+  unpacked-pixels = pixels-left tb wb n m got
+
+  -- the used words are packing's own, of a packing, with room enough, of the pixels that it left
+  pub unpacked-words-own : Below 256 wb → (mw : List ℕ)
+      → let pb = take (2 * n) (unpacked tb wb n m .memory) in
+      packed tb pb mw .answer .number ≡ 0
+      → (take (4 * wordsFor (unpacked tb wb n m .answer .count)) wb
+      ≡ take (4 * wordsFor (packed tb pb mw .answer .count)) (packed tb pb mw .memory))
+      ↔ (anyDeparts (wordsOf tb) fresh (got .items) ≡ false)
+  unpacked-words-own bytes = own-words-packed tb wb n m bytes got
 
 -- ---- demand 3
 -- "every row of n pixels, each at most 4095, takes at most n times M bits"; under any table, and of any pixels
@@ -166,11 +244,11 @@ row-bits = length-rowBits
 -- "Its packing is refused for room exactly when the bits it takes, rounded up to whole words, exceed the words lent"
 pub room-refused : (tb pb m : List ℕ) → Packable tb (halvesOf pb)
     → (packed tb pb m .answer .number ≡ 5) ↔ (length m / 4 < wordsFor (length (rowBits (wordsOf tb) (halvesOf pb))))
-room-refused tb pb m ok = rw (packed-number tb pb m) (packNumber-five tb (halvesOf pb) (length m / 4) ok)
+room-refused = packed-five
 
 pub room-granted : (tb pb m : List ℕ) → Packable tb (halvesOf pb)
     → wordsFor (length (rowBits (wordsOf tb) (halvesOf pb))) ≤ length m / 4 → packed tb pb m .answer .number ≡ 0
-room-granted tb pb m ok h = packed-number tb pb m ∙ packNumber-done tb (halvesOf pb) (length m / 4) ok h
+room-granted = packed-enough
 
 -- "when done, it reports exactly the bits it takes"
 pub packed-bits : (tb pb m : List ℕ) → packed tb pb m .answer .number ≡ 0
@@ -178,10 +256,10 @@ pub packed-bits : (tb pb m : List ℕ) → packed tb pb m .answer .number ≡ 0
 packed-bits tb pb m h = rw (packed-done tb pb m (sym (packed-number tb pb m) ∙ h))
 
 -- "The bit count reported by either call is the sum of the items' lengths": of a done unpacking, these are the bits it used
-pub unpacked-bits : (tb wb : List ℕ) (n : ℕ) (m : List ℕ) (h : unpacked tb wb n m .answer .number ≡ 0)
-    → (unpacked tb wb n m .answer .count ≡ length (bits (wordsOf tb) (unpacked-accepts tb wb n m h .items)))
+pub unpacked-bits : (tb wb : List ℕ) (n : ℕ) (m : List ℕ) (got : Accepts tb wb n m)
+    → (unpacked tb wb n m .answer .count ≡ length (bits (wordsOf tb) (got .items)))
     × (bitsUsed tb wb n m ≡ unpacked tb wb n m .answer .count)
-unpacked-bits tb wb n m h = let got = unpacked-accepts tb wb n m h in (unpacked-count tb wb n m got, bitsUsed-count tb wb n m got)
+unpacked-bits tb wb n m got = (unpacked-stands tb wb n m got .front .size, bitsUsed-count tb wb n m got)
 
 -- "The room question answers n x M / 32, rounded up"
 pub room-answer : (tb : List ℕ) (n : ℕ) → tableNumber tb ≡ 0 → n ≤ 4096
@@ -191,14 +269,15 @@ room-answer = room-done
 -- the room question's answer is enough for every row of so many pixels
 pub room-enough : (tb pb m : List ℕ) → Packable tb (halvesOf pb) → room tb (length (halvesOf pb)) .count ≤ length m / 4
     → packed tb pb m .answer .number ≡ 0
-room-enough tb pb m ok h = packed-number tb pb m ∙ packNumber-room tb (halvesOf pb) (length m / 4) ok h
+room-enough = packed-room-enough
 
 -- "Whatever stands in the words, unpacking n pixels never uses more than n times M bits, done or refused"; under any table
 pub reading-bits : (tb wb : List ℕ) (n : ℕ) (m : List ℕ) → bitsUsed tb wb n m ≤ n * maxItemBits (wordsOf tb)
 reading-bits = bitsUsed-most
 
 -- "Refused before its first item it uses none, and 10 adds none": else it uses the bits of its run, whether 10 is given or not
-pub reading-bits-none : (tb wb : List ℕ) (n : ℕ) (m : List ℕ) → (firstNumber (lent (length m)) tb n ≡ 0 → ⊥) → bitsUsed tb wb n m ≡ 0
+pub reading-bits-none : (tb wb : List ℕ) (n : ℕ) (m : List ℕ) → (firstNumber (lent (length m)) tb n ≡ 0 → ⊥)
+    → bitsUsed tb wb n m ≡ 0
 reading-bits-none = bitsUsed-none
 
 pub reading-bits-run : (tb wb : List ℕ) (n : ℕ) (m : List ℕ) → firstNumber (lent (length m)) tb n ≡ 0
@@ -222,8 +301,7 @@ words-alike = unpacked-alike
 pub row-bits-tight : (t : List ℕ) → verdict t ≡ 0 → hasDifference t 0 ≡ false → hasDifference t 8186 ≡ false
     → ((j : ℕ) → j < 3 + tableSize t → length (codewordAt t j) ≤ escapeLength t + 12)
     → (n : ℕ) → (ps : List ℕ) × (length ps ≡ n) × (any (ltb 4095) ps ≡ false) × (length (rowBits t ps) ≡ n * maxItemBits t)
-row-bits-tight t ok least most lengths n =
-    (steep n, length-steep n, any-steep n, length-rowBits-steep t least most n (longest-escape t (accepted t ok) lengths))
+row-bits-tight t ok = tight t (accepted t ok)
 
 -- the two steps that it names, held as counts from -4093
 pub least-difference : signed 0 ≡ negsuc 4092
@@ -234,20 +312,25 @@ most-difference = refl
 
 -- ---- demand 1
 -- "each call .. answers with a number from document 01", and its order lists which
+pub checked-numbers : (tb : List ℕ) → any (eqb (checked tb .number)) (0 ∷ 1 ∷ 2 ∷ 3 ∷ []) ≡ true
+unfolding any
+checked-numbers tb = checked-in (λ e. any (eqb e) (0 ∷ 1 ∷ 2 ∷ 3 ∷ []) ≡ true) tb refl refl refl refl
+
 pub packed-numbers : (tb pb m : List ℕ) → any (eqb (packed tb pb m .answer .number)) (0 ∷ 1 ∷ 2 ∷ 3 ∷ 11 ∷ 4 ∷ 5 ∷ []) ≡ true
 unfolding any
 packed-numbers tb pb m =
-    let known : ℕ → Type 0 = λ e. any (eqb e) (0 ∷ 1 ∷ 2 ∷ 3 ∷ 11 ∷ 4 ∷ 5 ∷ []) ≡ true in
-    rw (packed-number tb pb m) (packNumber-in known tb (halvesOf pb) (length m / 4) refl refl refl refl refl refl refl)
+    packed-in (λ e. any (eqb e) (0 ∷ 1 ∷ 2 ∷ 3 ∷ 11 ∷ 4 ∷ 5 ∷ []) ≡ true) tb pb m refl refl refl refl refl refl refl
 
 pub unpacked-numbers : (tb wb : List ℕ) (n : ℕ) (m : List ℕ)
     → any (eqb (unpacked tb wb n m .answer .number)) (0 ∷ 1 ∷ 2 ∷ 3 ∷ 11 ∷ 5 ∷ 6 ∷ 7 ∷ 8 ∷ 9 ∷ 10 ∷ []) ≡ true
 unfolding any
 unpacked-numbers tb wb n m =
-    let known : ℕ → Type 0 = λ e. any (eqb e) (0 ∷ 1 ∷ 2 ∷ 3 ∷ 11 ∷ 5 ∷ 6 ∷ 7 ∷ 8 ∷ 9 ∷ 10 ∷ []) ≡ true in
-    let room = refuseIf-in known (ltb (length m) (2 * n)) 5 refl refl in
-    rw (unpacked-number tb wb n m)
-    (rowReading-number-in known (lent (length m)) tb n wb refl refl refl refl refl room refl refl refl refl refl)
+    unpacked-in (λ e. any (eqb e) (0 ∷ 1 ∷ 2 ∷ 3 ∷ 11 ∷ 5 ∷ 6 ∷ 7 ∷ 8 ∷ 9 ∷ 10 ∷ []) ≡ true) tb wb n m
+    refl refl refl refl refl refl refl refl refl refl refl
+
+pub room-numbers : (tb : List ℕ) (n : ℕ) → any (eqb (room tb n .number)) (0 ∷ 1 ∷ 2 ∷ 3 ∷ 11 ∷ []) ≡ true
+unfolding any
+room-numbers tb n = room-in (λ e. any (eqb e) (0 ∷ 1 ∷ 2 ∷ 3 ∷ 11 ∷ []) ≡ true) tb n refl refl refl refl refl
 
 -- "A refused call gives its number, zero for every count and value, and leaves the lent memory as found"
 pub packed-refused-keeps : (tb pb m : List ℕ) → (packed tb pb m .answer .number ≡ 0 → ⊥)

@@ -7,7 +7,7 @@ use row_item::Progress;
 use row_item::after;
 ghost use Prim.Native.Nat.{_≤_};
 ghost use Rattle.bitstream.specs.Bits.{wordsOf};
-ghost use Rattle.row_format.specs.Table.Laws.{Accepted};
+ghost use Rattle.row_format.specs.Table.{Accepted};
 ghost use Rattle.row_packer.specs.Header.{HeaderOf};
 ghost use Rattle.row_packer.specs.Encode.{Sound, Encodes};
 

@@ -5,8 +5,7 @@ ghost use mathlib.Core.Path.{_≡_};
 ghost use mathlib.Core.List.{_++_};
 ghost use Prim.Native.Nat.{_+_, _^_, _≤_, _<_};
 ghost use Rattle.bitstream.specs.Bits.{digits, wordsOf};
-ghost use Rattle.row_format.specs.Table.{lowLimit, tableSize, codewordAt};
-ghost use Rattle.row_format.specs.Table.Laws.{Accepted};
+ghost use Rattle.row_format.specs.Table.{lowLimit, tableSize, codewordAt, Accepted};
 ghost use Rattle.row_format.specs.Row.{itemBits};
 ghost use Rattle.row_packer.specs.Field.{Holds, Codable, plain};
 

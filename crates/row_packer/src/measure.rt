@@ -10,8 +10,7 @@ ghost use lib.Dec.{ltb};
 ghost use Rattle.bitstream.specs.Bits.{wordsOf, halvesOf, wordsFor};
 ghost use Rattle.row_format.specs.Lists.{any};
 ghost use Rattle.row_format.specs.Row.{rowBits};
-ghost use Rattle.row_format.specs.Table.{maxItemBits};
-ghost use Rattle.row_format.specs.Table.Laws.{Accepted};
+ghost use Rattle.row_format.specs.Table.{maxItemBits, Accepted};
 ghost use Rattle.row_packer.specs.Header.{HeaderOf};
 
 // Whether so many words are too few for the row, under a table whose longest item has `most` bits.

@@ -12,7 +12,7 @@ ghost use lib.ListN.{length};
 ghost use lib.Dec.{ltb};
 ghost use Rattle.bitstream.specs.Bits.{wordsOf, halvesOf, wordsFor};
 ghost use Rattle.row_format.specs.Lists.{any};
-ghost use Rattle.row_format.specs.Table.Laws.{Accepted};
+ghost use Rattle.row_format.specs.Table.{Accepted};
 ghost use Rattle.row_format.specs.Row.{rowBits};
 ghost use Rattle.row_packer.specs.Header.{HeaderOf};
 ghost use Rattle.row_packer.specs.Write.{Written};

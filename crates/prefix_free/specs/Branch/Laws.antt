@@ -13,12 +13,12 @@ use lib.Seq.{take-suc, getD-take, getD-drop, length-take-le, take-all, drop-at}
 use Rattle.bitstream.specs.Bits.{digits}
 use Rattle.bitstream.specs.Bits.Laws.{getD-digits}
 use Rattle.row_format.specs.Table.{codeword}
-use Rattle.row_format.specs.Table.Laws.{length-codeword}
+use Rattle.row_format.specs.Table.Laws.{length-codeword, clash-false-apart}
 use Rattle.prefix_free.specs.Tests.{not-false-true}
 use Rattle.prefix_free.specs.Exchange.{swapped, Moved, up, down, stays, Exchanged}
 use Rattle.prefix_free.specs.Exchange.Laws.{source, moved-lt, swapped-exchanged}
 use Rattle.prefix_free.specs.Pairs.{meets}
-use Rattle.prefix_free.specs.Pairs.Laws.{clash-false-apart, begins-take, meets-false, clash-few, clash-append, clash-exchanged}
+use Rattle.prefix_free.specs.Pairs.Laws.{begins-take, meets-false, clash-few, clash-append, clash-exchanged}
 use Rattle.prefix_free.specs.Branch.{clashes, bitAt, Agree, Longer, Among, Shortest, Parted, Reordered, Split}
 
 pub getD-codeword : (w k : ℕ) → k < w % 32 → getD (codeword w) k 0 ≡ bitAt k w
@@ -72,7 +72,7 @@ agree-ended d l k a two hk ended = not-false-true (clashes l) refute
         let o = other (length l) k two in
         let j = o .0 in
         let begun = begins-take d (codeword (getD l k 0)) (codeword (getD l j 0)) (a .same k j hk (o .1)) (rw (length-codeword (getD l k 0)) ended) in
-        let apart = clash-false-apart (map codeword l) k j f (rw (length-map l codeword) hk) (rw (length-map l codeword) (o .1)) (o .2) in
+        let apart = clash-false-apart (map codeword l) f k j (rw (length-map l codeword) hk) (rw (length-map l codeword) (o .1)) (o .2) in
         true≢false (sym begun ∙ (rw (getD-codewords l k, getD-codewords l j) at apart))
 
 -- where all have one and the same bit at d, they agree in that too

@@ -1,48 +1,22 @@
 -- The laws of strings of which one begins another. Assumes nothing.
 use Prim.Native.Nat.{ℕ, zero, suc, _<_, _≤_, suc-le-suc}
 use native.Mathlib.Nat.{le-of-suc-le-suc, not-suc-le-zero, zero-lt-suc}
-use native.Mathlib.Decide.{decLt}
 use native.Mathlib.Omega.{arith}
-use mathlib.Core.Path.{_≡_, refl, sym, _∙_}
-use mathlib.Core.Bool.{true, false, _||_, or-assoc, or-comm, or-false, and-eq-true-iff, false≢true}
+use mathlib.Core.Path.{_≡_, refl, sym}
+use mathlib.Core.Bool.{true, false, _||_, or-assoc, or-false, and-eq-true-iff, false≢true}
 use mathlib.Core.List.{List, [], _∷_, _++_}
 use lib.ListN.{length, getD, take}
 use lib.Dec.{eqb}
 use borrow.Author.Tests.{eq-eqb, eqb-true}
 use Rattle.bitstream.specs.Bits.{begins}
 use Rattle.row_format.specs.Lists.{any}
-use Rattle.row_format.specs.Table.{clash}
-use Rattle.row_format.specs.Lists.Laws.{or-false-left, any-append, any-false}
-use Rattle.row_format.specs.Table.Laws.{clash-false-at}
+use Rattle.row_format.specs.Table.{clash, Apart}
+use Rattle.row_format.specs.Lists.Laws.{any-append, any-false}
+use Rattle.row_format.specs.Table.Laws.{clash-false-apart, apart-clash-false}
 use Rattle.prefix_free.specs.Tests.{or-none, not-true-false, same-test}
 use Rattle.prefix_free.specs.Exchange.{Exchanged}
 use Rattle.prefix_free.specs.Exchange.Laws.{source, moved-lt, moved-apart, exchanged-sym}
-use Rattle.prefix_free.specs.Pairs.{meets, PrefixFree}
-
--- ---- no clash: the strings of each pair are apart
-pub meets-comm : (s u : List ℕ) → meets s u ≡ meets u s
-meets-comm s u = or-comm (begins s u) (begins u s)
-
-pub clash-false-free : (ss : List (List ℕ)) → clash ss ≡ false → PrefixFree ss
-clash-false-free ss e = record { apart = λ i j hi hj n. either i j hi hj n (decLt i j) }
-  where
-    either : (i j : ℕ) → i < length ss → j < length ss → (i ≡ j → ⊥) → Dec (i < j) → meets (getD ss i []) (getD ss j []) ≡ false
-    either i j hi hj n (yes l) = clash-false-at ss i j e l hj
-    either i j hi hj n (no l) =
-        meets-comm (getD ss i []) (getD ss j []) ∙ clash-false-at ss j i e (omega arith) hi
-
--- with i and j exchanged, the other way round
-pub clash-false-apart : (ss : List (List ℕ)) (i j : ℕ) → clash ss ≡ false → i < length ss → j < length ss → (i ≡ j → ⊥) → begins (getD ss i []) (getD ss j []) ≡ false
-clash-false-apart ss i j e hi hj n =
-    or-false-left (begins (getD ss i []) (getD ss j [])) (begins (getD ss j []) (getD ss i [])) (clash-false-free ss e .apart i j hi hj n)
-
-pub free-clash-false : (ss : List (List ℕ)) → PrefixFree ss → clash ss ≡ false
-unfolding clash
-free-clash-false [] h = refl
-free-clash-false (s ∷ ss) h =
-    or-none (any (meets s) ss) (clash ss)
-    (any-false (meets s) ss [] (λ k b. h .apart 0 (suc k) (zero-lt-suc (length ss)) (suc-le-suc b) (omega arith)))
-    (free-clash-false ss (record { apart = λ i j hi hj n. h .apart (suc i) (suc j) (suc-le-suc hi) (suc-le-suc hj) (omega arith) }))
+use Rattle.prefix_free.specs.Pairs.{meets}
 
 -- ---- which strings meet
 -- a string that has ended where another still agrees with it begins the other
@@ -86,21 +60,19 @@ clash-append (s ∷ ss) us h =
     rw (any-append (meets s) ss us, none, rest, or-false (any (meets s) ss)) (sym (or-assoc (any (meets s) ss) (clash ss) (clash us)))
 
 -- ---- an exchange
-exchanged-free : {a b : ℕ} {ss us : List (List ℕ)} → a < length ss → b < length ss → Exchanged a b [] ss us → PrefixFree ss → PrefixFree us
-exchanged-free {a} {b} {ss} {us} ha hb x h = record { apart = apart }
-  where
-    apart : (i j : ℕ) → i < length us → j < length us → (i ≡ j → ⊥) → meets (getD us i []) (getD us j []) ≡ false
-    apart i j hi hj n =
-        let p = source a b i in
-        let q = source a b j in
-        let long : length us ≡ length ss = x .long in
-        rw (x .from (p .1), x .from (q .1))
-        (h .apart (p .0) (q .0) (moved-lt (length ss) ha hb (omega arith) (p .1)) (moved-lt (length ss) ha hb (omega arith) (q .1))
-        (moved-apart (p .1) (q .1) n))
+exchanged-apart : {a b : ℕ} {ss us : List (List ℕ)} → a < length ss → b < length ss → Exchanged a b [] ss us
+    → Apart (length ss) (λ i. getD ss i []) → Apart (length us) (λ i. getD us i [])
+exchanged-apart {a} {b} {ss} {us} ha hb x h i j hi hj n =
+    let p = source a b i in
+    let q = source a b j in
+    let long : length us ≡ length ss = x .long in
+    rw (x .from (p .1), x .from (q .1))
+    (h (p .0) (q .0) (moved-lt (length ss) ha hb (omega arith) (p .1)) (moved-lt (length ss) ha hb (omega arith) (q .1))
+    (moved-apart (p .1) (q .1) n))
 
 pub clash-exchanged : {a b : ℕ} {ss us : List (List ℕ)} → a < length ss → b < length ss → Exchanged a b [] ss us → clash us ≡ clash ss
 clash-exchanged {a} {b} {ss} {us} ha hb x =
     let long : length us ≡ length ss = x .long in
     same-test (clash us) (clash ss)
-    (λ e. free-clash-false ss (exchanged-free (omega arith) (omega arith) (exchanged-sym a b [] x) (clash-false-free us e)))
-    (λ e. free-clash-false us (exchanged-free ha hb x (clash-false-free ss e)))
+    (λ e. apart-clash-false ss (exchanged-apart (omega arith) (omega arith) (exchanged-sym a b [] x) (clash-false-apart us e)))
+    (λ e. apart-clash-false us (exchanged-apart ha hb x (clash-false-apart ss e)))

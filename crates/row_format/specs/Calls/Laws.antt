@@ -2,7 +2,6 @@
 use Prim.Native.Nat.{ℕ, suc, _*_, _/_, _≤_}
 use native.Mathlib.Omega.{arith}
 use mathlib.Core.Path.{_≡_, refl, sym, ap, _∙_}
-use mathlib.Core.Bool.{false}
 use mathlib.Core.List.{List, []}
 use lib.ListN.{length, take, drop}
 use lib.Seq.{take-at}
@@ -20,9 +19,9 @@ use Rattle.row_format.specs.Row.{bits, itemsFor, rowBits, rowBytes, tooM
 use Rattle.row_format.specs.Row.Laws.{tooMany-zero}
 use Rattle.row_format.specs.Reading.{Run, done, stop, runNumber, rowReading}
 use Rattle.row_format.specs.Reading.Laws.{rowReading-nothing}
-use Rattle.row_format.specs.Calls.{checked, packNumber, packedRow, packed, rowOutcome, unpacked}
+use Rattle.row_format.specs.Calls.{checked, packNumber, packedRow, packed, rowOutcome, unpacked, room, Packable}
 
--- ---- checking
+-- ---- checking, and the room question
 pub checked-number : (tb : List ℕ) → checked tb .number ≡ tableNumber tb
 unfolding checked
 checked-number tb =
@@ -30,6 +29,12 @@ checked-number tb =
 
 pub answer-number : (tb : List ℕ) {a : Answer} → a ≡ checked tb → a .number ≡ tableNumber tb
 answer-number tb is = ap (λ (x : Answer). x .number) is ∙ checked-number tb
+
+pub room-number : (tb : List ℕ) (n : ℕ) → room tb n .number ≡ (tableNumber tb orElse tooMany n)
+unfolding room
+room-number tb n =
+    unless-number (λ (a : Answer). a .number) refusal (answerOf 0 (wordsFor (n * maxItemBits (wordsOf tb)))) (λ k. refl)
+    (tableNumber tb orElse tooMany n) refl
 
 -- ---- the numbers of the calls
 -- the number that a packing answers is that of its refusals
@@ -60,12 +65,6 @@ pub unpacked-nothing : (tb wb m : List ℕ) → unpacked tb wb 0 m .answer .numb
 unpacked-nothing tb wb m = unpacked-number tb wb 0 m ∙ rowReading-nothing (lent (length m)) tb wb
 
 -- ---- packing
--- what the refusals before the one for room ask of a table and a row
-pub record Packable (tb ps : List ℕ) : Type 0 where
-  pub table : tableNumber tb ≡ 0
-  pub few : length ps ≤ 4096
-  pub pixels : any (ltb 4095) ps ≡ false
-
 pub packNumber-packable : (tb ps : List ℕ) (roomWords : ℕ) → Packable tb ps
     → packNumber tb ps roomWords ≡ refuseIf (ltb roomWords (wordsFor (length (rowBits (wordsOf tb) ps)))) 5
 unfolding packNumber

@@ -8,14 +8,14 @@ use lib.ListN.{length, take, drop}
 use lib.Dec.{ltb}
 use borrow.Author.Tests.{ltb-true, ltb-false}
 use Rattle.bitstream.specs.Bits.{numOf, begins}
-use Rattle.answer.specs.Outcome.{_orElse_, unless, Lent, nothing, lent, roomNumber}
+use Rattle.answer.specs.Outcome.{_orElse_, Lent, nothing, lent, roomNumber}
 use Rattle.answer.specs.Outcome.Laws.{orElse-none, orElse-same, orElse-zero-left, orElse-zero-right, roomNumber-none, lessNumber-none, lessNumber-zero, unless-number}
 use Rattle.row_format.specs.Lists.{any, least}
 use Rattle.row_format.specs.Lists.Laws.{by-test}
 use Rattle.row_format.specs.Table.{entryDifference, tableNumber}
-use Rattle.row_format.specs.Row.{Item, difference, escape, State, fresh, after, tooMany}
+use Rattle.row_format.specs.Row.{Item, difference, escape, State, after, tooMany}
 use Rattle.row_format.specs.Row.Laws.{tooMany-zero}
-use Rattle.row_format.specs.Reading.{Reading, item, fault, unmatched, rawHeight, inside, matched, Run, done, stop, runNumber, prepend, follow, readBy, readItems, stray, withoutStray, firstNumber, rowReading}
+use Rattle.row_format.specs.Reading.{Reading, item, fault, unmatched, rawHeight, inside, matched, Run, done, stop, runNumber, prepend, follow, readBy, readItems, stray, firstNumber, rowReading, Readable}
 
 -- to show something of such an answer, show it of each case
 module _ (P : Reading → Type 0) where
@@ -72,11 +72,6 @@ pub readBy-count : (f : State → List ℕ → Reading) (s : State) (n : ℕ) (r
 readBy-count f s n r is u e = subst (Counted n) e (readBy-counted f s n r)
 
 -- ---- what is asked before the first item
-pub record Readable (m : Lent) (tb : List ℕ) (n : ℕ) : Type 0 where
-  pub table : tableNumber tb ≡ 0
-  pub few : n ≤ 4096
-  pub room : roomNumber m (2 * n) ≡ 0
-
 module _ (m : Lent) (tb : List ℕ) (n : ℕ) where
   pub firstNumber-readable : Readable m tb n → firstNumber m tb n ≡ 0
   unfolding firstNumber

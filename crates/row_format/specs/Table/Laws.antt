@@ -1,8 +1,9 @@
 -- The laws of tables: what is true of an accepted one. Assumes nothing.
 use Prim.Native.Nat.{ℕ, zero, suc, _+_, _-_, _/_, _%_, _^_, _≤_, _<_}
 use native.Mathlib.Nat.{le-max-left, le-max-right, max-le}
+use native.Mathlib.Decide.{decLt}
 use native.Mathlib.Omega.{arith}
-use mathlib.Core.Path.{_≡_, ap, _∙_}
+use mathlib.Core.Path.{_≡_, refl, sym, ap, _∙_}
 use mathlib.Core.Bool.{Bool, true, false, cond, _||_}
 use mathlib.Core.List.{List, [], _∷_}
 use lib.ListN.{length, drop, getD, length-map, length-drop, List·getD-map}
@@ -16,7 +17,7 @@ use Rattle.bitstream.specs.Bits.Laws.{length-digits}
 use Rattle.row_format.specs.Lists.{any}
 use Rattle.row_format.specs.Lists.Laws.{by-test, true-false, and-true-all, or-false-left, or-false-right, cond-zero-test, cond-zero-rest, any-false-at, any-false}
 use Rattle.row_format.specs.BitLaws.{begins-both}
-use Rattle.row_format.specs.Table.{lowLimit, tableSize, codeword, codewords, codewordAt, escapeLength, signed, entryDifference, wrongSize, wrongWord, wrongCodeword, clash, verdict, tableNumber, longest, maxItemBits}
+use Rattle.row_format.specs.Table.{lowLimit, tableSize, codeword, codewords, codewordAt, escapeLength, signed, entryDifference, wrongSize, wrongWord, wrongCodeword, clash, verdict, tableNumber, longest, maxItemBits, RightWord, Apart, Accepted}
 
 -- ---- codewords
 pub length-codeword : (w : ℕ) → length (codeword w) ≡ w % 32
@@ -60,8 +61,8 @@ pub escapeLength-most : (t : List ℕ) → escapeLength t + 12 ≤ maxItemBits t
 unfolding maxItemBits
 escapeLength-most t = le-max-right (longest (codewords t)) (escapeLength t + 12)
 
--- ---- a clash of strings
-pub clash-false-at : (ss : List (List ℕ)) (i j : ℕ) → clash ss ≡ false → i < j → j < length ss
+-- ---- a clash of strings: there is none exactly when no string begins another
+clash-false-at : (ss : List (List ℕ)) (i j : ℕ) → clash ss ≡ false → i < j → j < length ss
     → (begins (getD ss i []) (getD ss j []) || begins (getD ss j []) (getD ss i [])) ≡ false
 unfolding clash
 clash-false-at [] i j e below h = absurd (omega arith)
@@ -72,6 +73,32 @@ clash-false-at (s ∷ ss) zero (suc j) e below h =
 clash-false-at (s ∷ ss) (suc i) (suc j) e below h =
     let meets : List ℕ → Bool = λ u. begins s u || begins u s in
     clash-false-at ss i j (or-false-right (any meets ss) (clash ss) e) (omega arith) (omega arith)
+
+pub clash-false-apart : (ss : List (List ℕ)) → clash ss ≡ false → Apart (length ss) (λ i. getD ss i [])
+clash-false-apart ss e i j hi hj differ = either (decLt i j)
+  where
+    either : Dec (i < j) → begins (getD ss i []) (getD ss j []) ≡ false
+    either (yes below) =
+        let s = getD ss i [] in
+        let u = getD ss j [] in
+        or-false-left (begins s u) (begins u s) (clash-false-at ss i j e below hj)
+    either (no above) =
+        let s = getD ss i [] in
+        let u = getD ss j [] in
+        or-false-right (begins u s) (begins s u) (clash-false-at ss j i e (omega arith) hi)
+
+pub apart-clash-false : (ss : List (List ℕ)) → Apart (length ss) (λ i. getD ss i []) → clash ss ≡ false
+unfolding clash
+apart-clash-false [] h = refl
+apart-clash-false (s ∷ ss) h =
+    let meets : List ℕ → Bool = λ u. begins s u || begins u s in
+    let none : (k : ℕ) → k < length ss → meets (getD ss k []) ≡ false = λ k b.
+    rw (
+      h 0 (suc k) (omega arith) (omega arith) (λ e. omega arith),
+      h (suc k) 0 (omega arith) (omega arith) (λ e. omega arith),
+    ) in
+    rw (any-false meets ss [] none)
+    (apart-clash-false ss (λ i j hi hj n. h (suc i) (suc j) (omega arith) (omega arith) (λ e. n (omega arith))))
 
 -- ---- differences
 -- the signed number that a count from -4093 stands for
@@ -105,21 +132,6 @@ signed-differenceTo p (suc q) h = by-test (ltb p (suc q)) down up
         rw (e, le-ltb (p + 4093 - suc q) 4093 (omega arith)) (ap pos value)
 
 -- ---- accepted tables
--- a codeword's word: "Lengths are 1 to 27 .. No bit is set above the string"
-pub record RightWord (w : ℕ) : Type 0 where
-  pub least : 1 ≤ w % 32
-  pub most : w % 32 ≤ 27
-  pub above : w / 32 < 2 ^ (w % 32)
-
-pub record Accepted (t : List ℕ) : Type 0 where
-  pub size-least : 1 ≤ tableSize t
-  pub size-most : tableSize t ≤ 8187
-  pub sum-most : lowLimit t + tableSize t ≤ 8187
-  pub words : length t ≡ 6 + tableSize t
-  pub escape-most : escapeLength t ≤ 15
-  pub word : (j : ℕ) → j < 3 + tableSize t → RightWord (getD t (3 + j) 0)
-  pub apart : clash (codewords t) ≡ false
-
 pub right-word : (w : ℕ) → wrongWord w ≡ false → RightWord w
 unfolding wrongWord
 right-word w e =
@@ -165,7 +177,11 @@ accepted t e =
           let inside : j < length (drop 3 t) = omega (arith, length-drop 3 t, size .words) in
           let right-at = any-false-at wrongWord (drop 3 t) j 0 right-words inside in
           right-word (getD t (3 + j) 0) (rw (getD-drop 3 t j 0) at right-at);
-      apart = cond-zero-test (clash (codewords t)) 2 0 (cond-zero-rest (wrongCodeword t) 1 free after-size);
+      apart = λ i j hi hj differ.
+          let free = cond-zero-test (clash (codewords t)) 2 0 (cond-zero-rest (wrongCodeword t) 1 free after-size) in
+          let size : length (codewords t) ≡ 3 + tableSize t = omega (arith, length-codewords t, size .words) in
+          let apart = clash-false-apart (codewords t) free i j (omega arith) (omega arith) differ in
+          rw (getD-codewords t i, getD-codewords t j) at apart;
     }
 
 -- and a table of which all that is true is accepted
@@ -182,13 +198,18 @@ verdict-accepted t ok = rw (
   eq-eqb (length t) (6 + tableSize t) (ok .words),
   le-ltb 15 (escapeLength t) (ok .escape-most),
   any-false wrongWord (drop 3 t) 0 right,
-  ok .apart,
+  apart-clash-false (codewords t) free,
 )
   where
     right : (j : ℕ) → j < length (drop 3 t) → wrongWord (getD (drop 3 t) j 0) ≡ false
     right j h =
         let inside : j < 3 + tableSize t = omega (arith, length-drop 3 t, ok .words) in
         rw (getD-drop 3 t j 0) (wrongWord-right (getD t (3 + j) 0) (ok .word j inside))
+
+    free : Apart (length (codewords t)) (λ i. getD (codewords t) i [])
+    free i j hi hj differ =
+        let size : length (codewords t) ≡ 3 + tableSize t = omega (arith, length-codewords t, ok .words) in
+        rw (getD-codewords t i, getD-codewords t j) (ok .apart i j (omega arith) (omega arith) differ)
 
 -- of a table's bytes
 pub tableNumber-whole : (b : List ℕ) → tableNumber b ≡ 0 → length b % 4 ≡ 0
@@ -223,18 +244,14 @@ module _ (t : List ℕ) (ok : Accepted t) where
   length-codewords-size = omega (arith, length-codewords t, ok .words)
 
   -- two strings that begin the same bits are one
-  codewordAt-below : (i j : ℕ) (r : List ℕ) → i < j → j < 3 + tableSize t
-      → begins (codewordAt t i) r ≡ true → begins (codewordAt t j) r ≡ true → ⊥
-  codewordAt-below i j r below h p q =
-      let inside : j < length (codewords t) = omega (arith, length-codewords-size) in
-      let apart = clash-false-at (codewords t) i j (ok .apart) below inside in
-      true-false (begins-both (codewordAt t i) (codewordAt t j) r p q) (rw (getD-codewords t i, getD-codewords t j) at apart)
-
   pub codewordAt-only : (i j : ℕ) (r : List ℕ) → i < 3 + tableSize t → j < 3 + tableSize t
       → begins (codewordAt t i) r ≡ true → begins (codewordAt t j) r ≡ true → i ≡ j
   codewordAt-only i j r hi hj p q =
-      let not-less : i < j → ⊥ = λ below. codewordAt-below i j r below hj p q in
-      let not-more : j < i → ⊥ = λ below. codewordAt-below j i r below hi q p in
+      let one : (i ≡ j → ⊥) → ⊥ = λ differ. true-false
+      (begins-both (codewordAt t i) (codewordAt t j) r p q)
+      (rw (ok .apart i j hi hj differ, ok .apart j i hj hi (λ e. differ (sym e)))) in
+      let not-less : i < j → ⊥ = λ below. one (λ e. omega arith) in
+      let not-more : j < i → ⊥ = λ below. one (λ e. omega arith) in
       omega arith
 
   -- M

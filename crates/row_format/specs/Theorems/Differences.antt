@@ -6,8 +6,11 @@ use mathlib.Core.Path.{_≡_}
 use mathlib.Core.Bool.{true}
 use mathlib.Core.List.{List}
 use mathlib.Core.Logic.{_↔_}
+use lib.IntN.{pos, negsuc}
+use lib.Signed.{_≤ℤ_}
 use borrow.Author.Tests.{lt-ltb, le-leb}
-use Rattle.row_format.specs.Table.{lowLimit, tableSize, codewordAt, entryDifference, hasDifference}
+use Rattle.row_format.specs.Table.{lowLimit, tableSize, codewordAt, signed, entryDifference, hasDifference, Accepted}
+use Rattle.row_format.specs.Table.Laws.{signed-least, signed-most, entryDifference-most}
 use Rattle.row_format.specs.Row.{difference, State, previous, differenceTo, pixelOf, itemBits}
 use Rattle.row_format.specs.Reading.{inside}
 use Rattle.row_format.specs.Theorems.Items.{entry, reached, inside-differenceTo}
@@ -24,6 +27,13 @@ entry-for t k = (
   (λ has. let e = entry t k has in (k - lowLimit t, e .high, omega (arith, e .low))),
   (λ found. rw (← found .2) (hasDifference-entry t (found .0) (found .1))),
 )
+
+-- "So steps lie within -4093 to 4093"
+pub entry-signed : (t : List ℕ) (ok : Accepted t) (i : ℕ) → i < tableSize t
+    → (negsuc 4092 ≤ℤ signed (entryDifference t i)) × (signed (entryDifference t i) ≤ℤ pos 4093)
+entry-signed t ok i h =
+    let k = entryDifference t i in
+    (signed-least k, signed-most k (entryDifference-most t ok i h))
 
 -- the bits of entry i's difference are entry i's string, which stands at place 3 + i
 pub itemBits-entry : (t : List ℕ) (i : ℕ) → itemBits t (difference (entryDifference t i)) ≡ codewordAt t (3 + i)

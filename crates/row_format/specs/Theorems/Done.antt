@@ -3,28 +3,30 @@ use Prim.Native.Nat.{ℕ, zero, suc, _*_, _<_}
 use native.Mathlib.Omega.{arith}
 use mathlib.Core.Path.{_≡_, refl, sym, _∙_}
 use mathlib.Core.Bool.{false}
-use mathlib.Core.List.{List}
-use lib.ListN.{length}
-use Rattle.bitstream.specs.Bits.{wordsOf, stream}
-use Rattle.bitstream.specs.Bits.Laws.{below-flat}
+use mathlib.Core.List.{List, [], _∷_}
+use lib.ListN.{length, take}
+use lib.Seq.{take-at}
+use lib.Dec.{ltb}
+use borrow.Author.Tests.{ltb-false}
+use Rattle.bitstream.specs.Bits.{flat, bytesOf, wordsOf, halvesOf, stream}
+use Rattle.bitstream.specs.Bits.Laws.{Below, below-nil, below-cons, below-flat, length-cut}
 use Rattle.answer.specs.Outcome.{wrote, unless, Lent, lent, roomNumber}
-use Rattle.row_format.specs.Lists.Laws.{by-test}
-use Rattle.row_format.specs.Table.Laws.{accepted, tableNumber-verdict}
-use Rattle.row_format.specs.Row.{Item, fresh, pixelsOf, pixelBytes, bits}
-use Rattle.row_format.specs.Reading.{Run, done, stop, runNumber, readItem, readItems, stray, withoutStray, firstNumber, rowReading}
-use Rattle.row_format.specs.Reading.Laws.{Readable, readable, firstNumber-readable, readBy-count}
-use Rattle.row_format.specs.Calls.{unpacked, bitsUsed}
+use Rattle.row_format.specs.Lists.{any}
+use Rattle.row_format.specs.Lists.Laws.{by-test, any-false-head, any-false-tail}
+use Rattle.row_format.specs.Table.Laws.{accepted-table}
+use Rattle.row_format.specs.Row.{Item, fresh, pixelsOf, pixelBytes}
+use Rattle.row_format.specs.Row.Laws.{length-pixelsOf}
+use Rattle.row_format.specs.Reading.{Run, done, stop, runNumber, readItem, readItems, stray, withoutStray, firstNumber, rowReading, Reads}
+use Rattle.row_format.specs.Reading.Laws.{readable, firstNumber-readable, readBy-count}
+use Rattle.row_format.specs.Calls.{unpacked, bitsUsed, Accepts}
 use Rattle.row_format.specs.Calls.Laws.{unpacked-number}
 use Rattle.row_format.specs.Theorems.Bounds.{bitsUsed-run}
-use Rattle.row_format.specs.Theorems.Standing.{readItems-stands}
+use Rattle.row_format.specs.Theorems.Items.{any-pixelsOf}
+use Rattle.row_format.specs.Theorems.Words.{halvesOf-bytesOf}
+use Rattle.row_format.specs.Theorems.Standing.{RunStands, readItems-stands}
 use Rattle.row_format.specs.Theorems.Numbers.{StopIn, rowReading-stops}
 
--- ---- a reading that is done: what was asked before its first item, its items and bits, and no stray bit
-pub record Reads (m : Lent) (tb : List ℕ) (n : ℕ) (wb : List ℕ) (is : List Item) (u : ℕ) : Type 0 where
-  pub given : Readable m tb n
-  pub read : readItems (wordsOf tb) n (stream wb) ≡ done is u
-  pub clean : stray u (stream wb) ≡ false
-
+-- ---- a reading that is done
 module _ (m : Lent) (tb : List ℕ) (n : ℕ) (wb : List ℕ) (is : List Item) (u : ℕ) where
   without-stray : (x : Run) → withoutStray (stream wb) x ≡ done is u
       → (x ≡ done is u) × (stray u (stream wb) ≡ false)
@@ -66,13 +68,7 @@ rowReading-gives m tb n wb = by-run (rowReading m tb n wb) refl
         record { count = readBy-count (readItem (wordsOf tb)) fresh n (stream wb) is u (got .read); room = got .given .room }
     by-run (stop k at u) e = tt
 
--- ---- an unpacking that is done: the items and bits of its reading, and what it left
-pub record Accepts (tb wb : List ℕ) (n : ℕ) (m : List ℕ) : Type 0 where
-  pub items : List Item
-  pub used : ℕ
-  pub reads : Reads (lent (length m)) tb n wb items used
-  pub left : unpacked tb wb n m ≡ wrote used (pixelBytes (pixelsOf fresh items)) m
-
+-- ---- an unpacking that is done
 module _ (tb wb : List ℕ) (n : ℕ) (m : List ℕ) where
   -- a refusal's number is never 0
   by-run : (x : Run) → rowReading (lent (length m)) tb n wb ≡ x → StopIn (λ e. 0 < e) x → runNumber x ≡ 0 → Accepts tb wb n m
@@ -86,15 +82,37 @@ module _ (tb wb : List ℕ) (n : ℕ) (m : List ℕ) where
       by-run (rowReading (lent (length m)) tb n wb) refl (rowReading-stops (lent (length m)) tb n wb)
       (sym (unpacked-number tb wb n m) ∙ h)
 
--- its count is the sum of the items' lengths, and the bits that it used
+-- and where a row is read, unpacking is done
+pub unpacked-reads : (tb wb : List ℕ) (n : ℕ) (m : List ℕ) (is : List Item) (u : ℕ) → Reads (lent (length m)) tb n wb is u
+    → unpacked tb wb n m ≡ wrote u (pixelBytes (pixelsOf fresh is)) m
+unfolding unpacked rowReading
+unpacked-reads tb wb n m is u got =
+    rw (firstNumber-readable (lent (length m)) tb n (got .given), got .read, got .clean)
+
+-- its items stand in the words, and fit; its count is the bits of them, and the bits that it used; and its pixels are those
+-- that they stand for
+any-false-below : (ps : List ℕ) → any (ltb 4095) ps ≡ false → Below 65536 ps
+any-false-below [] e = below-nil (omega arith)
+any-false-below (p ∷ ps) e =
+    let most = ltb-false 4095 p (any-false-head (ltb 4095) p ps e) in
+    below-cons (omega arith) (any-false-below ps (any-false-tail (ltb 4095) p ps e))
+
 module _ (tb wb : List ℕ) (n : ℕ) (m : List ℕ) (got : Accepts tb wb n m) where
-  pub unpacked-count : unpacked tb wb n m .answer .count ≡ length (bits (wordsOf tb) (got .items))
-  unpacked-count =
-      let ok = accepted (wordsOf tb) (tableNumber-verdict tb (got .reads .given .table)) in
-      let there = readItems-stands (wordsOf tb) ok n (stream wb) (got .items) (got .used) (below-flat 8 _) (got .reads .read) in
-      rw (got .left) (there .front .size)
+  pub unpacked-stands : RunStands (wordsOf tb) fresh n (stream wb) (got .items) (unpacked tb wb n m .answer .count)
+  unpacked-stands =
+      let ok = accepted-table tb (got .reads .given .table) in
+      rw (got .left)
+      (readItems-stands (wordsOf tb) ok n (stream wb) (got .items) (got .used) (below-flat 8 _) (got .reads .read))
 
   pub bitsUsed-count : bitsUsed tb wb n m ≡ unpacked tb wb n m .answer .count
   bitsUsed-count =
       let first = firstNumber-readable (lent (length m)) tb n (got .reads .given) in
       rw (got .left) (bitsUsed-run tb wb n m first ∙ rw (got .reads .read))
+
+  pub pixels-left : halvesOf (take (2 * n) (unpacked tb wb n m .memory)) ≡ pixelsOf fresh (got .items)
+  pixels-left =
+      let ps = pixelsOf fresh (got .items) in
+      let size : length (pixelsOf fresh (got .items)) ≡ n = length-pixelsOf fresh (got .items) ∙ unpacked-stands .count in
+      let low = any-false-below ps (any-pixelsOf (wordsOf tb) fresh (got .items) (unpacked-stands .fits)) in
+      rw (got .left, size, take-at (bytesOf (2 * n) (flat 16 ps)) _ (2 * n) (length-cut 8 (2 * n) (flat 16 ps)))
+      (halvesOf-bytesOf n ps size low)

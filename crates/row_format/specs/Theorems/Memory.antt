@@ -1,6 +1,6 @@
 -- Demand 1 of packing and unpacking: a refused call leaves the lent memory as found, and a done one writes only the words or
 -- pixels that it counts. Assumes nothing.
-use Prim.Native.Nat.{ℕ, zero, suc, _*_, _/_, _≤_}
+use Prim.Native.Nat.{ℕ, zero, suc, _*_, _/_}
 use native.Mathlib.Omega.{arith}
 use mathlib.Core.Path.{_≡_, refl, ap, _∙_}
 use mathlib.Core.List.{List}

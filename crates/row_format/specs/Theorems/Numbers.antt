@@ -1,13 +1,13 @@
 -- Demand 1: packing and unpacking answer a number from document 01, and only those that it lists for the call. Each law is
 -- over any property P that these numbers have. Assumes nothing.
-use Prim.Native.Nat.{ℕ, zero, suc, _*_, _%_, _<_}
+use Prim.Native.Nat.{ℕ, zero, suc, _*_, _/_, _%_, _<_}
 use native.Mathlib.Omega.{arith}
 use mathlib.Core.Path.{_≡_, subst}
 use mathlib.Core.List.{List}
 use lib.ListN.{length, drop}
 use lib.Dec.{ltb, eqb}
-use Rattle.bitstream.specs.Bits.{wordsOf, stream, wordsFor}
-use Rattle.answer.specs.Outcome.{refuseIf, Lent, roomNumber}
+use Rattle.bitstream.specs.Bits.{wordsOf, halvesOf, stream, wordsFor}
+use Rattle.answer.specs.Outcome.{refuseIf, Lent, lent, roomNumber}
 use Rattle.answer.specs.Outcome.Laws.{refuseIf-in, orElse-in, unless-in}
 use Rattle.row_format.specs.Lists.{any}
 use Rattle.row_format.specs.Lists.Laws.{by-test}
@@ -15,7 +15,8 @@ use Rattle.row_format.specs.Table.{wrongSize, wrongCodeword, clash, code
 use Rattle.row_format.specs.Row.{Item, State, fresh, after, rowBits, tooMany}
 use Rattle.row_format.specs.Reading.Laws.{unmatched-cases, rawHeight-cases, matched-cases}
 use Rattle.row_format.specs.Reading.{Match, none, found, find, Reading, item, fault, matched, taken, readItem, Run, done, stop, runNumber, prepend, follow, readBy, readItems, stray, withoutStray, firstNumber, rowReading}
-use Rattle.row_format.specs.Calls.{packNumber}
+use Rattle.row_format.specs.Calls.{checked, packNumber, packed, unpacked, room}
+use Rattle.row_format.specs.Calls.Laws.{checked-number, room-number, packed-number, unpacked-number}
 
 module _ (P : ℕ → Type 0) where
   pub tableNumber-in : (b : List ℕ) → P 0 → P 1 → P 2 → P 3 → P (tableNumber b)
@@ -27,7 +28,15 @@ module _ (P : ℕ → Type 0) where
       (λ d. rw d (by-test (wrongCodeword t) (λ c. rw c p2) (λ c. rw c (refuseIf-in P (clash (codewords t)) 3 p0 p3))))))
       (λ e. rw e p1)
 
-  pub packNumber-in : (tb ps : List ℕ) (roomWords : ℕ) → P 0 → P 1 → P 2 → P 3 → P 11 → P 4 → P 5
+  pub checked-in : (tb : List ℕ) → P 0 → P 1 → P 2 → P 3 → P (checked tb .number)
+  checked-in tb p0 p1 p2 p3 = rw (checked-number tb) (tableNumber-in tb p0 p1 p2 p3)
+
+  pub room-in : (tb : List ℕ) (n : ℕ) → P 0 → P 1 → P 2 → P 3 → P 11 → P (room tb n .number)
+  room-in tb n p0 p1 p2 p3 p11 =
+      rw (room-number tb n)
+      (orElse-in P (tableNumber tb) _ (tableNumber-in tb p0 p1 p2 p3) (refuseIf-in P (ltb 4096 n) 11 p0 p11))
+
+  packNumber-in : (tb ps : List ℕ) (roomWords : ℕ) → P 0 → P 1 → P 2 → P 3 → P 11 → P 4 → P 5
       → P (packNumber tb ps roomWords)
   unfolding packNumber
   packNumber-in tb ps roomWords p0 p1 p2 p3 p11 p4 p5 =
@@ -35,6 +44,10 @@ module _ (P : ℕ → Type 0) where
       (orElse-in P (tooMany (length ps)) _ (refuseIf-in P (ltb 4096 (length ps)) 11 p0 p11)
       (orElse-in P (refuseIf (any (ltb 4095) ps) 4) _ (refuseIf-in P (any (ltb 4095) ps) 4 p0 p4)
       (refuseIf-in P (ltb roomWords (wordsFor (length (rowBits (wordsOf tb) ps)))) 5 p0 p5)))
+
+  pub packed-in : (tb pb m : List ℕ) → P 0 → P 1 → P 2 → P 3 → P 11 → P 4 → P 5 → P (packed tb pb m .answer .number)
+  packed-in tb pb m p0 p1 p2 p3 p11 p4 p5 =
+      rw (packed-number tb pb m) (packNumber-in tb (halvesOf pb) (length m / 4) p0 p1 p2 p3 p11 p4 p5)
 
   -- ---- reading
   abbrev pub FaultIn : Reading → Type 0
@@ -105,6 +118,12 @@ module _ (P : ℕ → Type 0) where
   rowReading-number-in m tb n wb p0 p1 p2 p3 p11 room p6 p7 p8 p9 p10 =
       let first = firstNumber-in m tb n p0 p1 p2 p3 p11 room in
       runNumber-in (rowReading m tb n wb) p0 (rowReading-in p6 p7 p8 p9 m tb n wb p10 (λ k e. subst P e first))
+
+  pub unpacked-in : (tb wb : List ℕ) (n : ℕ) (m : List ℕ)
+      → P 0 → P 1 → P 2 → P 3 → P 11 → P 5 → P 6 → P 7 → P 8 → P 9 → P 10 → P (unpacked tb wb n m .answer .number)
+  unpacked-in tb wb n m p0 p1 p2 p3 p11 p5 p6 p7 p8 p9 p10 =
+      let room = refuseIf-in P (ltb (length m) (2 * n)) 5 p0 p5 in
+      rw (unpacked-number tb wb n m) (rowReading-number-in (lent (length m)) tb n wb p0 p1 p2 p3 p11 room p6 p7 p8 p9 p10)
 
 -- a reading that stops does so by a number other than 0
 pub rowReading-stops : (m : Lent) (tb : List ℕ) (n : ℕ) (wb : List ℕ) → StopIn (λ e. 0 < e) (rowReading m tb n wb)

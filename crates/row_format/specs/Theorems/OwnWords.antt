@@ -1,102 +1,33 @@
 -- Document 01: "The used words of an accepted reading are the very words packing would write exactly when no raw item was
 -- needless". Assumes nothing.
-use Prim.Native.Nat.{ℕ, _+_, _-_, _*_, _/_, _≤_}
+use Prim.Native.Nat.{ℕ, _+_, _-_, _*_, _≤_}
 use native.Mathlib.Omega.{arith}
 use mathlib.Core.Path.{_≡_, refl, sym, ap, _∙_}
-use mathlib.Core.Bool.{false, not}
+use mathlib.Core.Bool.{false}
 use mathlib.Core.List.{List, [], _∷_, _++_}
 use mathlib.Core.Logic.{_↔_}
 use lib.ListN.{length, take, drop, replicate, length-drop, length-append}
-use lib.Seq.{length-take-le, take-append-add, take-at}
-use lib.Dec.{ltb, eqb}
-use borrow.Author.Tests.{le-ltb, ltb-false, eqb-false, ne-eqb, not-false}
-use Rattle.bitstream.specs.Bits.{flat, bitsOf, bytesOf, wordsOf, halvesOf, stream, wordsFor}
-use Rattle.bitstream.specs.Bits.Laws.{Below, below-nil, below-cons, below-head, below-tail, below-take, below-drop, below-flat, below-cut, length-cut}
+use lib.Seq.{length-take-le, take-append-add}
+use lib.Dec.{eqb}
+use borrow.Author.Tests.{eqb-false}
+use Rattle.bitstream.specs.Bits.{flat, bitsOf, bytesOf, wordsOf, stream, wordsFor}
+use Rattle.bitstream.specs.Bits.Laws.{Below, below-head, below-tail, below-take, below-drop, below-flat, below-cut, length-cut}
 use Rattle.row_format.specs.Lists.{any}
-use Rattle.row_format.specs.Lists.Laws.{any-false-head, any-false-tail, or-false-left, or-false-right}
+use Rattle.row_format.specs.Lists.Laws.{any-false-head, any-false-tail}
 use Rattle.row_format.specs.BitLaws.{bitsOf-inj, bitsOf-bytesOf, stream-take, length-stream}
-use Rattle.row_format.specs.Table.Laws.{Accepted, accepted-table}
-use Rattle.row_format.specs.Row.{Item, difference, badPixel, badBias, escape, State, fresh, previous, differenceTo, byDifference, itemFor, pixelOf, after, itemsFor, pixelsOf, pixelBytes, bits, rowBits, rowBytes}
-use Rattle.row_format.specs.Reading.{done, readItems, stray, departs, anyDeparts}
-use Rattle.row_format.specs.Calls.{packNumber, packed, unpacked}
-use Rattle.row_format.specs.Calls.Laws.{packed-front}
-use Rattle.row_format.specs.Theorems.Done.{Accepts}
-use Rattle.row_format.specs.Theorems.Items.{Fits, FitAll, reached, after-height, itemFor-right}
-use Rattle.row_format.specs.Theorems.Differences.{pixelOf-differenceTo}
+use Rattle.row_format.specs.Table.{Accepted}
+use Rattle.row_format.specs.Table.Laws.{accepted-table}
+use Rattle.row_format.specs.Row.{Item, fresh, itemsFor, pixelsOf, bits, rowBits, rowBytes}
+use Rattle.row_format.specs.Reading.{done, readItems, stray, anyDeparts}
+use Rattle.row_format.specs.Calls.{packed, unpacked, Accepts}
+use Rattle.row_format.specs.Calls.Laws.{packed-number, packed-front}
+use Rattle.row_format.specs.Theorems.Items.{any-pixelsOf}
+use Rattle.row_format.specs.Theorems.Done.{pixels-left}
+use Rattle.row_format.specs.Theorems.Departures.{itemsFor-pixelsOf, anyDeparts-itemsFor}
 use Rattle.row_format.specs.Theorems.RoundTrip.{readBy-own, readItems-rowBits}
-use Rattle.row_format.specs.Row.Laws.{itemFor-cases, itemFor-escape, length-pixelsOf}
-use Rattle.row_format.specs.Theorems.Words.{below-bits, below-rowBits, halvesOf-bytesOf}
+use Rattle.row_format.specs.Row.Laws.{length-pixelsOf}
+use Rattle.row_format.specs.Theorems.Words.{below-bits, below-rowBits}
 use Rattle.row_format.specs.Theorems.Standing.{RunStands, readItems-stands}
-
--- ---- an item that fits and does not depart is the one that packing gives for its pixel
-itemFor-pixelOf : (t : List ℕ) (s : State) (i : Item) → previous s ≤ 4093 → Fits t s i → departs t s i ≡ false
-    → itemFor t s (pixelOf s i) ≡ i
-unfolding itemFor
-itemFor-pixelOf t s (difference k) height fits e =
-    let to = reached s k (fits .1) in
-    let p = previous s + k - 4093 in
-    let back : differenceTo s (previous s + k - 4093) ≡ k = omega arith in
-    let by = not-false (byDifference t s p) e in
-    rw (ne-eqb p 4095 (λ q. omega arith), ne-eqb p 4094 (λ q. omega arith), by, back)
-itemFor-pixelOf t s badPixel height fits e = refl
-itemFor-pixelOf t s badBias height fits e = refl
-itemFor-pixelOf t s (escape h) height fits e = itemFor-escape t s h (omega arith) e
-
-itemsFor-pixelsOf : (t : List ℕ) (s : State) (is : List Item) → previous s ≤ 4093 → FitAll t s is
-    → anyDeparts t s is ≡ false → itemsFor t s (pixelsOf s is) ≡ is
-unfolding itemsFor pixelsOf anyDeparts
-itemsFor-pixelsOf t s [] height fits e = refl
-itemsFor-pixelsOf t s (i ∷ is) height fits e =
-    let own = or-false-left (departs t s i) (anyDeparts t (after s i) is) e in
-    let rest = or-false-right (departs t s i) (anyDeparts t (after s i) is) e in
-    rw (
-      itemFor-pixelOf t s i height (fits .0) own,
-      itemsFor-pixelsOf t (after s i) is (after-height t s i height (fits .0)) (fits .1) rest,
-    )
-
--- and packing gives no item that departs
-departs-itemFor : (t : List ℕ) (s : State) (p : ℕ) → previous s ≤ 4093 → departs t s (itemFor t s p) ≡ false
-departs-itemFor t s p height =
-    itemFor-cases (λ i. departs t s i ≡ false) t s p (λ e. refl) (λ e. refl)
-    (λ d e has. rw (pixelOf-differenceTo s p height) (ap not has))
-    (λ d e lacks. lacks)
-
-anyDeparts-itemsFor : (t : List ℕ) (s : State) (ps : List ℕ) → previous s ≤ 4093 → any (ltb 4095) ps ≡ false
-    → anyDeparts t s (itemsFor t s ps) ≡ false
-unfolding itemsFor anyDeparts
-anyDeparts-itemsFor t s [] height e = refl
-anyDeparts-itemsFor t s (p ∷ ps) height e =
-    let i = itemFor t s p in
-    let fits = itemFor-right t s p height (ltb-false 4095 p (any-false-head (ltb 4095) p ps e)) .fits in
-    rw (departs-itemFor t s p height)
-    (anyDeparts-itemsFor t (after s i) ps (after-height t s i height fits) (any-false-tail (ltb 4095) p ps e))
-
--- a difference that fits does not depart: a departure is a raw item where "the table has the step"
-pub departs-difference : (t : List ℕ) (s : State) (k : ℕ) → Fits t s (difference k) → departs t s (difference k) ≡ false
-unfolding byDifference
-departs-difference t s k fits =
-    let to = reached s k (fits .1) in
-    let back : differenceTo s (previous s + k - 4093) ≡ k = omega arith in
-    rw (back, fits .0)
-
--- ---- the pixels of items that fit are pixels
-pixelOf-most : (t : List ℕ) (s : State) (i : Item) → Fits t s i → pixelOf s i ≤ 4095
-pixelOf-most t s (difference k) fits = omega (arith, reached s k (fits .1))
-pixelOf-most t s badPixel fits = omega arith
-pixelOf-most t s badBias fits = omega arith
-pixelOf-most t s (escape h) fits = omega arith
-
-pub any-pixelsOf : (t : List ℕ) (s : State) (is : List Item) → FitAll t s is → any (ltb 4095) (pixelsOf s is) ≡ false
-unfolding pixelsOf any
-any-pixelsOf t s [] fits = refl
-any-pixelsOf t s (i ∷ is) fits =
-    rw (le-ltb 4095 (pixelOf s i) (pixelOf-most t s i (fits .0))) (any-pixelsOf t (after s i) is (fits .1))
-
-any-false-below : (ps : List ℕ) → any (ltb 4095) ps ≡ false → Below 65536 ps
-any-false-below [] e = below-nil (omega arith)
-any-false-below (p ∷ ps) e =
-    let most = ltb-false 4095 p (any-false-head (ltb 4095) p ps e) in
-    below-cons (omega arith) (any-false-below ps (any-false-tail (ltb 4095) p ps e))
 
 -- ---- words
 -- bits none of which is 1
@@ -172,25 +103,15 @@ module _ (t : List ℕ) (ok : Accepted t) (wb : List ℕ) (bytes : Below 256 wb)
 
 -- ---- the same of the calls: a done unpacking, and a packing of the pixels that it left
 module _ (tb wb : List ℕ) (n : ℕ) (m : List ℕ) (bytes : Below 256 wb) (got : Accepts tb wb n m) where
-  pixels-left : halvesOf (take (2 * n) (unpacked tb wb n m .memory)) ≡ pixelsOf fresh (got .items)
-  pixels-left =
-      let t = wordsOf tb in
-      let is = got .items in
-      let ps = pixelsOf fresh is in
-      let ok = accepted-table tb (got .reads .given .table) in
-      let there = readItems-stands t ok n (stream wb) is (got .used) (below-flat 8 _) (got .reads .read) in
-      let size : length (pixelsOf fresh (got .items)) ≡ n = length-pixelsOf fresh is ∙ there .count in
-      let low = any-false-below ps (any-pixelsOf t fresh is (there .fits)) in
-      rw (got .left, size, take-at (bytesOf (2 * n) (flat 16 ps)) _ (2 * n) (length-cut 8 (2 * n) (flat 16 ps)))
-      (halvesOf-bytesOf n ps size low)
-
   pub own-words-packed : (mw : List ℕ)
       → let pb = take (2 * n) (unpacked tb wb n m .memory) in
-      packNumber tb (halvesOf pb) (length mw / 4) ≡ 0
+      packed tb pb mw .answer .number ≡ 0
       → (take (4 * wordsFor (unpacked tb wb n m .answer .count)) wb
       ≡ take (4 * wordsFor (packed tb pb mw .answer .count)) (packed tb pb mw .memory))
       ↔ (anyDeparts (wordsOf tb) fresh (got .items) ≡ false)
   own-words-packed mw e =
+      let pb = take (2 * n) (unpacked tb wb n m .memory) in
+      let packs = sym (packed-number tb pb mw) ∙ e in
       let reads = got .reads in
-      rw (packed-front tb (take (2 * n) (unpacked tb wb n m .memory)) mw e, pixels-left, got .left)
+      rw (packed-front tb pb mw packs, pixels-left tb wb n m got, got .left)
       (own-words (wordsOf tb) (accepted-table tb (reads .given .table)) wb bytes n (got .items) (got .used) (reads .read) (reads .clean))

@@ -1,5 +1,5 @@
 -- Demand 3: when a packing is refused for room, and that the room question's answer is always enough. Assumes nothing.
-use Prim.Native.Nat.{ℕ, _*_, _≤_, _<_}
+use Prim.Native.Nat.{ℕ, _*_, _/_, _≤_, _<_}
 use native.Mathlib.Omega.{arith}
 use mathlib.Core.Path.{_≡_, sym, _∙_}
 use mathlib.Core.List.{List}
@@ -7,28 +7,33 @@ use mathlib.Core.Logic.{_↔_}
 use lib.ListN.{length}
 use lib.Dec.{ltb}
 use borrow.Author.Tests.{ltb-true, lt-ltb, le-ltb}
-use Rattle.bitstream.specs.Bits.{wordsOf, wordsFor}
-use Rattle.answer.specs.Outcome.{answerOf}
+use Rattle.bitstream.specs.Bits.{wordsOf, halvesOf, wordsFor}
+use Rattle.answer.specs.Outcome.{answerOf, refuseIf}
 use Rattle.answer.specs.Outcome.Laws.{refuseIf-given}
 use Rattle.row_format.specs.Table.{tableNumber, maxItemBits}
 use Rattle.row_format.specs.Row.{rowBits}
-use Rattle.row_format.specs.Calls.{packNumber, room}
-use Rattle.row_format.specs.Calls.Laws.{Packable, packNumber-packable}
+use Rattle.row_format.specs.Calls.{Packable, packed, room}
+use Rattle.row_format.specs.Calls.Laws.{packed-number, packNumber-packable}
 use Rattle.row_format.specs.Theorems.Bounds.{length-rowBits}
 
 -- 5 exactly when the bits, rounded up to whole words, exceed the words lent
-pub packNumber-five : (tb ps : List ℕ) (roomWords : ℕ) → Packable tb ps
-    → (packNumber tb ps roomWords ≡ 5) ↔ (roomWords < wordsFor (length (rowBits (wordsOf tb) ps)))
-packNumber-five tb ps roomWords ok =
-    let need = wordsFor (length (rowBits (wordsOf tb) ps)) in (
-      λ e. ltb-true roomWords need (refuseIf-given (ltb roomWords need) 4 (sym (packNumber-packable tb ps roomWords ok) ∙ e)),
-      λ h. packNumber-packable tb ps roomWords ok ∙ rw (lt-ltb roomWords need h),
-    )
+module _ (tb pb m : List ℕ) (ok : Packable tb (halvesOf pb)) where
+  -- the number is that of the refusal for room
+  packed-room : packed tb pb m .answer .number
+      ≡ refuseIf (ltb (length m / 4) (wordsFor (length (rowBits (wordsOf tb) (halvesOf pb))))) 5
+  packed-room = packed-number tb pb m ∙ packNumber-packable tb (halvesOf pb) (length m / 4) ok
 
-pub packNumber-done : (tb ps : List ℕ) (roomWords : ℕ) → Packable tb ps
-    → wordsFor (length (rowBits (wordsOf tb) ps)) ≤ roomWords → packNumber tb ps roomWords ≡ 0
-packNumber-done tb ps roomWords ok h =
-    packNumber-packable tb ps roomWords ok ∙ rw (le-ltb roomWords (wordsFor (length (rowBits (wordsOf tb) ps))) h)
+  pub packed-five : (packed tb pb m .answer .number ≡ 5)
+      ↔ (length m / 4 < wordsFor (length (rowBits (wordsOf tb) (halvesOf pb))))
+  packed-five =
+      let words = length m / 4 in
+      let need = wordsFor (length (rowBits (wordsOf tb) (halvesOf pb))) in (
+        λ e. ltb-true words need (refuseIf-given (ltb words need) 4 (sym packed-room ∙ e)),
+        λ h. packed-room ∙ rw (lt-ltb words need h),
+      )
+
+  pub packed-enough : wordsFor (length (rowBits (wordsOf tb) (halvesOf pb))) ≤ length m / 4 → packed tb pb m .answer .number ≡ 0
+  packed-enough h = packed-room ∙ rw (le-ltb (length m / 4) (wordsFor (length (rowBits (wordsOf tb) (halvesOf pb)))) h)
 
 -- the room question's answer
 pub room-done : (tb : List ℕ) (n : ℕ) → tableNumber tb ≡ 0 → n ≤ 4096
@@ -36,8 +41,9 @@ pub room-done : (tb : List ℕ) (n : ℕ) → tableNumber tb ≡ 0 → n ≤ 409
 unfolding room
 room-done tb n ok few = rw (ok, le-ltb 4096 n few)
 
-pub packNumber-room : (tb ps : List ℕ) (roomWords : ℕ) → Packable tb ps → room tb (length ps) .count ≤ roomWords
-    → packNumber tb ps roomWords ≡ 0
-packNumber-room tb ps roomWords ok h =
+pub packed-room-enough : (tb pb m : List ℕ) → Packable tb (halvesOf pb) → room tb (length (halvesOf pb)) .count ≤ length m / 4
+    → packed tb pb m .answer .number ≡ 0
+packed-room-enough tb pb m ok h =
+    let ps = halvesOf pb in
     let enough = rw (room-done tb (length ps) (ok .table) (ok .few)) at h in
-    packNumber-done tb ps roomWords ok (omega (arith, length-rowBits (wordsOf tb) ps))
+    packed-enough tb pb m ok (omega (arith, length-rowBits (wordsOf tb) ps))

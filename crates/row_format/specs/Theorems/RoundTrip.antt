@@ -1,7 +1,7 @@
 -- Demand 2: the row that packing wrote is read back. Assumes nothing.
 use Prim.Native.Nat.{ℕ, _-_, _*_, _/_, _≤_}
 use native.Mathlib.Omega.{arith}
-use mathlib.Core.Path.{_≡_, refl}
+use mathlib.Core.Path.{_≡_, refl, sym, _∙_}
 use mathlib.Core.Bool.{false}
 use mathlib.Core.List.{List, [], _∷_, _++_, append-assoc}
 use lib.ListN.{length, take, drop, replicate, length-append}
@@ -14,14 +14,15 @@ use Rattle.answer.specs.Outcome.{wrote, Lent, lent}
 use Rattle.row_format.specs.Lists.{any}
 use Rattle.row_format.specs.Lists.Laws.{any-false-head, any-false-tail}
 use Rattle.row_format.specs.BitLaws.{stream-bytesOf}
-use Rattle.row_format.specs.Table.Laws.{Accepted, accepted, tableNumber-verdict}
+use Rattle.row_format.specs.Table.{Accepted}
+use Rattle.row_format.specs.Table.Laws.{accepted, tableNumber-verdict}
 use Rattle.row_format.specs.Row.{Item, State, fresh, previous, itemFor, after, itemBits, itemsFor, pixelsOf, bits, rowBits, rowBytes}
-use Rattle.row_format.specs.Reading.{readItem, done, readBy, readItems, rowReading}
-use Rattle.row_format.specs.Reading.Laws.{Readable, firstNumber-readable, lent-room}
-use Rattle.row_format.specs.Calls.{packNumber, packed, unpacked}
-use Rattle.row_format.specs.Calls.Laws.{Packable, packable, packed-done}
+use Rattle.row_format.specs.Reading.{readItem, done, readBy, readItems, rowReading, FitAll, Readable}
+use Rattle.row_format.specs.Reading.Laws.{firstNumber-readable, lent-room}
+use Rattle.row_format.specs.Calls.{packNumber, packed, unpacked, Packable}
+use Rattle.row_format.specs.Calls.Laws.{packed-number, packable, packed-done, packed-front}
 use Rattle.row_format.specs.Row.Laws.{length-itemsFor}
-use Rattle.row_format.specs.Theorems.Items.{FitAll, after-height, readItem-own, itemFor-right}
+use Rattle.row_format.specs.Theorems.Items.{after-height, readItem-own, itemFor-right}
 use Rattle.row_format.specs.Theorems.Words.{below-rowBits, stray-zeros, bytesOf-halvesOf}
 
 -- ---- bits
@@ -96,12 +97,23 @@ unpacked-rowBytes tb pb rest m bytes ok room =
       bytesOf-halvesOf pb bytes,
     )
 
--- the same from the very memory that packing leaves
-pub unpacked-packed : (tb pb m m′ : List ℕ) → Below 256 pb → packNumber tb (halvesOf pb) (length m / 4) ≡ 0
-    → length (halvesOf pb) ≤ length m′ / 2
-    → unpacked tb (packed tb pb m .memory) (length (halvesOf pb)) m′
-    ≡ wrote (packed tb pb m .answer .count) (take (2 * length (halvesOf pb)) pb) m′
-unpacked-packed tb pb m m′ bytes e room =
-    let front = rowBytes (wordsOf tb) (halvesOf pb) in
-    rw (packed-done tb pb m e)
-    (unpacked-rowBytes tb pb (drop (length front) m) m′ bytes (packable tb (halvesOf pb) (length m / 4) e) room)
+-- so too from the words that a done packing wrote, whatever follows them, and from the very memory that it leaves
+module _ (tb pb m : List ℕ) (bytes : Below 256 pb) (packs : packed tb pb m .answer .number ≡ 0) where
+  passed : packNumber tb (halvesOf pb) (length m / 4) ≡ 0
+  passed = sym (packed-number tb pb m) ∙ packs
+
+  pub unpacked-front : (rest m′ : List ℕ) → length (halvesOf pb) ≤ length m′ / 2
+      → let front = take (4 * wordsFor (packed tb pb m .answer .count)) (packed tb pb m .memory) in
+      unpacked tb (front ++ rest) (length (halvesOf pb)) m′
+      ≡ wrote (packed tb pb m .answer .count) (take (2 * length (halvesOf pb)) pb) m′
+  unpacked-front rest m′ room =
+      rw (packed-front tb pb m passed, packed-done tb pb m passed)
+      (unpacked-rowBytes tb pb rest m′ bytes (packable tb (halvesOf pb) (length m / 4) passed) room)
+
+  pub unpacked-packed : (m′ : List ℕ) → length (halvesOf pb) ≤ length m′ / 2
+      → unpacked tb (packed tb pb m .memory) (length (halvesOf pb)) m′
+      ≡ wrote (packed tb pb m .answer .count) (take (2 * length (halvesOf pb)) pb) m′
+  unpacked-packed m′ room =
+      let front = rowBytes (wordsOf tb) (halvesOf pb) in
+      rw (packed-done tb pb m passed)
+      (unpacked-rowBytes tb pb (drop (length front) m) m′ bytes (packable tb (halvesOf pb) (length m / 4) passed) room)

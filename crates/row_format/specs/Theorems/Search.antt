@@ -10,8 +10,8 @@ use Rattle.bitstream.specs.Bits.{begins}
 use Rattle.row_format.specs.Lists.{any}
 use Rattle.row_format.specs.Lists.Laws.{by-test, true-false, any-false-head, any-false-tail, any-false-at}
 use Rattle.row_format.specs.BitLaws.{begins-swap, begins-take}
-use Rattle.row_format.specs.Table.{longest, tableSize, codewords, codewordAt}
-use Rattle.row_format.specs.Table.Laws.{Accepted, getD-codewords, length-codewords-size, codewordAt-only}
+use Rattle.row_format.specs.Table.{longest, tableSize, codewords, codewordAt, Accepted}
+use Rattle.row_format.specs.Table.Laws.{getD-codewords, length-codewords-size, codewordAt-only}
 use Rattle.row_format.specs.Reading.{Match, none, found, later, find}
 
 -- ---- what is found

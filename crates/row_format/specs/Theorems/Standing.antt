@@ -2,20 +2,23 @@
 use Prim.Native.Nat.{ℕ, zero, suc, _+_, _≤_}
 use native.Mathlib.Omega.{arith}
 use mathlib.Core.Path.{_≡_, refl, sym, ap, _∙_, subst}
-use mathlib.Core.Bool.{true}
+use mathlib.Core.Bool.{true, false}
 use mathlib.Core.List.{List, _++_, append-assoc}
 use lib.ListN.{length, take, drop, length-append, length-drop, take-append-drop}
 use lib.Seq.{drop-drop, length-take-le}
+use lib.Dec.{ltb}
 use Rattle.bitstream.specs.Bits.{digits, numOf, begins}
 use Rattle.bitstream.specs.Bits.Laws.{Below, below-take, below-drop, length-digits, digits-numOf}
+use Rattle.row_format.specs.Lists.{any}
 use Rattle.row_format.specs.BitLaws.{begins-drop}
-use Rattle.row_format.specs.Table.{entryDifference, codewords, codewordAt}
-use Rattle.row_format.specs.Table.Laws.{Accepted, getD-codewords, length-codewords-size}
-use Rattle.row_format.specs.Row.{Item, difference, State, fresh, after, itemBits, bits}
+use Rattle.row_format.specs.Table.{entryDifference, codewords, codewordAt, Accepted}
+use Rattle.row_format.specs.Table.Laws.{getD-codewords, length-codewords-size}
+use Rattle.row_format.specs.Row.{Item, difference, State, fresh, after, itemBits, pixelsOf, bits}
+use Rattle.row_format.specs.Row.Laws.{length-pixelsOf}
 use Rattle.row_format.specs.Reading.Laws.{unmatched-cases, rawHeight-cases, matched-cases}
-use Rattle.row_format.specs.Reading.{Match, none, found, find, Reading, item, fault, rawHeight, unmatched, matched, taken, readItem, Run, done, stop, prepend, follow, readBy, readItems}
+use Rattle.row_format.specs.Reading.{Match, none, found, find, Reading, item, fault, rawHeight, unmatched, matched, taken, readItem, Run, done, stop, prepend, follow, readBy, readItems, Fits, FitAll}
+use Rattle.row_format.specs.Theorems.Items.{any-pixelsOf}
 use Rattle.row_format.specs.Theorems.Search.{Found, find-found}
-use Rattle.row_format.specs.Theorems.Items.{Fits, FitAll}
 use Rattle.row_format.specs.Theorems.Differences.{hasDifference-entry, itemBits-entry}
 
 -- ---- one item
@@ -117,3 +120,8 @@ pub readItems-stands : (t : List ℕ) (ok : Accepted t) (n : ℕ) (r : List ℕ)
     → readItems t n r ≡ done is u → RunStands t fresh n r is u
 unfolding readItems
 readItems-stands t ok n r is u bin e = subst (DoneStands t fresh n r) e (readBy-stands t ok fresh n r bin)
+
+-- what was read is a row
+pub stands-pixels : (t : List ℕ) (n : ℕ) (r : List ℕ) (is : List Item) (u : ℕ) → RunStands t fresh n r is u
+    → (length (pixelsOf fresh is) ≡ n) × (any (ltb 4095) (pixelsOf fresh is) ≡ false)
+stands-pixels t n r is u stands = (length-pixelsOf fresh is ∙ stands .count, any-pixelsOf t fresh is (stands .fits))

@@ -9,17 +9,17 @@ use mathlib.Core.List.{List, [], _∷_, _++_}
 use lib.ListN.{length, replicate, length-append, length-replicate}
 use lib.Dec.{ltb}
 use Rattle.row_format.specs.Lists.{any}
-use Rattle.row_format.specs.Table.{tableSize, hasDifference, codewords, codewordAt, longest, escapeLength, maxItemBits}
-use Rattle.row_format.specs.Table.Laws.{Accepted, getD-codewords, length-codewords-size, longest-most}
+use Rattle.row_format.specs.Table.{tableSize, hasDifference, codewords, codewordAt, longest, escapeLength, maxItemBits, Accepted}
+use Rattle.row_format.specs.Table.Laws.{getD-codewords, length-codewords-size, longest-most}
 use Rattle.row_format.specs.Row.{escape, past, byDifference, itemFor, itemBits, itemsFor, bits, rowBits}
 use Rattle.row_format.specs.Theorems.Bounds.{length-itemBits-escape}
 
 -- 4093 and then zeros, n pixels in all
-unfoldable pub steep : ℕ → List ℕ
+unfoldable steep : ℕ → List ℕ
 steep zero = []
 steep (suc n) = 4093 ∷ replicate n 0
 
-pub length-steep : (n : ℕ) → length (steep n) ≡ n
+length-steep : (n : ℕ) → length (steep n) ≡ n
 unfolding steep
 length-steep zero = refl
 length-steep (suc n) = ap suc (length-replicate n 0)
@@ -29,7 +29,7 @@ unfolding any
 any-zeros zero = refl
 any-zeros (suc n) = any-zeros n
 
-pub any-steep : (n : ℕ) → any (ltb 4095) (steep n) ≡ false
+any-steep : (n : ℕ) → any (ltb 4095) (steep n) ≡ false
 unfolding steep any
 any-steep zero = refl
 any-steep (suc n) = any-zeros n
@@ -54,14 +54,20 @@ module _ (t : List ℕ) (no-least : hasDifference t 0 ≡ false) (no-most : hasD
   length-bits-steep (suc n) =
       rw no-most (length-raw 4093 n (bits t (itemsFor t (past 4093) (replicate n 0))) (length-zeros n))
 
-  pub length-rowBits-steep : (n : ℕ) → longest (codewords t) ≤ escapeLength t + 12
+  length-rowBits-steep : (n : ℕ) → longest (codewords t) ≤ escapeLength t + 12
       → length (rowBits t (steep n)) ≡ n * maxItemBits t
   unfolding maxItemBits
   length-rowBits-steep n most = length-bits-steep n ∙ ap (n *_) (sym (max-eq-right most))
 
 -- no string longer than the raw string and its height
-pub longest-escape : (t : List ℕ) (ok : Accepted t)
+longest-escape : (t : List ℕ) (ok : Accepted t)
     → ((j : ℕ) → j < 3 + tableSize t → length (codewordAt t j) ≤ escapeLength t + 12)
     → longest (codewords t) ≤ escapeLength t + 12
 longest-escape t ok most = longest-most (codewords t) (escapeLength t + 12)
     (λ j h. rw (getD-codewords t j) (most j (omega (arith, length-codewords-size t ok))))
+
+pub tight : (t : List ℕ) (ok : Accepted t) → hasDifference t 0 ≡ false → hasDifference t 8186 ≡ false
+    → ((j : ℕ) → j < 3 + tableSize t → length (codewordAt t j) ≤ escapeLength t + 12)
+    → (n : ℕ) → (ps : List ℕ) × (length ps ≡ n) × (any (ltb 4095) ps ≡ false) × (length (rowBits t ps) ≡ n * maxItemBits t)
+tight t ok least most lengths n =
+    (steep n, length-steep n, any-steep n, length-rowBits-steep t least most n (longest-escape t ok lengths))

@@ -12,10 +12,11 @@ use mir.Val.{SFits, toZ, ofZ}
 use mir.Syntax.{w32}
 use Rattle.bitstream.specs.Bits.{digits}
 use Rattle.bitstream.specs.Bits.Laws.{digits-join, length-digits}
-use Rattle.row_format.specs.Table.{lowLimit, tableSize, codeword, codewordAt, signed}
-use Rattle.row_format.specs.Table.Laws.{Accepted, length-codewordAt}
+use Rattle.row_format.specs.Table.{lowLimit, tableSize, codeword, codewordAt, signed, Accepted}
+use Rattle.row_format.specs.Table.Laws.{length-codewordAt}
+use Rattle.row_format.specs.Reading.{Fits}
 use Rattle.row_format.specs.Row as row
-use Rattle.row_format.specs.Theorems.Items.{Fits, entry}
+use Rattle.row_format.specs.Theorems.Items.{entry}
 use Rattle.code_table.specs.Entry.Laws.{Counted, signed-fits, signed-back, sum-fits, sum-count}
 use Rattle.row_item.specs.declared.Item.{Item}
 use Rattle.row_item.specs.declared.Item.the-variants.{Difference, BadPixel, BadBias, Escape}

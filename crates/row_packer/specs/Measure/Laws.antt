@@ -9,8 +9,8 @@ use lib.ListN.{length, getD}
 use lib.Dec.{ltb}
 use borrow.Author.Tests.{le-ltb}
 use Rattle.bitstream.specs.Bits.{halvesOf, wordsFor}
-use Rattle.row_format.specs.Table.{maxItemBits}
-use Rattle.row_format.specs.Table.Laws.{Accepted, maxItemBits-most}
+use Rattle.row_format.specs.Table.{maxItemBits, Accepted}
+use Rattle.row_format.specs.Table.Laws.{maxItemBits-most}
 use Rattle.row_format.specs.Row.{fresh, rowBits}
 use Rattle.row_format.specs.Theorems.Bounds.{length-rowBits}
 use Rattle.row_item.specs.declared.Progress.{Progress}

@@ -17,8 +17,8 @@ use Rattle.row_format.specs.Table.{tableNumber, maxItemBits}
 use Rattle.row_format.specs.Table.Laws.{accepted, tableNumber-verdict, maxItemBits-most}
 use Rattle.row_format.specs.Row as row
 use Rattle.row_format.specs.Row.{pixelsOf, pixelBytes}
-use Rattle.row_format.specs.Reading.{Reading, item, fault, bitsOfReading, Run, done, stop, prepend, readItem, readBy, readItems, stray, withoutStray, rowReading}
-use Rattle.row_format.specs.Reading.Laws.{Readable, firstNumber-readable, lent-room}
+use Rattle.row_format.specs.Reading.{Reading, item, fault, bitsOfReading, Run, done, stop, prepend, readItem, readBy, readItems, stray, withoutStray, rowReading, Readable}
+use Rattle.row_format.specs.Reading.Laws.{firstNumber-readable, lent-room}
 use Rattle.row_format.specs.Calls.{unpacked, rowOutcome}
 use Rattle.row_format.specs.Theorems.Bounds.{readItem-uses}
 use Rattle.row_format.specs.Theorems.Numbers.{FaultIn, readItem-in}

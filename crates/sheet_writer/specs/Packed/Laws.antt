@@ -18,8 +18,8 @@ use Rattle.answer.specs.Outcome as answers
 use Rattle.answer.specs.Outcome.{_orElse_, refuseIf}
 use Rattle.answer.specs.Outcome.Laws.{lessNumber-none, lessNumber-given, orElse-assoc}
 use Rattle.row_format.specs.Row.{rowBits}
-use Rattle.row_format.specs.Calls.{packNumber}
-use Rattle.row_format.specs.Calls.Laws.{Packable, packable, packed-done, packed-number}
+use Rattle.row_format.specs.Calls.{packNumber, Packable}
+use Rattle.row_format.specs.Calls.Laws.{packable, packed-done, packed-number}
 use Rattle.row_format.specs.Theorems.Memory.{packed-kept, packed-within}
 use Rattle.row_format.specs.Table.Laws.{accepted-table}
 use Rattle.row_pixels.specs.Pixels.{length-halves}

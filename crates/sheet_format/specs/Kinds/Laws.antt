@@ -1,9 +1,12 @@
 -- Every kind is lawful: the one split over all kinds. Assumes nothing.
-use Prim.Native.Nat.{ℕ, zero, suc, _≤_, _<_}
+use Prim.Native.Nat.{ℕ, zero, suc, _+_, _≤_, _<_}
 use native.Mathlib.Omega.{arith}
 use mathlib.Core.Path.{_≡_, refl, sym}
-use Rattle.answer.specs.Outcome.Laws.{roomNumber-none, orElse-none}
-use Rattle.sheet_format.specs.Kind.{unknown, aTable}
+use mathlib.Core.Bool.{true}
+use lib.Dec.{eqb}
+use borrow.Author.Tests.{ne-eqb}
+use Rattle.answer.specs.Outcome.Laws.{roomNumber-none}
+use Rattle.sheet_format.specs.Kind.{unknown, aTable, isTable, isRow}
 use Rattle.sheet_format.specs.Kind.Lawful.{Lawful}
 use Rattle.sheet_format.specs.Kind.Table.Laws.{table-lawful}
 use Rattle.sheet_format.specs.Kind.PackedRow.Laws.{packed-lawful}
@@ -65,3 +68,23 @@ kindOf-table (suc (suc zero)) e = absurd (let z : _≡_ {A = ℕ} 0 1 = cc in om
 kindOf-table (suc (suc (suc zero))) e = absurd (let z : _≡_ {A = ℕ} 0 1 = cc in omega arith)
 kindOf-table (suc (suc (suc (suc zero)))) e = absurd (let z : _≡_ {A = ℕ} 0 1 = cc in omega arith)
 kindOf-table (suc (suc (suc (suc (suc k))))) e = absurd (let z : _≡_ {A = ℕ} 0 1 = cc in omega arith)
+
+-- ---- what a kind holds, by its code
+pub isTable-kindOf : (code : ℕ) → isTable (kindOf code .holds) ≡ eqb code 1
+isTable-kindOf zero = refl
+isTable-kindOf (suc zero) = refl
+isTable-kindOf (suc (suc zero)) = refl
+isTable-kindOf (suc (suc (suc zero))) = refl
+isTable-kindOf (suc (suc (suc (suc zero)))) = refl
+isTable-kindOf (suc (suc (suc (suc (suc k))))) = sym (ne-eqb (suc (suc (suc (suc (suc k))))) 1 (λ e. omega arith))
+
+pub isRow-two : (code : ℕ) → code ≡ 2 → isRow (kindOf code .holds) ≡ true
+isRow-two code e = rw e
+
+pub isRow-kindOf : (code : ℕ) → (code ≡ 2 → ⊥) → isRow (kindOf code .holds) ≡ eqb code 3
+isRow-kindOf zero other = refl
+isRow-kindOf (suc zero) other = refl
+isRow-kindOf (suc (suc zero)) other = absurd (other refl)
+isRow-kindOf (suc (suc (suc zero))) other = refl
+isRow-kindOf (suc (suc (suc (suc zero)))) other = refl
+isRow-kindOf (suc (suc (suc (suc (suc k))))) other = sym (ne-eqb (suc (suc (suc (suc (suc k))))) 3 (λ e. omega arith))

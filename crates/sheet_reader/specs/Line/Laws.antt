@@ -36,23 +36,6 @@ use Rattle.sheet_reader.specs.Leaves.{ContentLeaves}
 use Rattle.sheet_reader.specs.Leaves.Laws.{refuses, holds}
 use Rattle.sheet_reader.specs.Line.{lineJudged, Walked, Kept, LineAccepted}
 
--- ---- two's complement as a remainder: v and 2 to the power 32 is the number raised v
-abbrev pub raised : ℤ → ℕ
-raised (pos m) = m + 4294967296
-raised (negsuc m) = 4294967295 - m
-
-pub raised-is : (v : ℤ) → mag v < 2147483648 → v +ℤ pos 4294967296 ≡ pos (raised v)
-raised-is (pos m) h = refl
-raised-is (negsuc m) h = rw (le-ltb 4294967296 (suc m) (omega arith)) (ap pos (omega arith))
-
-pub raised-small : (v : ℤ) → mag v < 2147483648 → raised v < 9223372036854775808
-raised-small (pos m) h = omega arith
-raised-small (negsuc m) h = omega arith
-
-pub raised-word : (v : ℤ) → mag v < 2147483648 → raised v % 4294967296 ≡ wordOf v
-raised-word (pos m) h = omega arith
-raised-word (negsuc m) h = omega arith
-
 -- ---- a pass over the numbers
 -- the next number is read from the rest of the bytes
 read-rest : (s : List ℕ) (at : ℕ) {r : SignedRead} → r ≡ signedRead (partFrom at s) → r ≡ signedRead (drop at s)

@@ -26,26 +26,6 @@ use Rattle.sheet_writer.specs.Number.{Wrote}
 pub held : (v : ℤ) → mag v < 2147483648 → toZ w32 (ofZ w32 v) ≡ v
 held v small = toZ-ofZ (record { sfits = small })
 
--- ---- two's complement: a word above the middle stands for what it is less 2 ^ 32
-pub low-signed : (w : ℕ) → w < 2147483648 → toZ w32 w ≡ signedOf w
-low-signed w low = toZ-pos w32 low ∙ rw (lt-ltb w 2147483648 low)
-
-module _ (w : ℕ) (high : 2147483648 ≤ w) (fits : w < 4294967296) where
-  high-negative : signedOf w ≡ negsuc (4294967295 - w)
-  high-negative = rw (le-ltb w 2147483648 high)
-
-  pub high-signed : toZ w64 w -ℤ pos 4294967296 ≡ signedOf w
-  high-signed =
-      let wide : w < 9223372036854775808 = omega arith in
-      let same : 4294967296 - suc w ≡ 4294967295 - w = omega arith in
-      rw (toZ-pos w64 wide, lt-ltb w 4294967296 fits, high-negative) (ap negsuc same)
-
-  pub high-narrow : SFits w32 (signedOf w)
-  high-narrow = rw high-negative (record { sfits = omega arith })
-
-  pub high-wide : SFits w64 (signedOf w)
-  high-wide = rw high-negative (record { sfits = omega arith })
-
 -- ---- the numbers given
 pub length-given : (c : List ℕ) → length (givenNumbers c) ≡ length c / 4
 length-given c = length-map (wordsOf c) signedOf ∙ length-words c

@@ -1,4 +1,4 @@
--- `sheet_reader::numbers::word_of` meets its contract: the value raised by 2 to the power 32 is no longer negative, and
+-- `word::word_of` meets its contract: the value raised by 2 to the power 32 is no longer negative, and
 -- its remainder is the word. Assumes nothing.
 use native.Mathlib.Nat.{lt-trans}
 use lib.Dec.{lit<}
@@ -7,9 +7,9 @@ use borrow.Author.Needs.{needs}
 use mir.Syntax.{w64}
 use mir.Val.{SFits}
 use mir.Facts.{toZ-ofZ}
-use Rattle.sheet_reader.specs.Line.Laws.{raised, raised-is, raised-small, raised-word}
-use Rattle.sheet_reader.proofs.numbers.word_of.Statement.{statement}
-use Rattle.sheet_reader.proofs.numbers.word_of.Tie as tie
+use Rattle.sheet_format.proofs.word.Laws.{raised, raised-is, raised-small, raised-word}
+use Rattle.sheet_format.proofs.word.word_of.Statement.{statement}
+use Rattle.sheet_format.proofs.word.word_of.Tie as tie
 
 cast-result : tie.Need-cast-result
 cast-result c =

@@ -1,10 +1,10 @@
--- `sheet_writer::number::signed_of` meets its contract: a word below the middle is its own value, any other stands for what
+-- `word::signed_of` meets its contract: a word below the middle is its own value, any other stands for what
 -- it is less 2 ^ 32. Assumes nothing.
 use borrow.Author.Needs.{needs}
 use mir.Facts.{toZ-ofZ}
-use Rattle.sheet_writer.specs.Number.Laws.{low-signed, high-signed, high-wide, high-narrow}
-use Rattle.sheet_writer.proofs.number.signed_of.Statement.{statement}
-use Rattle.sheet_writer.proofs.number.signed_of.Tie as tie
+use Rattle.sheet_format.proofs.word.Laws.{low-signed, high-signed, high-wide, high-narrow}
+use Rattle.sheet_format.proofs.word.signed_of.Statement.{statement}
+use Rattle.sheet_format.proofs.word.signed_of.Tie as tie
 
 cast-result : tie.Need-cast-result
 cast-result c = search needs

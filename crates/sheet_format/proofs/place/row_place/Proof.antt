@@ -1,0 +1,20 @@
+-- `place::row_place` meets its contract: a test for each refusal. Assumes nothing.
+use Rattle.sheet_format.proofs.place.Laws.{row-first, row-not-risen, row-risen}
+use Rattle.sheet_format.proofs.place.row_place.Statement.{statement}
+use Rattle.sheet_format.proofs.place.row_place.Tie as tie
+
+returns : tie.Need-returns
+returns c = λ x is. row-first (c .before .before .args .state) x is _ (c .if1 .taken)
+
+returns-2 : tie.Need-returns-2
+returns-2 c = λ x is.
+    let at-if1 = c .before .before in
+    row-not-risen (at-if1 .before .before .args .state) x is _ (at-if1 .if1 .left) (c .if2 .taken)
+
+returns-3 : tie.Need-returns-3
+returns-3 c = λ x is.
+    let at-if1 = c .before .before in
+    row-risen (at-if1 .before .before .args .state) x is _ (at-if1 .if1 .left) (c .if2 .left)
+
+pub row-place-spec : {M : Type 1} → statement M
+row-place-spec = tie.close (tie.spec returns returns-2 returns-3)

@@ -1,36 +1,38 @@
 -- What judging and reading a record leave: the answer, and the memory lent for the content. Assumes nothing.
 use Prim.Native.Nat.{ℕ, _≤_}
 use mathlib.Core.Path.{_≡_}
-use mathlib.Core.List.{List, []}
+use mathlib.Core.List.{List}
 use lib.ListN.{length}
-use Rattle.answer.specs.Outcome.{_orElse_}
+use Rattle.answer.specs.Outcome.{outcome, writes, _orElse_, unless, nothing, lent}
 use Rattle.sheet_format.specs.declared.SheetState.{SheetState}
 use Rattle.sheet_format.specs.declared.RecordRead.{RecordRead}
-use Rattle.sheet_format.specs.Record.{Kind, tableRecord, kindOf, nothing, lent, kindNumber, contentNumber, recordNumber}
-use Rattle.sheet_format.specs.Reading.{held, contentHeld, recordHeld, recordContent, heldUnless, ReadOutcome, readUnless}
+use Rattle.sheet_format.specs.Context.{Context}
+use Rattle.sheet_format.specs.Kind.{Kind}
+use Rattle.sheet_format.specs.Kind.Table.{tableKind}
+use Rattle.sheet_format.specs.Kinds.{kindOf}
+use Rattle.sheet_format.specs.Record.{contentNumber, recordNumber}
+use Rattle.sheet_format.specs.Reading.{held, recordHeld, recordContent, refusedRecord}
 pub mod Laws
 
-abbrev pub readOutcome : RecordRead → List ℕ → ReadOutcome
-readOutcome a m = record { answer = a; memory = m }
+-- what a reading leaves whose number is e, and which holds a and the content d where that is 0: the answer x, and m′ of the
+-- memory m. st is the state that was given. Where m has less than the room asked for, the record is only judged, and nothing
+-- is said of the memory
+pub record Leaves (e : ℕ) (st : SheetState) (a : RecordRead) (d : List ℕ) (room : ℕ) (m : List ℕ) (x : RecordRead) (m′ : List ℕ) : Type 0 where
+  pub answer : x ≡ unless e (refusedRecord st) a
+  pub memory : room ≤ length m → outcome x m′ ≡ unless e (λ k. outcome (refusedRecord st k) m) (writes a d m)
 
--- what a reading leaves whose number is e, and which holds a and the content c where that is 0: the answer x, and m′ of the
--- memory m. Where m has less than the room asked for, the record is only judged, and nothing is said of the memory
-pub record Leaves (e : ℕ) (st : SheetState) (a : RecordRead) (c : List ℕ) (room : ℕ) (m : List ℕ) (x : RecordRead) (m′ : List ℕ) : Type 0 where
-  pub answer : x ≡ heldUnless e st a
-  pub outcome : room ≤ length m → readOutcome x m′ ≡ readUnless e st m a c
-
--- of the content of a record, its kind known
-pub record ContentLeaves (k : Kind) (room code whole : ℕ) (tb b : List ℕ) (st : SheetState) (m : List ℕ) (x : RecordRead) (m′ : List ℕ) : Type 0 where
-  pub leaves : Leaves (contentNumber k (lent room) tb b st) st (held k code whole tb b st) (contentHeld k tb b) room m x m′
+-- of the content of a record, its kind known, in a sheet that holds c
+pub record ContentLeaves (k : Kind) (room code whole : ℕ) (c : Context) (st : SheetState) (b m : List ℕ) (x : RecordRead) (m′ : List ℕ) : Type 0 where
+  pub leaves : Leaves (contentNumber k (lent room) c b) st (held k code whole c b) (k .content c b) room m x m′
 
 -- of a record, its length known
-pub record BodyLeaves (room code whole : ℕ) (tb b : List ℕ) (st : SheetState) (m : List ℕ) (x : RecordRead) (m′ : List ℕ) : Type 0 where
-  pub leaves : Leaves (kindNumber (kindOf code) orElse contentNumber (kindOf code) (lent room) tb b st) st (held (kindOf code) code whole tb b st) (contentHeld (kindOf code) tb b) room m x m′
+pub record BodyLeaves (room code whole : ℕ) (c : Context) (st : SheetState) (b m : List ℕ) (x : RecordRead) (m′ : List ℕ) : Type 0 where
+  pub leaves : Leaves (kindOf code .readable orElse contentNumber (kindOf code) (lent room) c b) st (held (kindOf code) code whole c b) (kindOf code .content c b) room m x m′
 
 -- of a record
-pub record RecordLeaves (room : ℕ) (tb r : List ℕ) (st : SheetState) (m : List ℕ) (x : RecordRead) (m′ : List ℕ) : Type 0 where
-  pub leaves : Leaves (recordNumber (lent room) tb r st) st (recordHeld tb r st) (recordContent tb r) room m x m′
+pub record RecordLeaves (room : ℕ) (c : Context) (st : SheetState) (r m : List ℕ) (x : RecordRead) (m′ : List ℕ) : Type 0 where
+  pub leaves : Leaves (recordNumber (lent room) c r) st (recordHeld c r) (recordContent c r) room m x m′
 
--- of a table nothing is written, and neither the sheet's table nor room is asked
-abbrev pub tableJudged : ℕ → List ℕ → SheetState → RecordRead
-tableJudged whole b st = heldUnless (contentNumber tableRecord nothing [] b st) st (held tableRecord 1 whole [] b st)
+-- of a table nothing is written, and no room is asked
+abbrev pub tableJudged : ℕ → Context → SheetState → List ℕ → RecordRead
+tableJudged whole c st b = unless (contentNumber tableKind nothing c b) (refusedRecord st) (held tableKind 1 whole c b)

@@ -11,6 +11,7 @@ use sheet_format::refused;
 ghost use mathlib.Core.Path.{_≡_};
 ghost use Prim.Native.Nat.{_≤_};
 ghost use lib.ListN.{length};
+ghost use Rattle.sheet_format.specs.Context.{contextOf};
 ghost use Rattle.sheet_format.specs.Record.{lengthNumber};
 ghost use Rattle.sheet_reader.specs.Leaves.{RecordLeaves, BodyLeaves};
 
@@ -23,7 +24,7 @@ pub fn read(
     room: usize,
     content: &mut [u8],
 ) -> RecordRead
-    ensures { λ r. ⌜ RecordLeaves room (now (table .entry)) (now (sheet .entry)) state (now (content .entry)) r (now (content .exit)) ⌝ }
+    ensures { λ r. ⌜ RecordLeaves room (contextOf (now (table .entry)) state) state (now (sheet .entry)) (now (content .entry)) r (now (content .exit)) ⌝ }
 {
     let number = length_number(sheet);
     if number != 0 {
@@ -67,7 +68,7 @@ fn read_body(
     content: &mut [u8],
 ) -> RecordRead
     requires { ⌜ length (now body) ≤ 32772 ⌝ }
-    ensures { λ r. ⌜ BodyLeaves room kind whole (now (table .entry)) (now (body .entry)) state (now (content .entry)) r (now (content .exit)) ⌝ }
+    ensures { λ r. ⌜ BodyLeaves room kind whole (contextOf (now (table .entry)) state) state (now (body .entry)) (now (content .entry)) r (now (content .exit)) ⌝ }
 {
     match kind {
         1 => read_table(body, whole, state),

@@ -5,13 +5,14 @@ use crate::numbers::keep_numbers;
 use bitstream::number::read_u16;
 use sheet_format::RecordRead;
 use sheet_format::SheetState;
+use sheet_format::place::line_place;
 use sheet_format::refused;
 ghost use mathlib.Core.Path.{_≡_};
-ghost use mathlib.Core.List.{[]};
 ghost use Prim.Native.Nat.{_≤_};
 ghost use lib.ListN.{length};
-ghost use Rattle.answer.specs.Outcome.{_orElse_};
-ghost use Rattle.sheet_format.specs.Record.{lineRecord, numberCount, lent, lineNumber, leftoverNumber, lastRoomNumber};
+ghost use Rattle.answer.specs.Outcome.{lent};
+ghost use Rattle.sheet_format.specs.Context.{Context, stateOf};
+ghost use Rattle.sheet_format.specs.Kind.ContourLine.{numberCount, lineOwn, lineKind};
 ghost use Rattle.sheet_reader.specs.Leaves.{ContentLeaves};
 
 pub fn read_line(
@@ -21,13 +22,14 @@ pub fn read_line(
     room: usize,
     content: &mut [u8],
 ) -> RecordRead
-    ensures { λ r. ⌜ ContentLeaves lineRecord room 4 whole [] (now (body .entry)) state (now (content .entry)) r (now (content .exit)) ⌝ }
+    ensures { λ r. ⌜ ((c : Context) → stateOf c ≡ state → ContentLeaves lineKind room 4 whole c state (now (body .entry)) (now (content .entry)) r (now (content .exit))) ⌝ }
 {
     if body.len() < 2 {
         return refused(14, state);
     }
-    if state.tables == 0 {
-        return refused(16, state);
+    let place = line_place(state);
+    if place != 0 {
+        return refused(place, state);
     }
     let count = read_u16(body, 0);
     let number = numbers_number(body, count, room);
@@ -43,7 +45,7 @@ pub fn read_line(
 fn numbers_number(body: &[u8], count: u32, room: usize) -> u32
     requires { ⌜ 2 ≤ length (now body) ⌝ }
     requires { ⌜ count ≡ numberCount (now body) ⌝ }
-    ensures { λ r. ⌜ r ≡ lineNumber (now (body .entry)) orElse leftoverNumber lineRecord [] (now (body .entry)) orElse lastRoomNumber lineRecord (lent room) (now (body .entry)) ⌝ }
+    ensures { λ r. ⌜ ((c : Context) → r ≡ lineOwn (lent room) c (now (body .entry))) ⌝ }
 {
     if 4096 < count {
         return 11;

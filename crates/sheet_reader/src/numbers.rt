@@ -1,13 +1,13 @@
 // The numbers of a line, one after another: two passes, since a refusal leaves the lent memory as it was.
 use adaptive::read_signed;
 use bitstream::number::put_u32;
+use sheet_format::word::word_of;
 ghost use mathlib.Core.Path.{_≡_};
 ghost use mathlib.Core.List.{_++_};
 ghost use Prim.Native.Nat.{_*_, _≤_};
 ghost use lib.ListN.{length, drop};
-ghost use Rattle.sheet_format.specs.Line.{readLine, wordOf};
-ghost use Rattle.sheet_format.specs.Record.{faultNumber};
-ghost use Rattle.sheet_format.specs.Reading.{numberBytes};
+ghost use Rattle.sheet_format.specs.Line.{readLine};
+ghost use Rattle.sheet_format.specs.Kind.ContourLine.{faultNumber, numberBytes};
 ghost use Rattle.sheet_reader.specs.Line.{lineJudged};
 
 // number   12 or 13 at the earliest number that is faulty, else 0
@@ -58,11 +58,4 @@ pub fn keep_numbers(line: &[u8], count: usize, room: usize, content: &mut [u8])
         at += read.used as usize;
         i += 1;
     }
-}
-
-// Two's complement in 32 bits: the remainder by 2 to the power 32, which is added first so that nothing is negative.
-fn word_of(v: i32) -> u32
-    ensures { λ r. ⌜ r ≡ wordOf v ⌝ }
-{
-    ((v as i64 + 4294967296) as u64 % 4294967296) as u32
 }

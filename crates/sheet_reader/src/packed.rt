@@ -1,17 +1,19 @@
 // A packed row in a record.
 use crate::answers::held;
 use crate::keep::keep;
-use crate::row::after_row;
 use crate::row::row_fields;
 use answer::Answer;
 use row_unpacker::unpack::unpack;
 use sheet_format::RecordRead;
 use sheet_format::SheetState;
+use sheet_format::place::after_row;
 use sheet_format::refused;
 ghost use mathlib.Core.Path.{_≡_};
 ghost use Prim.Native.Nat.{_≤_, min};
 ghost use lib.ListN.{length};
-ghost use Rattle.sheet_format.specs.Record.{packedRecord, pixelCount};
+ghost use Rattle.sheet_format.specs.Context.{contextOf};
+ghost use Rattle.sheet_format.specs.Kind.Row.{pixelCount};
+ghost use Rattle.sheet_format.specs.Kind.PackedRow.{packedKind};
 ghost use Rattle.sheet_reader.specs.Leaves.{ContentLeaves};
 ghost use Rattle.sheet_reader.specs.Packed.{RowRead};
 
@@ -28,7 +30,7 @@ pub fn read_packed(
     room: usize,
     content: &mut [u8],
 ) -> RecordRead
-    ensures { λ r. ⌜ ContentLeaves packedRecord room 2 whole (now (table .entry)) (now (body .entry)) state (now (content .entry)) r (now (content .exit)) ⌝ }
+    ensures { λ r. ⌜ ContentLeaves packedKind room 2 whole (contextOf (now (table .entry)) state) state (now (body .entry)) (now (content .entry)) r (now (content .exit)) ⌝ }
 {
     // a missing field is 14 too, so that the order of the two does not matter
     if body.len() % 4 != 0 {

@@ -1,18 +1,19 @@
 // A plain row in a record: two bytes a pixel, unpacked.
 use crate::answers::held;
 use crate::keep::keep;
-use crate::row::after_row;
 use crate::row::row_fields;
 use row_pixels::any_above;
 use sheet_format::RecordRead;
 use sheet_format::SheetState;
+use sheet_format::place::after_row;
 use sheet_format::refused;
 ghost use mathlib.Core.Path.{_≡_};
-ghost use mathlib.Core.List.{[]};
 ghost use Prim.Native.Nat.{_≤_};
 ghost use lib.ListN.{length};
-ghost use Rattle.answer.specs.Outcome.{_orElse_};
-ghost use Rattle.sheet_format.specs.Record.{plainRecord, pixelCount, lent, plainNumber, lastRoomNumber};
+ghost use Rattle.answer.specs.Outcome.{lent};
+ghost use Rattle.sheet_format.specs.Context.{Context, stateOf};
+ghost use Rattle.sheet_format.specs.Kind.Row.{pixelCount};
+ghost use Rattle.sheet_format.specs.Kind.PlainRow.{plainOwn, plainKind};
 ghost use Rattle.sheet_reader.specs.Leaves.{ContentLeaves};
 
 pub fn read_plain(
@@ -22,7 +23,7 @@ pub fn read_plain(
     room: usize,
     content: &mut [u8],
 ) -> RecordRead
-    ensures { λ r. ⌜ ContentLeaves plainRecord room 3 whole [] (now (body .entry)) state (now (content .entry)) r (now (content .exit)) ⌝ }
+    ensures { λ r. ⌜ ((c : Context) → stateOf c ≡ state → ContentLeaves plainKind room 3 whole c state (now (body .entry)) (now (content .entry)) r (now (content .exit))) ⌝ }
 {
     let fields = row_fields(body, state);
     let wrong = fields.number;
@@ -44,7 +45,7 @@ pub fn read_plain(
 fn pixels_number(body: &[u8], count: u32, room: usize) -> u32
     requires { ⌜ 4 ≤ length (now body) ⌝ }
     requires { ⌜ count ≡ pixelCount (now body) ⌝ }
-    ensures { λ r. ⌜ r ≡ plainNumber (now (body .entry)) orElse lastRoomNumber plainRecord (lent room) (now (body .entry)) ⌝ }
+    ensures { λ r. ⌜ ((c : Context) → r ≡ plainOwn (lent room) c (now (body .entry))) ⌝ }
 {
     if 4096 < count {
         return 11;

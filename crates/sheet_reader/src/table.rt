@@ -3,32 +3,32 @@ use crate::answers::held;
 use row_unpacker::unpack::unpack;
 use sheet_format::RecordRead;
 use sheet_format::SheetState;
+use sheet_format::place::after_table;
+use sheet_format::place::table_place;
 use sheet_format::refused;
 ghost use mathlib.Core.Path.{_≡_};
 ghost use Prim.Native.Nat.{_≤_};
 ghost use lib.ListN.{length};
 ghost use Rattle.row_format.specs.Table.{tableNumber};
+ghost use Rattle.sheet_format.specs.Context.{Context, stateOf};
 ghost use Rattle.sheet_reader.specs.Leaves.{tableJudged};
 
 pub fn read_table(body: &[u8], whole: u32, state: SheetState) -> RecordRead
     requires { ⌜ length (now body) ≤ 32772 ⌝ }
-    ensures { λ r. ⌜ r ≡ tableJudged whole (now (body .entry)) state ⌝ }
+    ensures { λ r. ⌜ ((c : Context) → stateOf c ≡ state → r ≡ tableJudged whole c state (now (body .entry))) ⌝ }
 {
     if body.len() % 4 != 0 {
         return refused(14, state);
     }
-    if state.tables != 0 {
-        return refused(16, state);
+    let place = table_place(state);
+    if place != 0 {
+        return refused(place, state);
     }
     let number = table_number(body);
     if number != 0 {
         return refused(number, state);
     }
-    let after = SheetState {
-        tables: 1,
-        least: state.least,
-    };
-    held(1, 0, (body.len() / 4) as u32, 0, whole, after)
+    held(1, 0, (body.len() / 4) as u32, 0, whole, after_table(state))
 }
 
 // An unpacking of no pixels is refused exactly as its table is. The check is asked for in this way so that its copy of the

@@ -52,7 +52,7 @@ packed-nothing tb pb m none =
     packed-number tb pb m ∙ rw (no-pixels, le-ltb (length m / 4) 0 (omega arith)) (orElse-none (tableNumber tb))
 
 -- the number that an unpacking answers is that of its reading
-rowOutcome-number : (m : List ℕ) (x : Run) → rowOutcome m x .answer .number ≡ runNumber x
+pub rowOutcome-number : (m : List ℕ) (x : Run) → rowOutcome m x .answer .number ≡ runNumber x
 rowOutcome-number m (done is u) = refl
 rowOutcome-number m (stop e at u) = refl
 

@@ -43,6 +43,12 @@ module _ {k : Kind} (L : Lawful k) (c : Context) (b : List ℕ) where
       ∙ orElse-same (L .first c b) _ _ (λ e. rw (lessNumber-none n size 5 (omega (arith, L .most c b e))))
       ∙ sym (L .own-parts nothing c b)
 
+  -- the content that passed fills the bytes of its count, and there is room for them
+  pub own-content : (m : Lent) → k .own m c b ≡ 0 → (length (k .content c b) ≡ size) × (roomNumber m size ≡ 0)
+  own-content m e =
+      let room = own-room m e in
+      (L .size c b (sym (own-granted m room) ∙ e), room)
+
 -- ---- with 16384 bytes lent, judging and reading answer the same
 pub recordNumber-enough : (n : ℕ) → 16384 ≤ n → (c : Context) (r : List ℕ)
     → recordNumber (lent n) c r ≡ recordNumber nothing c r
@@ -102,9 +108,8 @@ module _ (c : Context) (r m : List ℕ) where
   content-bytes e =
       let L = lawful (kindField r) in
       let own = recordNumber-read (lent (length m)) c r e .parts .own in
-      let room = own-room L c (bodyOf r) (lent (length m)) own in
-      let same = L .size c (bodyOf r) (sym (own-granted L c (bodyOf r) (lent (length m)) room) ∙ own) in
-      (same, rw same (lessNumber-zero (length m) _ 4 room))
+      let there = own-content L c (bodyOf r) (lent (length m)) own in
+      (there .0, rw (there .0) (lessNumber-zero (length m) _ 4 (there .1)))
 
   -- what a done reading wrote, and where
   pub recordRead-within : Within (answerBytes (recordRead c r m .answer)) m (recordRead c r m)

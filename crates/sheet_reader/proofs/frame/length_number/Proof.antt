@@ -1,7 +1,7 @@
 -- `sheet_reader::frame::length_number` meets its contract: each refusal is the next of the length's four. Assumes
 -- nothing.
 use borrow.Author.Needs.{needs}
-use Rattle.sheet_reader.specs.Frame.{length-missing, length-small, length-large, length-past, length-right}
+use Rattle.sheet_reader.proofs.frame.Laws.{length-missing, length-small, length-large, length-past, length-right}
 use Rattle.sheet_reader.proofs.frame.length_number.Statement.{statement}
 use Rattle.sheet_reader.proofs.frame.length_number.Tie as tie
 

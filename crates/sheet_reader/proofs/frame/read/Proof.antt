@@ -2,7 +2,7 @@
 -- it. Assumes nothing.
 use native.Mathlib.Omega.{arith}
 use borrow.Author.Needs.{needs}
-use Rattle.sheet_reader.specs.Frame.{number-right, body-short, frame-refuses, frame-leaves}
+use Rattle.sheet_reader.proofs.frame.Laws.{number-right, body-short, frame-refuses, frame-leaves}
 use Rattle.sheet_reader.proofs.frame.read.Statement.{statement}
 use Rattle.sheet_reader.proofs.frame.read.Tie as tie
 

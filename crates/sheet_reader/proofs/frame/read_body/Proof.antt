@@ -1,7 +1,9 @@
 -- `sheet_reader::frame::read_body` meets its contract: each kind goes to its own function, an unknown one is refused 15.
 -- Assumes nothing.
 use borrow.Author.Needs.{needs}
-use Rattle.sheet_reader.specs.Frame.{table-leaves, packed-leaves, plain-leaves, line-leaves, unknown-leaves}
+use Rattle.sheet_format.specs.Context.{contextOf}
+use Rattle.sheet_format.specs.Context.Laws.{stateOf-contextOf}
+use Rattle.sheet_reader.proofs.frame.Laws.{table-leaves, packed-leaves, plain-leaves, line-leaves, unknown-leaves}
 use Rattle.sheet_reader.proofs.frame.read_body.Statement.{statement}
 use Rattle.sheet_reader.proofs.frame.read_body.Tie as tie
 
@@ -21,7 +23,11 @@ refused-requires : tie.Need-refused-requires
 refused-requires c κs = search needs
 
 returns : tie.Need-returns
-returns c = table-leaves (c .before .match .keys1) (c .read-table .ensures)
+returns c =
+    let at-match = c .before in
+    let args = at-match .before .before .before .before .args in
+    table-leaves (at-match .match .keys1)
+    (c .read-table .ensures (contextOf (args .table .now) (args .state)) (stateOf-contextOf (args .table .now) (args .state)))
 
 same-length : tie.Need-same-length
 same-length c = search needs
@@ -33,13 +39,23 @@ same-length-2 : tie.Need-same-length-2
 same-length-2 c = search needs
 
 returns-3 : tie.Need-returns-3
-returns-3 c = plain-leaves (c .before .before .before .before .match .keys3) (c .before .before .read-plain .ensures)
+returns-3 c =
+    let at-match = c .before .before .before .before in
+    let args = at-match .before .before .before .before .args in
+    plain-leaves (at-match .match .keys3)
+    (c .before .before .read-plain .ensures (contextOf (args .table .now) (args .state))
+    (stateOf-contextOf (args .table .now) (args .state)))
 
 same-length-3 : tie.Need-same-length-3
 same-length-3 c = search needs
 
 returns-4 : tie.Need-returns-4
-returns-4 c = line-leaves (c .before .before .before .before .match .keys4) (c .before .before .read-line .ensures)
+returns-4 c =
+    let at-match = c .before .before .before .before in
+    let args = at-match .before .before .before .before .args in
+    line-leaves (at-match .match .keys4)
+    (c .before .before .read-line .ensures (contextOf (args .table .now) (args .state))
+    (stateOf-contextOf (args .table .now) (args .state)))
 
 returns-5 : tie.Need-returns-5
 returns-5 c =

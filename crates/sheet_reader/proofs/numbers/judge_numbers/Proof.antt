@@ -3,8 +3,8 @@
 use Prim.Native.Nat.{_-_}
 use native.Mathlib.Omega.{arith}
 use borrow.Author.Needs.{needs}
-use Rattle.sheet_reader.specs.Line.{Walked}
-use Rattle.sheet_reader.specs.Line.Laws.{walk-start, walk-there, walk-more, walk-fault, walk-judged}
+use Rattle.sheet_reader.proofs.numbers.Laws.{Walked}
+use Rattle.sheet_reader.proofs.numbers.Laws.{walk-start, walk-there, walk-more, walk-fault, walk-judged}
 use Rattle.sheet_reader.proofs.numbers.judge_numbers.Statement.{statement}
 use Rattle.sheet_reader.proofs.numbers.judge_numbers.Tie as tie
 

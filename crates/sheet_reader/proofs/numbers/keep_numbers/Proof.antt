@@ -9,8 +9,8 @@ use mir.Syntax.{w32}
 use mir.Val.{SFits}
 use mir.Facts.{toZ-ofZ}
 use Rattle.sheet_format.specs.Line.{wordOf}
-use Rattle.sheet_reader.specs.Line.{Kept}
-use Rattle.sheet_reader.specs.Line.Laws.{walk-there, keep-start, keep-more, keep-all}
+use Rattle.sheet_reader.proofs.numbers.Laws.{Kept}
+use Rattle.sheet_reader.proofs.numbers.Laws.{walk-there, keep-start, keep-more, keep-all}
 use Rattle.sheet_reader.proofs.numbers.keep_numbers.Statement.{statement}
 use Rattle.sheet_reader.proofs.numbers.keep_numbers.Tie as tie
 

@@ -2,7 +2,7 @@
 -- are kept. Assumes nothing.
 use native.Mathlib.Omega.{arith}
 use borrow.Author.Needs.{needs}
-use Rattle.sheet_reader.specs.Packed.Laws.{packed-not-words, packed-misplaced, packed-refused, packed-accepted, packed-few, packed-fits, packed-held}
+use Rattle.sheet_reader.proofs.packed.Laws.{packed-not-words, packed-misplaced, packed-refused, packed-accepted, packed-few, packed-fits, packed-held}
 use Rattle.sheet_reader.proofs.packed.read_packed.Statement.{statement}
 use Rattle.sheet_reader.proofs.packed.read_packed.Tie as tie
 
@@ -10,7 +10,9 @@ refused-requires : tie.Need-refused-requires
 refused-requires c κs = search needs
 
 returns : tie.Need-returns
-returns c = packed-not-words (c .before .if1 .taken) (c .refused .ensures)
+returns c =
+    let at-if1 = c .before in
+    packed-not-words (at-if1 .before .before .before .before .args .table .now) (at-if1 .if1 .taken) (c .refused .ensures)
 
 row-fields-requires : tie.Need-row-fields-requires
 row-fields-requires c κs = search needs
@@ -22,7 +24,7 @@ returns-2 : tie.Need-returns-2
 returns-2 c =
     let at-row-fields = c .before .before in
     let at-if1 = at-row-fields .before in
-    packed-misplaced (at-if1 .if1 .left) (at-row-fields .row-fields .ensures) (c .refused2 .ensures)
+    packed-misplaced (at-if1 .before .before .before .before .args .table .now) (at-if1 .if1 .left) (at-row-fields .row-fields .ensures) (c .refused2 .ensures)
     (c .before .if2 .taken)
 
 slice-aggregate-unpack-row : tie.Need-slice-aggregate-unpack-row
@@ -43,7 +45,7 @@ returns-3 c =
     let at-if2 = at-unpack-row .before .before in
     let at-row-fields = at-if2 .before in
     let at-if1 = at-row-fields .before in
-    packed-refused (at-if1 .if1 .left) (at-row-fields .row-fields .ensures) (at-if2 .if2 .left)
+    packed-refused (at-if1 .before .before .before .before .args .table .now) (at-if1 .if1 .left) (at-row-fields .row-fields .ensures) (at-if2 .if2 .left)
     (at-unpack-row .unpack-row .ensures) (c .refused3 .ensures) (c .before .if3 .taken)
 
 slice-aggregate-keep : tie.Need-slice-aggregate-keep

@@ -5,7 +5,7 @@ use mathlib.Core.Path.{sym}
 use lib.ListN.{drop}
 use lib.Seq.{length-take-le}
 use borrow.Author.Needs.{needs}
-use Rattle.sheet_reader.specs.Packed.Laws.{unpacked-row, row-refused, row-leftover, row-done}
+use Rattle.sheet_reader.proofs.packed.Laws.{unpacked-row, row-refused, row-leftover, row-done}
 use Rattle.sheet_reader.proofs.packed.unpack_row.Statement.{statement}
 use Rattle.sheet_reader.proofs.packed.unpack_row.Tie as tie
 

@@ -1,7 +1,10 @@
 -- `sheet_reader::plain::read_plain` meets its contract: the fields or the pixels are refused, or the pixels are kept as
 -- they stand. Assumes nothing.
+use mathlib.Core.List.{[]}
 use borrow.Author.Needs.{needs}
-use Rattle.sheet_reader.specs.Plain.Laws.{plain-misplaced, plain-refused, plain-accepted, plain-long, plain-fits, plain-held}
+use Rattle.sheet_format.specs.Context.{contextOf}
+use Rattle.sheet_format.specs.Context.Laws.{stateOf-contextOf}
+use Rattle.sheet_reader.proofs.plain.Laws.{plain-misplaced, plain-refused, plain-accepted, plain-long, plain-fits, plain-held}
 use Rattle.sheet_reader.proofs.plain.read_plain.Statement.{statement}
 use Rattle.sheet_reader.proofs.plain.read_plain.Tie as tie
 
@@ -12,7 +15,8 @@ refused-requires : tie.Need-refused-requires
 refused-requires c κs = search needs
 
 returns : tie.Need-returns
-returns c = plain-misplaced (c .before .before .row-fields .ensures) (c .refused .ensures) (c .before .if1 .taken)
+returns c = λ x shows.
+    plain-misplaced (c .before .before .row-fields .ensures) shows (c .refused .ensures) (c .before .if1 .taken)
 
 pixels-number-requires : tie.Need-pixels-number-requires
 pixels-number-requires c κs =
@@ -23,11 +27,11 @@ refused-requires-2 : tie.Need-refused-requires-2
 refused-requires-2 c κs = search needs
 
 returns-2 : tie.Need-returns-2
-returns-2 c =
+returns-2 c = λ x shows.
     let at-pixels-number = c .before .before in
     let at-if1 = at-pixels-number .before in
     let at-row-fields = at-if1 .before in
-    plain-refused (at-row-fields .row-fields .ensures) (at-if1 .if1 .left) (at-pixels-number .pixels-number .ensures)
+    plain-refused (at-row-fields .row-fields .ensures) shows (at-if1 .if1 .left) (at-pixels-number .pixels-number .ensures x)
     (c .refused2 .ensures) (c .before .if2 .taken)
 
 sub-pixels : tie.Need-sub-pixels
@@ -59,9 +63,10 @@ keep-requires c κs =
     let at-pixels-number = at-if2 .before in
     let at-if1 = at-pixels-number .before in
     let at-row-fields = at-if1 .before in
+    let state = at-row-fields .before .before .before .args .state in
     let accepted =
-    plain-accepted (at-row-fields .row-fields .ensures) (at-if1 .if1 .left) (at-pixels-number .pixels-number .ensures)
-    (at-if2 .if2 .left) in
+    plain-accepted (at-row-fields .row-fields .ensures) (stateOf-contextOf [] state) (at-if1 .if1 .left)
+    (at-pixels-number .pixels-number .ensures (contextOf [] state)) (at-if2 .if2 .left) in
     (plain-long accepted, plain-fits accepted)
 
 after-row-requires : tie.Need-after-row-requires
@@ -78,16 +83,16 @@ same-length : tie.Need-same-length
 same-length c = search needs
 
 returns-3 : tie.Need-returns-3
-returns-3 c =
+returns-3 c = λ x shows.
     let at-keep = c .before .before .before .before in
     let at-if2 = at-keep .before .before .before in
     let at-pixels-number = at-if2 .before in
     let at-if1 = at-pixels-number .before in
     let at-row-fields = at-if1 .before in
     let accepted =
-    plain-accepted (at-row-fields .row-fields .ensures) (at-if1 .if1 .left) (at-pixels-number .pixels-number .ensures)
+    plain-accepted (at-row-fields .row-fields .ensures) shows (at-if1 .if1 .left) (at-pixels-number .pixels-number .ensures x)
     (at-if2 .if2 .left) in
-    plain-held accepted (c .before .after-row .ensures) (c .held .ensures) (at-keep .keep .ensures)
+    plain-held accepted shows (c .before .after-row .ensures) (c .held .ensures) (at-keep .keep .ensures)
 
 pub read-plain-spec : {M : Type 1} → statement M
 read-plain-spec =

@@ -8,3 +8,4 @@ pub mod Reading
 pub mod Writing
 pub mod Sheet
 pub mod Theorems
+pub mod Cases

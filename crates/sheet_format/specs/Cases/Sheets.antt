@@ -1,0 +1,73 @@
+-- A whole sheet, what is read of its records, and sheets that are refused. Assumes nothing.
+use Prim.Native.Nat.{ℕ}
+use mathlib.Core.Path.{_≡_, refl}
+use mathlib.Core.List.{List, [], _∷_, _++_}
+use lib.ListN.{length, replicate}
+use lib.IntN.{pos, negsuc}
+use Rattle.sheet_format.specs.declared.RecordRead.{RecordRead}
+use Rattle.sheet_format.specs.Context.{Context, contextOf}
+use Rattle.sheet_format.specs.Reading.{recordHeld, recordContent, contextAfter, recordJudged, recordRead}
+use Rattle.sheet_format.specs.Sheet.{SheetRead, recordsFrom, sheetRead, absent, present, storedRows, storedLines, heightsOf}
+use Rattle.sheet_format.specs.Cases.{smallTable, begun, reading}
+use Rattle.sheet_format.specs.Cases.Writes.{lineNumbers, tableBytes, packedBytes, plainBytes, contourBytes}
+
+abbrev pub wholeSheet : List ℕ
+wholeSheet = tableBytes ++ (packedBytes ++ (plainBytes ++ contourBytes))
+
+abbrev pub answer : ℕ → ℕ → ℕ → ℕ → ℕ → ℕ → ℕ → RecordRead
+answer kind row count bits words whole least =
+    record {
+      number = 0;
+      kind = kind;
+      row = row;
+      count = count;
+      bits = bits;
+      words = words;
+      length = whole;
+      state = record { tables = 1; least = least };
+    }
+
+abbrev pub wholeRead : SheetRead
+wholeRead = record {
+  number = 0;
+  records =
+      record { answer = answer 1 0 7 0 0 34 0; content = []; bytes = tableBytes } ∷
+      record { answer = answer 2 5 2 4 1 14 6; content = 0 ∷ 0 ∷ 255 ∷ 15 ∷ []; bytes = packedBytes } ∷
+      record { answer = answer 3 9 1 0 0 12 10; content = 255 ∷ 15 ∷ []; bytes = plainBytes } ∷
+      record { answer = answer 4 0 2 0 0 11 10; content = lineNumbers; bytes = contourBytes } ∷ [];
+}
+
+pub sheet-right : sheetRead wholeSheet ≡ wholeRead
+unfolding sheetRead recordsFrom recordJudged recordHeld recordContent contextAfter reading
+sheet-right = refl
+
+-- what its rows and lines store
+pub stored-right :
+    (heightsOf 5 (storedRows (sheetRead wholeSheet .records)) ≡ present (0 ∷ 4095 ∷ []))
+    × (heightsOf 9 (storedRows (sheetRead wholeSheet .records)) ≡ present (4095 ∷ []))
+    × (heightsOf 7 (storedRows (sheetRead wholeSheet .records)) ≡ absent)
+    × (storedLines (sheetRead wholeSheet .records) ≡ (negsuc 0 ∷ pos 64 ∷ []) ∷ [])
+unfolding storedRows storedLines heightsOf sheetRead recordsFrom recordJudged recordHeld recordContent contextAfter reading
+stored-right = (refl, refl, refl, refl)
+
+-- what is read of its last three records, into 9 bytes of 9
+abbrev pub held : Context
+held = contextOf smallTable begun
+
+pub contents-right :
+    (recordRead held packedBytes (replicate 9 9) .memory ≡ 0 ∷ 0 ∷ 255 ∷ 15 ∷ 9 ∷ 9 ∷ 9 ∷ 9 ∷ 9 ∷ [])
+    × (recordRead held plainBytes (replicate 9 9) .memory ≡ 255 ∷ 15 ∷ 9 ∷ 9 ∷ 9 ∷ 9 ∷ 9 ∷ 9 ∷ 9 ∷ [])
+    × (recordRead held contourBytes (replicate 9 9) .memory ≡ lineNumbers ++ (9 ∷ []))
+unfolding recordRead recordHeld recordContent reading
+contents-right = (refl, refl, refl)
+
+-- no bytes at all; one byte; the same row twice, at record 2; one byte too many, at record 4
+abbrev pub refusedAt : List ℕ → List ℕ
+refusedAt s = sheetRead s .number ∷ length (sheetRead s .records) ∷ []
+
+pub refused-right :
+    (refusedAt [] ≡ 16 ∷ 0 ∷ []) × (refusedAt (30 ∷ []) ≡ 14 ∷ 0 ∷ [])
+    × (refusedAt (tableBytes ++ (packedBytes ++ packedBytes)) ≡ 16 ∷ 2 ∷ [])
+    × (refusedAt (wholeSheet ++ (0 ∷ [])) ≡ 14 ∷ 4 ∷ [])
+unfolding sheetRead recordsFrom recordJudged recordHeld contextAfter reading
+refused-right = (refl, refl, refl, refl)

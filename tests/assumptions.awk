@@ -1,6 +1,7 @@
 # Puts a trap in front of what a module of the library lets the compiler assume, as the undefined-behaviour sanitizer does for
-# C: that sums, differences, products and narrowings keep their value, that a shift is below the width, and that some branches
-# are never taken. Every function is marked for the address sanitizer. The last line on standard error has how many.
+# C: that sums, differences, products and narrowings keep their value, that a shift is below the width, that a divisor is not
+# 0, and that some branches are never taken. Every function is marked for the address sanitizer. The last line on standard
+# error has how many.
 function broken(name) { printf "  call void @assumed.broken(i1 %s)\n", name; checks++ }
 
 # %x = add nuw i64 %a, %b
@@ -36,6 +37,12 @@ $2 == "=" && $3 ~ /^(shl|lshr|ashr)$/ {
     if ($4 !~ /^i[0-9]+$/) { print "an assumption of a shift: " $0 > "/dev/stderr"; exit 1 }
     printf "  %s.over = icmp uge %s %s, %d\n", $1, $4, $6, substr($4, 2)
     broken($1 ".over")
+}
+
+# %x = udiv i64 %a, %b
+$2 == "=" && $3 ~ /^[us](div|rem)$/ && $6 ~ /^%/ {
+    printf "  %s.zero = icmp eq %s %s, 0\n", $1, $4, $6
+    broken($1 ".zero")
 }
 
 $1 == "unreachable" { broken("true") }

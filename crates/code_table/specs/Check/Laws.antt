@@ -1,6 +1,6 @@
 -- The laws of the table check's stages. Assumes nothing.
 use Prim.Native.Nat.{ℕ, _+_, _-_, _/_, _%_, _^_, _≤_, _<_, max}
-use native.Mathlib.Nat.{add-comm, max-zero, zero-max, div-eq-of-lt, div-lt-iff-lt-mul, one-mul}
+use native.Mathlib.Nat.{add-comm, max-zero, zero-max}
 use native.Mathlib.Omega.{arith}
 use mathlib.Core.Path.{_≡_, refl, sym, ap, _∙_, subst}
 use mathlib.Core.Bool.{Bool, true, false, cond, not, _||_, or-true, Bool·not-not}
@@ -9,8 +9,7 @@ use lib.ListN.{length, take, drop, getD, set, length-set, length-drop}
 use lib.Seq.{take-suc, take-suc-set, take-all, take-add, getD-drop}
 use native.Mathlib.Numerals.{add-one}
 use lib.Dec.{leb, ltb, eqb}
-use lib.Pow.{pow-pos}
-use borrow.Author.Tests.{lt-leb, le-leb, lt-ltb, le-ltb, eq-eqb, ne-eqb, eqb-true, eqb-false, ltb-true, ltb-false, not-true, not-false}
+use borrow.Author.Tests.{lt-leb, le-leb, lt-ltb, le-ltb, eq-eqb, ne-eqb, eqb-true, eqb-false, not-true, not-false}
 use Rattle.bitstream.specs.Bits.{wordsOf, bitsOf}
 use Rattle.bitstream.specs.Bits.Laws.{length-cut}
 use Rattle.row_format.specs.Lists.Laws.{by-test, true-false, any-append}
@@ -85,18 +84,9 @@ module _ (w : ℕ) where
   unfolding wrongWord
   formed-long g h = rw (le-leb 1 (w % 32) g, lt-leb (w % 32) 27 h)
 
-  -- no bit above n bits: shifted down by n nothing is left
-  shifted-zero : (v n : ℕ) → eqb (v / 2 ^ n) 0 ≡ ltb v (2 ^ n)
-  shifted-zero v n = by-test (ltb v (2 ^ n))
-      (λ e. rw (e, eq-eqb (v / 2 ^ n) 0 (div-eq-of-lt (ltb-true v (2 ^ n) e))))
-      (λ e. rw (e, ne-eqb (v / 2 ^ n) 0 (λ z. not-below e (subst (v <_) (one-mul (2 ^ n)) (div-lt-iff-lt-mul (pow-pos n) .0 (omega arith))))))
-    where
-      not-below : ltb v (2 ^ n) ≡ false → v < 2 ^ n → ⊥
-      not-below e h = omega (arith, ltb-false v (2 ^ n) e)
-
-  pub formed-last : 1 ≤ w % 32 → w % 32 ≤ 27 → eqb (w / 32 / 2 ^ (w % 32)) 0 ≡ not (wrongWord w)
+  pub formed-last : 1 ≤ w % 32 → w % 32 ≤ 27 → ltb (w / 32) (2 ^ (w % 32)) ≡ not (wrongWord w)
   unfolding wrongWord
-  formed-last g h = rw (le-leb 1 (w % 32) g, le-leb (w % 32) 27 h) (shifted-zero (w / 32) (w % 32) ∙ sym (Bool·not-not (ltb (w / 32) (2 ^ (w % 32)))))
+  formed-last g h = rw (le-leb 1 (w % 32) g, le-leb (w % 32) 27 h) (sym (Bool·not-not (ltb (w / 32) (2 ^ (w % 32)))))
 
 longest-snoc : (xs : List ℕ) (w : ℕ) → longest (map codeword (xs ++ (w ∷ []))) ≡ max (longest (map codeword xs)) (w % 32)
 unfolding longest

@@ -18,12 +18,11 @@ use Rattle.text.specs.Text.{ascii, field, decimal}
 use Rattle.text.specs.Text.Laws.{length-decimal}
 use Rattle.text.specs.Lines.{newline, refusedLine}
 use Rattle.table_listing.specs.Order.Once.{length-order}
-use Rattle.table_listing.specs.Strings.{codewordAt-bits}
 use Rattle.table_listing.specs.Line.{line}
 use Rattle.table_listing.specs.Line.Laws.{getD-map, line-most}
 use Rattle.table_listing.specs.declared.Listed.{Listed}
 use Rattle.table_listing.specs.Listing.{treeOrder, linesFor, lines, joined, fitting, Block, block, left}
-use Rattle.table_listing.specs.Listing.Laws.{strings-count, accepted-whole, treeOrder-below, lines-accepted}
+use Rattle.table_listing.specs.Listing.Laws.{strings-count, accepted-whole, treeOrder-below, lines-accepted, codewordAt-bits}
 
 -- ---- one block after the other
 joined-append : (ks ls : List (List ℕ)) → joined (ks ++ ls) ≡ joined ks ++ joined ls

@@ -9,7 +9,8 @@ use Rattle.row_format.specs.Table.{codeword}
 use Rattle.text.specs.Text.{digit}
 use Rattle.text.specs.Put.{Putting}
 use Rattle.text.specs.Put.Laws.{putting-none, putting-more, putting-all}
-use Rattle.table_listing.specs.Line.Laws.{length-bits, getD-bits}
+use Rattle.table_listing.specs.Line.Laws.{length-bits}
+use Rattle.table_listing.proofs.line.Laws.{getD-bits}
 use Rattle.table_listing.proofs.line.put_bits.Statement.{statement}
 use Rattle.table_listing.proofs.line.put_bits.Tie as tie
 

@@ -1,11 +1,10 @@
--- The laws of a table's strings as the tree's strings. Assumes nothing.
+-- The laws of a string's word in a table. Assumes nothing.
 use Prim.Native.Nat.{ℕ, _+_, _/_, _%_, _^_, _≤_, _<_}
 use native.Mathlib.Omega.{arith}
 use mathlib.Core.Path.{_≡_, sym, ap, _∙_}
 use mathlib.Core.List.{List}
 use lib.ListN.{length, getD, List·getD-eq-default}
 use Rattle.bitstream.specs.Bits.{wordsOf}
-use Rattle.bitstream.specs.Bits.Laws.{Below, below-digits}
 use Rattle.row_format.specs.Table.{codeword, codewordAt}
 use Rattle.row_format.specs.Table.Laws.{length-codewordAt}
 use Rattle.prefix_free.specs.Branch.Laws.{getD-codeword}
@@ -16,11 +15,6 @@ use Rattle.table_listing.specs.Order.Laws.{way-ended, way-on}
 -- past the table's end there is no word
 pub word-none : (b : List ℕ) (i : ℕ) → length b / 4 ≤ i → 0 ≡ getD (wordsOf b) i 0
 word-none b i h = sym (List·getD-eq-default (wordsOf b) 0 (omega (arith, length-words b)))
-
--- a string's bits are 0 and 1
-pub codewordAt-bits : (t : List ℕ) (p : ℕ) → Below 2 (codewordAt t p)
-unfolding codewordAt codeword
-codewordAt-bits t p = below-digits (getD t (3 + p) 0 % 32) (getD t (3 + p) 0 / 32)
 
 -- where a string goes, by its word
 module _ (t : List ℕ) (p d w : ℕ) (is : w ≡ getD t (3 + p) 0) where

@@ -1,4 +1,4 @@
--- The laws of a block of lines on the way. Assumes nothing.
+-- A block of lines on the way, and its laws. Assumes nothing.
 use Prim.Native.Nat.{ℕ, suc, _+_, _-_, _≤_, _<_}
 use native.Mathlib.Nat.{zero-add, add-zero}
 use native.Mathlib.Numerals.{add-one}
@@ -10,14 +10,23 @@ use lib.Seq.{take-suc, drop-cons, getD-drop}
 use lib.Dec.{leb}
 use borrow.Author.Tests.{le-leb, lt-leb, leb-true, leb-false}
 use Rattle.row_format.specs.Lists.Laws.{by-test}
+use Rattle.row_format.specs.Table.{codewordAt}
 use Rattle.text.specs.Put.{Put}
 use Rattle.text.specs.Put.Laws.{put-none, put-put}
-use Rattle.text.specs.Text.{ascii, field}
+use Rattle.text.specs.Text.{ascii, field, digit}
 use Rattle.text.specs.Lines.{newline, refusedLine}
-use Rattle.table_listing.specs.Line.{line}
-use Rattle.table_listing.specs.Line.Laws.{getD-map}
 use Rattle.table_listing.specs.Listing.{joined, fitting, blockOf, left}
-use Rattle.table_listing.specs.Fill.{Appended, Filling}
+use Rattle.table_listing.specs.Line.{line, name}
+use Rattle.table_listing.specs.Line.Laws.{getD-map}
+use Rattle.table_listing.specs.Append.{Appended}
+
+-- k of the lines ls stand in the memory, which was m; at is the place after them
+pub record Filling (ls : List (List ℕ)) (m : List ℕ) (k at : ℕ) (m′ : List ℕ) : Type 0 where
+  pub within : k ≤ length ls
+  pub size : length m′ ≡ length m
+  pub room : at ≤ length m
+  pub put : Put m 0 (joined (take k ls)) at m′
+  pub fit : fitting (length m) ls ≡ k + fitting (length m - at) (drop k ls)
 
 -- ---- a line where it fits
 pub append-stays : (m : List ℕ) (at : ℕ) (l : List ℕ) → length m - at < length l → Appended m at l at m
@@ -59,7 +68,13 @@ fitting-stop room l ls h = rw (lt-leb (length l) room h)
 pub filling-none : (ls : List (List ℕ)) (m : List ℕ) → Filling ls m 0 0 m
 filling-none ls m =
     let all : length m - 0 ≡ length m = omega arith in
-    record { within = omega arith; size = refl; room = omega arith; put = unfold joined in put-none m 0; fit = rw all (sym (zero-add (fitting (length m) ls))) }
+    record {
+      within = omega arith;
+      size = refl;
+      room = omega arith;
+      put = unfold joined in put-none m 0;
+      fit = rw all (sym (zero-add (fitting (length m) ls)));
+    }
 
 module _ {ls : List (List ℕ)} {m m′ : List ℕ} {k at : ℕ} (f : Filling ls m k at m′) where
   done : fitting (length m) ls ≡ k → left (record { lines = k; bytes = at }) m′ ≡ blockOf ls m
@@ -80,7 +95,8 @@ module _ {ls : List (List ℕ)} {m m′ : List ℕ} {k at : ℕ} (f : Filling ls
     filling-stop g = done (f .fit ∙ rw (rest, fitting-stop (length m - at) l (drop (suc k) ls) (omega arith)) (add-zero k))
 
     -- it fits
-    pub filling-more : {r : ℕ} {m″ : List ℕ} → at + length l ≤ length m → length m″ ≡ length m → Put m′ at l r m″ → Filling ls m (k + 1) r m″
+    pub filling-more : {r : ℕ} {m″ : List ℕ} → at + length l ≤ length m → length m″ ≡ length m → Put m′ at l r m″
+        → Filling ls m (k + 1) r m″
     filling-more {r} {m″} g size p =
         let left-over : length m - at - length l ≡ length m - r = omega (arith, p .next) in
         record {
@@ -92,7 +108,9 @@ module _ {ls : List (List ℕ)} {m m′ : List ℕ} {k at : ℕ} (f : Filling ls
         }
 
 -- ---- one turn: the next line is put where it fits
-module _ {ls : List (List ℕ)} {m m′ m″ : List ℕ} {k at r : ℕ} (f : Filling ls m k at m′) (l : List ℕ) (h : k < length ls) (is : l ≡ getD ls k []) (some : 1 ≤ length l) (p : Appended m′ at l r m″) where
+module _
+    {ls : List (List ℕ)} {m m′ m″ : List ℕ} {k at r : ℕ} (f : Filling ls m k at m′)
+    (l : List ℕ) (h : k < length ls) (is : l ≡ getD ls k []) (some : 1 ≤ length l) (p : Appended m′ at l r m″) where
   pub turn-stop : r ≡ at → left (record { lines = k; bytes = at }) m″ ≡ blockOf ls m
   turn-stop e =
       let over = stayed-not some p e in
@@ -130,3 +148,8 @@ module _ (l m : List ℕ) (first : ℕ) where
 
     pub alone-fits : length m′ ≡ length m → (r ≡ 0 → ⊥) → left (record { lines = 1; bytes = r }) m′ ≡ blockOf (drop first (l ∷ [])) m
     alone-fits size z = rw start (filling-all (turn-more (filling-none (l ∷ []) m) l (omega arith) refl some p size z) (omega arith))
+
+-- a line is not empty
+pub line-some : (t : List ℕ) (p : ℕ) → 1 ≤ length (line t p)
+unfolding line
+line-some t p = rw (length-append (name t p ++ ascii " " ++ map digit (codewordAt t p)) (ascii "\n")) (omega arith)

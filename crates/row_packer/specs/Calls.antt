@@ -18,7 +18,7 @@ use Rattle.row_format.specs.Row.{rowBits}
 use Rattle.row_format.specs.Calls.{checked, packNumber, packedRow, packed, room}
 use Rattle.row_format.specs.Calls.Laws.{answer-number}
 use Rattle.code_table.specs.Check.Laws.{length-words}
-use Rattle.row_pixels.specs.Pixels.{inside-halves, past-halves}
+use Rattle.row_pixels.specs.Laws.{inside-halves, past-halves}
 use Rattle.row_packer.specs.Write.{Written}
 
 -- ---- the table

@@ -15,7 +15,7 @@ use Rattle.row_format.specs.Row.{fresh, rowBits}
 use Rattle.row_format.specs.Theorems.Bounds.{length-rowBits}
 use Rattle.row_item.specs.declared.Progress.{Progress}
 use Rattle.row_item.specs.Coded.{progress}
-use Rattle.row_pixels.specs.Pixels.{length-halves}
+use Rattle.row_pixels.specs.Laws.{length-halves}
 use Rattle.row_packer.specs.Encode.{Encodes}
 use Rattle.row_packer.specs.Encode.Laws.{sound-progress}
 use Rattle.row_packer.specs.Remaining.{remaining}

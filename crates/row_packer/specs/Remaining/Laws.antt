@@ -8,7 +8,7 @@ use Rattle.bitstream.specs.Bits.Laws.{length-digits}
 use Rattle.row_format.specs.Row.{fresh, itemsFor, bits, rowBits}
 use Rattle.row_item.specs.declared.Progress.{Progress}
 use Rattle.row_item.specs.Coded.{progress}
-use Rattle.row_pixels.specs.Pixels.{drop-more, drop-end}
+use Rattle.row_pixels.specs.Laws.{drop-more, drop-end}
 use Rattle.row_packer.specs.Encode.{Encodes}
 use Rattle.row_packer.specs.Remaining.{remaining}
 use Rattle.row_packer.specs.declared.encode.Encoded.{Encoded}

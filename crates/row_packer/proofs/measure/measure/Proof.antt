@@ -4,7 +4,7 @@ use borrow.Author.Needs.{needs}
 use native.Mathlib.Omega.{arith}
 use Prim.Native.Nat.{_-_}
 use Rattle.bitstream.specs.Bits.{wordsOf, halvesOf}
-use Rattle.row_pixels.specs.Pixels.{inside-halves, past-halves, pixel-most}
+use Rattle.row_pixels.specs.Laws.{inside-halves, past-halves, pixel-most}
 use Rattle.row_packer.specs.Measure.{Measuring}
 use Rattle.row_packer.specs.Measure.Laws.{measuring-none, measuring-more, measured-all}
 use Rattle.row_packer.proofs.measure.measure.Statement.{statement}

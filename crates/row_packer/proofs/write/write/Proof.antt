@@ -5,7 +5,7 @@ use native.Mathlib.Omega.{arith}
 use Prim.Native.Nat.{_-_}
 use mathlib.Core.Path.{refl, _∙_}
 use Rattle.bitstream.specs.Bits.{wordsOf, halvesOf}
-use Rattle.row_pixels.specs.Pixels.{inside-halves, past-halves, pixel-most}
+use Rattle.row_pixels.specs.Laws.{inside-halves, past-halves, pixel-most}
 use Rattle.row_packer.specs.Measure.Laws.{rowBits-most}
 use Rattle.row_packer.specs.Write.{Writing}
 use Rattle.row_packer.specs.Write.Laws.{writing-none, writing-ready, writing-more, written-closable, written-bits, written-all}

@@ -1,15 +1,19 @@
--- The turns of the pass that looks for a pixel above 4095, and its end. Assumes nothing.
+-- What a turn of any_above does, and its end. Assumes nothing.
 use Prim.Native.Nat.{ℕ, _+_, _≤_, _<_}
 use native.Mathlib.Omega.{arith}
 use mathlib.Core.Path.{_≡_, refl, sym, _∙_}
-use mathlib.Core.Bool.{Bool, true, false, or-true, or-false}
+use mathlib.Core.Bool.{Bool, true, false, _||_, or-true, or-false}
 use mathlib.Core.List.{List}
-use lib.ListN.{length, getD}
+use lib.ListN.{length, drop, getD}
 use lib.Dec.{ltb}
 use borrow.Author.Tests.{lt-ltb, le-ltb}
 use Rattle.row_format.specs.Lists.{any}
-use Rattle.row_pixels.specs.Pixels.{drop-more, drop-end}
-use Rattle.row_pixels.specs.Above.{Looking}
+use Rattle.row_pixels.specs.Laws.{drop-more, drop-end}
+
+-- after i pixels: whether one of them is above 4095
+pub record Looking (ps : List ℕ) (above : Bool) (i : ℕ) : Type 0 where
+  pub within : i ≤ length ps
+  pub found : any (ltb 4095) ps ≡ (above || any (ltb 4095) (drop i ps))
 
 pub looking-none : (ps : List ℕ) → Looking ps false 0
 looking-none ps = record { within = omega arith; found = refl }

@@ -11,7 +11,19 @@ use lib.Seq.{take-suc, take-all, length-take-le, take-at, drop-append-add, drop-
 use lib.Dec.{eqb}
 use borrow.Author.Tests.{le-ltb, lt-ltb, not-true}
 use Rattle.bitstream.specs.Bits.{digits, flat, cut, bytesOf, wordsOf, bitsOf}
-use Rattle.bitstream.specs.Bits.Laws.{Below, below-nil, below-cons, below-flat, pad-all, flat-append, length-flat, length-cut, cut-append, cut-flat, flat-cut}
+use Rattle.bitstream.specs.Bits.Laws.{
+  Below,
+  below-nil,
+  below-cons,
+  below-flat,
+  pad-all,
+  flat-append,
+  length-flat,
+  length-cut,
+  cut-append,
+  cut-flat,
+  flat-cut,
+}
 use Rattle.bitstream.specs.Memory.{overwritten}
 use Rattle.bitstream.specs.Memory.Laws.{length-overwritten}
 use Rattle.answer.specs.Outcome.{answerOf, outcome}
@@ -19,8 +31,7 @@ use Rattle.row_format.specs.Lists.{any}
 use Rattle.row_format.specs.Lists.Laws.{and-true-all}
 use Rattle.row_format.specs.Table.{codeword, codewords, wrongSize, wrongWord, wrongCodeword, verdict, tableNumber}
 use Rattle.row_format.specs.Plain.{plainEntries, plainTable, plainBytes}
-use Rattle.prefix_free.specs.Fork.{apart, few, ended, branch}
-use Rattle.prefix_free.specs.Fork.Laws.{apart-clash}
+use Rattle.prefix_free.specs.Branch.Fork.{apart, few, ended, branch, apart-clash}
 use Rattle.code_table.specs.Plain.{wordBytes, Storing, plainLent}
 
 -- ---- acceptance, by one test over all 518 words

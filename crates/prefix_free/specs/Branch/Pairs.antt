@@ -1,12 +1,12 @@
--- The laws of strings of which one begins another. Assumes nothing.
-use Prim.Native.Nat.{ℕ, zero, suc, _<_, _≤_, suc-le-suc}
+-- Strings of which one begins another, pair by pair, and their laws. Assumes nothing.
+use Prim.Native.Nat.{ℕ, zero, suc, _≤_, _<_, suc-le-suc}
 use native.Mathlib.Nat.{le-of-suc-le-suc, not-suc-le-zero, zero-lt-suc}
 use native.Mathlib.Decide.{decLt}
 use native.Mathlib.Omega.{arith}
 use mathlib.Core.Path.{_≡_, refl, sym, _∙_}
-use mathlib.Core.Bool.{true, false, _||_, or-assoc, or-comm, or-false, and-eq-true-iff, false≢true}
+use mathlib.Core.Bool.{Bool, true, false, _||_, or-assoc, or-comm, or-false, and-eq-true-iff, false≢true}
 use mathlib.Core.List.{List, [], _∷_, _++_}
-use lib.ListN.{length, getD, take}
+use lib.ListN.{length, take, getD}
 use lib.Dec.{eqb}
 use borrow.Author.Tests.{eq-eqb, eqb-true}
 use Rattle.bitstream.specs.Bits.{begins}
@@ -14,10 +14,33 @@ use Rattle.row_format.specs.Lists.{any}
 use Rattle.row_format.specs.Table.{clash}
 use Rattle.row_format.specs.Lists.Laws.{or-false-left, any-append, any-false}
 use Rattle.row_format.specs.Table.Laws.{clash-false-at}
-use Rattle.prefix_free.specs.Tests.{or-none, not-true-false, same-test}
-use Rattle.prefix_free.specs.Exchange.{Exchanged}
-use Rattle.prefix_free.specs.Exchange.Laws.{source, moved-lt, moved-apart, exchanged-sym}
-use Rattle.prefix_free.specs.Pairs.{meets, PrefixFree}
+
+-- one of two strings begins the other, or they are equal
+abbrev pub meets : List ℕ → List ℕ → Bool
+meets s u = begins s u || begins u s
+
+-- no string of the list equals or begins another
+pub record PrefixFree (ss : List (List ℕ)) : Type 0 where
+  pub apart : (i j : ℕ) → i < length ss → j < length ss → (i ≡ j → ⊥) → meets (getD ss i []) (getD ss j []) ≡ false
+
+-- ---- truth values
+pub or-none : (a b : Bool) → a ≡ false → b ≡ false → (a || b) ≡ false
+or-none true b p q = p
+or-none false b p q = q
+
+pub not-false-true : (b : Bool) → (b ≡ false → ⊥) → b ≡ true
+not-false-true true h = refl
+not-false-true false h = absurd (h refl)
+
+pub not-true-false : (b : Bool) → (b ≡ true → ⊥) → b ≡ false
+not-true-false true h = absurd (h refl)
+not-true-false false h = refl
+
+-- two tests that fail together are equal
+pub same-test : (a b : Bool) → (a ≡ false → b ≡ false) → (b ≡ false → a ≡ false) → a ≡ b
+same-test true true f g = refl
+same-test true false f g = g refl
+same-test false b f g = sym (f refl)
 
 -- ---- no clash: the strings of each pair are apart
 pub meets-comm : (s u : List ℕ) → meets s u ≡ meets u s
@@ -32,7 +55,8 @@ clash-false-free ss e = record { apart = λ i j hi hj n. either i j hi hj n (dec
         meets-comm (getD ss i []) (getD ss j []) ∙ clash-false-at ss j i e (omega arith) hi
 
 -- with i and j exchanged, the other way round
-pub clash-false-apart : (ss : List (List ℕ)) (i j : ℕ) → clash ss ≡ false → i < length ss → j < length ss → (i ≡ j → ⊥) → begins (getD ss i []) (getD ss j []) ≡ false
+pub clash-false-apart : (ss : List (List ℕ)) (i j : ℕ) → clash ss ≡ false → i < length ss → j < length ss → (i ≡ j → ⊥)
+    → begins (getD ss i []) (getD ss j []) ≡ false
 clash-false-apart ss i j e hi hj n =
     or-false-left (begins (getD ss i []) (getD ss j [])) (begins (getD ss j []) (getD ss i [])) (clash-false-free ss e .apart i j hi hj n)
 
@@ -77,30 +101,12 @@ clash-few [] h = refl
 clash-few (s ∷ []) h = refl
 clash-few (s ∷ u ∷ ss) h = absurd (not-suc-le-zero (le-of-suc-le-suc (le-of-suc-le-suc h)))
 
-pub clash-append : (ss us : List (List ℕ)) → ((i j : ℕ) → i < length ss → j < length us → meets (getD ss i []) (getD us j []) ≡ false) → clash (ss ++ us) ≡ (clash ss || clash us)
+pub clash-append : (ss us : List (List ℕ))
+    → ((i j : ℕ) → i < length ss → j < length us → meets (getD ss i []) (getD us j []) ≡ false)
+    → clash (ss ++ us) ≡ (clash ss || clash us)
 unfolding clash
 clash-append [] us h = refl
 clash-append (s ∷ ss) us h =
     let none : any (meets s) us ≡ false = any-false (meets s) us [] (λ j b. h 0 j (zero-lt-suc (length ss)) b) in
     let rest : clash (ss ++ us) ≡ (clash ss || clash us) = clash-append ss us (λ i j hi hj. h (suc i) j (suc-le-suc hi) hj) in
     rw (any-append (meets s) ss us, none, rest, or-false (any (meets s) ss)) (sym (or-assoc (any (meets s) ss) (clash ss) (clash us)))
-
--- ---- an exchange
-exchanged-free : {a b : ℕ} {ss us : List (List ℕ)} → a < length ss → b < length ss → Exchanged a b [] ss us → PrefixFree ss → PrefixFree us
-exchanged-free {a} {b} {ss} {us} ha hb x h = record { apart = apart }
-  where
-    apart : (i j : ℕ) → i < length us → j < length us → (i ≡ j → ⊥) → meets (getD us i []) (getD us j []) ≡ false
-    apart i j hi hj n =
-        let p = source a b i in
-        let q = source a b j in
-        let long : length us ≡ length ss = x .long in
-        rw (x .from (p .1), x .from (q .1))
-        (h .apart (p .0) (q .0) (moved-lt (length ss) ha hb (omega arith) (p .1)) (moved-lt (length ss) ha hb (omega arith) (q .1))
-        (moved-apart (p .1) (q .1) n))
-
-pub clash-exchanged : {a b : ℕ} {ss us : List (List ℕ)} → a < length ss → b < length ss → Exchanged a b [] ss us → clash us ≡ clash ss
-clash-exchanged {a} {b} {ss} {us} ha hb x =
-    let long : length us ≡ length ss = x .long in
-    same-test (clash us) (clash ss)
-    (λ e. free-clash-false ss (exchanged-free (omega arith) (omega arith) (exchanged-sym a b [] x) (clash-false-free us e)))
-    (λ e. free-clash-false us (exchanged-free ha hb x (clash-false-free ss e)))

@@ -1,12 +1,29 @@
--- The laws of an exchange of two elements. Assumes nothing.
+-- Two elements of a list exchanged, and the laws of an exchange. Assumes nothing.
 use Prim.Native.Nat.{ℕ, _<_}
 use native.Mathlib.Decide.{ℕ-discrete}
 use native.Mathlib.Omega.{arith}
 use mathlib.Core.Path.{_≡_, refl, sym, _∙_}
-use mathlib.Core.List.{List}
+use mathlib.Core.Bool.{false}
+use mathlib.Core.List.{List, []}
 use lib.ListN.{length, getD, set, length-set}
 use lib.Seq.{getD-set-same, getD-set-other, lt-length-set}
-use Rattle.prefix_free.specs.Exchange.{swapped, Moved, up, down, stays, Exchanged}
+use Rattle.row_format.specs.Table.{clash}
+use Rattle.prefix_free.specs.Branch.Pairs.{meets, PrefixFree, same-test, clash-false-free, free-clash-false}
+
+-- a list with the elements at a and b exchanged; d is what is read past its end
+abbrev pub swapped : {A : Type 0} → List A → ℕ → ℕ → A → List A
+swapped l a b d = set (set l a (getD l b d)) b (getD l a d)
+
+-- the place k′ that the element at k comes from when those at a and b are exchanged
+pub data Moved (a b k k′ : ℕ) : Type 0 where
+  up : k ≡ a → k′ ≡ b → Moved a b k k′
+  down : k ≡ b → k′ ≡ a → Moved a b k k′
+  stays : (k ≡ a → ⊥) → (k ≡ b → ⊥) → k′ ≡ k → Moved a b k k′
+
+-- l′ is l with the elements at a and b exchanged
+pub record Exchanged {A : Type 0} (a b : ℕ) (d : A) (l l′ : List A) : Type 0 where
+  pub long : length l′ ≡ length l
+  pub from : {k k′ : ℕ} → Moved a b k k′ → getD l′ k d ≡ getD l k′ d
 
 -- ---- places
 -- each place is filled from one
@@ -62,3 +79,23 @@ module _ {A : Type 0} (a b : ℕ) (d : A) where
 
   pub exchanged-sym : {l l′ : List A} → Exchanged a b d l l′ → Exchanged a b d l′ l
   exchanged-sym x = record { long = sym (x .long); from = λ m. sym (x .from (moved-sym m)) }
+
+-- ---- an exchange
+exchanged-free : {a b : ℕ} {ss us : List (List ℕ)} → a < length ss → b < length ss → Exchanged a b [] ss us → PrefixFree ss → PrefixFree us
+exchanged-free {a} {b} {ss} {us} ha hb x h = record { apart = apart }
+  where
+    apart : (i j : ℕ) → i < length us → j < length us → (i ≡ j → ⊥) → meets (getD us i []) (getD us j []) ≡ false
+    apart i j hi hj n =
+        let p = source a b i in
+        let q = source a b j in
+        let long : length us ≡ length ss = x .long in
+        rw (x .from (p .1), x .from (q .1))
+        (h .apart (p .0) (q .0) (moved-lt (length ss) ha hb (omega arith) (p .1)) (moved-lt (length ss) ha hb (omega arith) (q .1))
+        (moved-apart (p .1) (q .1) n))
+
+pub clash-exchanged : {a b : ℕ} {ss us : List (List ℕ)} → a < length ss → b < length ss → Exchanged a b [] ss us → clash us ≡ clash ss
+clash-exchanged {a} {b} {ss} {us} ha hb x =
+    let long : length us ≡ length ss = x .long in
+    same-test (clash us) (clash ss)
+    (λ e. free-clash-false ss (exchanged-free (omega arith) (omega arith) (exchanged-sym a b [] x) (clash-false-free us e)))
+    (λ e. free-clash-false us (exchanged-free ha hb x (clash-false-free ss e)))

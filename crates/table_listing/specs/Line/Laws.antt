@@ -8,7 +8,7 @@ use lib.Dec.{ltb}
 use lib.IntN.{natAbs}
 use lib.ListN.{length, getD, length-map, length-append}
 use Rattle.text.specs.Text.{ascii, digit}
-use Rattle.text.specs.Text.Signed.{length-integer}
+use Rattle.text.specs.Text.Laws.{length-integer}
 use Rattle.row_format.specs.Lists.Laws.{by-test}
 use Rattle.row_format.specs.Table.{codeword, codewordAt, signed, entryDifference}
 use Rattle.row_format.specs.Table.Laws.{length-codeword}
@@ -32,13 +32,15 @@ unfolding name
 name-most t zero small = omega arith
 name-most t (suc zero) small = omega arith
 name-most t (suc (suc zero)) small = omega arith
-name-most t (suc (suc (suc i))) small = omega (arith, length-integer 3 (signed (entryDifference t i)) (natAbs-signed (entryDifference t i) (small i (omega arith))))
+name-most t (suc (suc (suc i))) small =
+    omega (arith, length-integer 3 (signed (entryDifference t i)) (natAbs-signed (entryDifference t i) (small i (omega arith))))
 
 pub line-most : (t : List ℕ) (p : ℕ) → ((i : ℕ) → p ≡ 3 + i → entryDifference t i ≤ 8186) → length (line t p) ≤ 128
 unfolding line codewordAt
 line-most t p small =
     let w = getD t (3 + p) 0 in
-    let parts : length (name t p ++ ascii " " ++ map digit (codeword w) ++ ascii "\n") ≡ length (name t p) + 1 + length (map digit (codeword w)) + 1 =
+    let parts : length (name t p ++ ascii " " ++ map digit (codeword w) ++ ascii "\n")
+    ≡ length (name t p) + 1 + length (map digit (codeword w)) + 1 =
     length-append (name t p ++ ascii " " ++ map digit (codeword w)) (ascii "\n")
     ∙ ap (_+ 1) (length-append (name t p ++ ascii " ") (map digit (codeword w))
     ∙ ap (_+ length (map digit (codeword w))) (length-append (name t p) (ascii " "))) in

@@ -97,13 +97,19 @@ module _ (s : ℕ → List ℕ) (bits : (p : ℕ) → Below 2 (s p)) where
 
   -- the three picks of a list whose first place goes a known way
   module _ (d p : ℕ) (ps : List ℕ) where
-    to-ends : way d (s p) ≡ 0 → picked s d 0 (p ∷ ps) ++ picked s d 1 (p ∷ ps) ++ picked s d 2 (p ∷ ps) ≡ (p ∷ picked s d 0 ps) ++ picked s d 1 ps ++ picked s d 2 ps
+    to-ends : way d (s p) ≡ 0
+        → picked s d 0 (p ∷ ps) ++ picked s d 1 (p ∷ ps) ++ picked s d 2 (p ∷ ps)
+        ≡ (p ∷ picked s d 0 ps) ++ picked s d 1 ps ++ picked s d 2 ps
     to-ends e = rw (picked-some s d 0 p ps e, picked-other s d 1 p ps (λ q. omega arith), picked-other s d 2 p ps (λ q. omega arith))
 
-    to-zeros : way d (s p) ≡ 1 → picked s d 0 (p ∷ ps) ++ picked s d 1 (p ∷ ps) ++ picked s d 2 (p ∷ ps) ≡ picked s d 0 ps ++ (p ∷ picked s d 1 ps) ++ picked s d 2 ps
+    to-zeros : way d (s p) ≡ 1
+        → picked s d 0 (p ∷ ps) ++ picked s d 1 (p ∷ ps) ++ picked s d 2 (p ∷ ps)
+        ≡ picked s d 0 ps ++ (p ∷ picked s d 1 ps) ++ picked s d 2 ps
     to-zeros e = rw (picked-some s d 1 p ps e, picked-other s d 0 p ps (λ q. omega arith), picked-other s d 2 p ps (λ q. omega arith))
 
-    to-ones : way d (s p) ≡ 2 → picked s d 0 (p ∷ ps) ++ picked s d 1 (p ∷ ps) ++ picked s d 2 (p ∷ ps) ≡ picked s d 0 ps ++ picked s d 1 ps ++ (p ∷ picked s d 2 ps)
+    to-ones : way d (s p) ≡ 2
+        → picked s d 0 (p ∷ ps) ++ picked s d 1 (p ∷ ps) ++ picked s d 2 (p ∷ ps)
+        ≡ picked s d 0 ps ++ picked s d 1 ps ++ (p ∷ picked s d 2 ps)
     to-ones e = rw (picked-some s d 2 p ps e, picked-other s d 0 p ps (λ q. omega arith), picked-other s d 1 p ps (λ q. omega arith))
 
   pub parted-perm : (d : ℕ) (ps : List ℕ) → List·Permᴰ (picked s d 0 ps ++ picked s d 1 ps ++ picked s d 2 ps) ps
@@ -112,7 +118,9 @@ module _ (s : ℕ → List ℕ) (bits : (p : ℕ) → Below 2 (s p)) where
       let rest = List·Permᴰ·cons {a = p} refl (parted-perm d ps) in
       by-three d p
       (λ e. rw (to-ends d p ps e) rest)
-      (λ e. rw (to-zeros d p ps e) (List·Permᴰ·trans (Permᴰ·append-right (picked s d 2 ps) (Permᴰ·middle p (picked s d 0 ps) (picked s d 1 ps))) rest))
+      (λ e.
+      rw (to-zeros d p ps e)
+      (List·Permᴰ·trans (Permᴰ·append-right (picked s d 2 ps) (Permᴰ·middle p (picked s d 0 ps) (picked s d 1 ps))) rest))
       (λ e. rw (to-ones d p ps e) (List·Permᴰ·trans (Permᴰ·middle p (picked s d 0 ps ++ picked s d 1 ps) (picked s d 2 ps)) rest))
 
   -- tree order leaves no place out and adds none
@@ -122,6 +130,7 @@ module _ (s : ℕ → List ℕ) (bits : (p : ℕ) → Below 2 (s p)) where
       rw (order-suc s left d ps)
       (List·Permᴰ·trans
       (List·Permᴰ·trans
-      (Permᴰ·append-right (order s left (suc d) (picked s d 2 ps)) (Permᴰ·append-left (picked s d 0 ps) (order-perm left (suc d) (picked s d 1 ps))))
+      (Permᴰ·append-right (order s left (suc d) (picked s d 2 ps))
+      (Permᴰ·append-left (picked s d 0 ps) (order-perm left (suc d) (picked s d 1 ps))))
       (Permᴰ·append-left (picked s d 0 ps ++ picked s d 1 ps) (order-perm left (suc d) (picked s d 2 ps))))
       (parted-perm d ps))

@@ -1,4 +1,4 @@
--- The laws of signed numbers as text, and of their magnitude as the code has it in an i32. Assumes nothing.
+-- A signed number put, and its magnitude as the code has it in an i32. Assumes nothing.
 use Prim.Native.Nat.{ℕ, suc, _+_, _-_, _^_, _≤_, _<_}
 use native.Mathlib.Omega.{arith}
 use mathlib.Core.Path.{_≡_, ap, _∙_, subst}
@@ -8,14 +8,13 @@ use lib.ListN.{length, set}
 use lib.IntN.{ℤ, pos, negsuc, natAbs, _-ℤ_}
 use lib.Signed.{mag, ltZ, nonNeg}
 use lib.Dec.{T}
+use borrow.Author.Tests.{le-ltb, ltb-true}
 use mir.Val.{Fits, SFits, toZ, ofZ}
 use mir.Syntax.{w32, w64}
 use mir.Facts.{toZ-ofZ}
-use borrow.Author.Tests.{le-ltb, ltb-true}
 use Rattle.text.specs.Put.{Put}
 use Rattle.text.specs.Put.Laws.{put-one, put-put}
 use Rattle.text.specs.Text.{decimal, integer}
-use Rattle.text.specs.Text.Laws.{length-decimal}
 
 -- ---- the text
 negative-text : {m m′ : List ℕ} {at r : ℕ} (z : ℤ) → ltZ z (pos 0) ≡ true → at < length m
@@ -28,12 +27,6 @@ positive-text : {m m′ : List ℕ} {at r : ℕ} (z : ℤ) → ltZ z (pos 0) ≡
 unfolding integer
 positive-text (pos n) e p = p
 positive-text (negsuc n) e p = absurd (let q : _≡_ {A = ℕ} 0 1 = cc in omega arith)
-
--- one byte more than its digits at most
-pub length-integer : (k : ℕ) (z : ℤ) → natAbs z < 10 ^ suc k → length (integer z) ≤ suc (suc k)
-unfolding integer
-length-integer k (pos n) h = omega (arith, length-decimal k n h)
-length-integer k (negsuc n) h = omega (arith, length-decimal k (suc n) h)
 
 -- ---- the opposite of a negative number, less one
 record Opposite (z : ℤ) : Type 0 where
@@ -64,7 +57,7 @@ module _ (z : ℤ) (f : SFits w32 z) where
     less-number : toZ w32 (ofZ w32 (negsuc 0 -ℤ toZ w32 (ofZ w32 z))) ≡ pos (natAbs z - 1)
     less-number = toZ-ofZ less-fits ∙ less-is
 
-    pub less-natural : T (nonNeg (toZ w32 (ofZ w32 (negsuc 0 -ℤ toZ w32 (ofZ w32 z))))) × Fits w64 (natAbs (toZ w32 (ofZ w32 (negsuc 0 -ℤ toZ w32 (ofZ w32 z)))))
+    pub less-natural : let n = toZ w32 (ofZ w32 (negsuc 0 -ℤ toZ w32 (ofZ w32 z))) in T (nonNeg n) × Fits w64 (natAbs n)
     less-natural = rw less-number (tt, record { fits = omega (arith, opposite z (f .sfits) (tested e)) })
 
     pub magnitude-negative : natAbs (toZ w32 (ofZ w32 (negsuc 0 -ℤ toZ w32 (ofZ w32 z)))) + 1 ≡ natAbs z
@@ -73,12 +66,14 @@ module _ (z : ℤ) (f : SFits w32 z) where
     pub magnitude-fits : Fits w64 (natAbs (toZ w32 (ofZ w32 (negsuc 0 -ℤ toZ w32 (ofZ w32 z)))) + 1)
     magnitude-fits = rw magnitude-negative (record { fits = omega (arith, opposite z (f .sfits) (tested e)) })
 
-    pub put-negative : {m m′ : List ℕ} {at r : ℕ} (n : ℕ) → n ≡ natAbs (toZ w32 (ofZ w32 z)) → at < length m → Put (set m at 45) (at + 1) (decimal n) r m′ → Put m at (integer z) r m′
+    pub put-negative : {m m′ : List ℕ} {at r : ℕ} (n : ℕ) → n ≡ natAbs (toZ w32 (ofZ w32 z)) → at < length m
+        → Put (set m at 45) (at + 1) (decimal n) r m′ → Put m at (integer z) r m′
     put-negative n q h p = negative-text z (tested e) h (rw (q, toZ-ofZ f) at p)
 
   module _ (e : ltZ (toZ w32 (ofZ w32 z)) (pos 0) ≡ false) where
     pub positive-natural : T (nonNeg (toZ w32 (ofZ w32 z))) × Fits w64 (natAbs (toZ w32 (ofZ w32 z)))
     positive-natural = rw (toZ-ofZ f) (natural z (f .sfits) (tested e))
 
-    pub put-positive : {m m′ : List ℕ} {at r : ℕ} (n : ℕ) → n ≡ natAbs (toZ w32 (ofZ w32 z)) → Put m at (decimal n) r m′ → Put m at (integer z) r m′
+    pub put-positive : {m m′ : List ℕ} {at r : ℕ} (n : ℕ) → n ≡ natAbs (toZ w32 (ofZ w32 z)) → Put m at (decimal n) r m′
+        → Put m at (integer z) r m′
     put-positive n q p = positive-text z (tested e) (rw (q, toZ-ofZ f) at p)

@@ -16,7 +16,7 @@ use Rattle.bitstream.specs.Bits.{digits, cut, bytesOf}
 use Rattle.bitstream.specs.Bits.Laws.{length-cut}
 use Rattle.bitstream.specs.Memory.{overwritten}
 use Rattle.bitstream.specs.Memory.Laws.{length-overwritten}
-use Rattle.bitstream.specs.Part.{partFrom, part-is}
+use Rattle.bitstream.specs.Memory.Part.{partFrom, part-is}
 use Rattle.answer.specs.Outcome.{_orElse_, refuseIf}
 use Rattle.answer.specs.Outcome.Laws.{lessNumber-zero, orElse-zero-right, given-first, given-next}
 use Rattle.row_format.specs.Calls.{tooMany}

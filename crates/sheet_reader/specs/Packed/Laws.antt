@@ -9,7 +9,7 @@ use lib.ListN.{length, take, drop}
 use lib.Seq.{length-take-le, take-append-seam}
 use borrow.Author.Tests.{lt-ltb, le-ltb}
 use Rattle.bitstream.specs.Bits.{stream, wordsFor}
-use Rattle.bitstream.specs.Part.{partFrom, part-is}
+use Rattle.bitstream.specs.Memory.Part.{partFrom, part-is}
 use Rattle.answer.specs.declared.Answer.{Answer}
 use Rattle.answer.specs.Outcome.{Outcome, outcome, wrote, _orElse_}
 use Rattle.answer.specs.Outcome.Laws.{lessNumber-zero, lessNumber-none, lessNumber-given, unequalNumber-none, unequalNumber-given, orElse-assoc, orElse-none, orElse-zero-left, orElse-zero-right, orElse-same, given-first, given-next}

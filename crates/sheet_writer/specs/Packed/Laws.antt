@@ -12,7 +12,7 @@ use borrow.Author.Tests.{lt-ltb, le-ltb}
 use borrow.Rule.Slice.PartMut.{put-same}
 use Rattle.bitstream.specs.Bits.{halvesOf, wordsOf, wordsFor}
 use Rattle.bitstream.specs.Bits.Laws.{length-cut}
-use Rattle.bitstream.specs.Part.{partFrom, withPart, part-is, part-back}
+use Rattle.bitstream.specs.Memory.Part.{partFrom, withPart, part-is, part-back}
 use Rattle.answer.specs.declared.Answer.{Answer}
 use Rattle.answer.specs.Outcome as answers
 use Rattle.answer.specs.Outcome.{_orElse_, refuseIf}

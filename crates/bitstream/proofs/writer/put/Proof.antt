@@ -1,7 +1,7 @@
 -- `bitstream::writer::put` meets its contract: either the register has room, or its low word is stored. Assumes nothing.
 use native.Mathlib.Omega.{arith}
 use borrow.Author.Needs.{needs}
-use Rattle.bitstream.specs.Writer.Laws.{register-fits, put-kept, put-stored}
+use Rattle.bitstream.proofs.writer.Laws.{register-fits, put-kept, put-stored}
 use Rattle.bitstream.proofs.writer.put.Statement.{statement}
 use Rattle.bitstream.proofs.writer.put.Tie as tie
 

@@ -9,7 +9,20 @@ use lib.Seq.{length-take-le}
 use lib.Arith.{digits-lt}
 use lib.Pow.{pow-add, pow-mono, shl-exact, shr-lt}
 use Rattle.bitstream.specs.Bits.{digits, bitsOf, bytesOf}
-use Rattle.bitstream.specs.Bits.Laws.{digits-split, digits-join, digits-mod, digits-pad, below-digits, numOf-digits, flat-append, flat-cut, length-flat, length-cut, pad, pad-append}
+use Rattle.bitstream.specs.Bits.Laws.{
+  digits-split,
+  digits-join,
+  digits-mod,
+  digits-pad,
+  below-digits,
+  numOf-digits,
+  flat-append,
+  flat-cut,
+  length-flat,
+  length-cut,
+  pad,
+  pad-append,
+}
 use Rattle.bitstream.specs.Memory.{overwritten}
 use Rattle.bitstream.specs.Memory.Laws.{take-overwritten, drop-overwritten}
 use Rattle.bitstream.specs.Writer.{held, Ready, Put, Closable, Finished}
@@ -41,9 +54,12 @@ module _ (out : List ℕ) (words v : ℕ) (fits : 4 * words + 4 ≤ length out) 
   place : 4 * words + length (bytesOf 4 (digits 32 v)) ≡ 4 * (words + 1)
   place = rw (length-cut 8 4 (digits 32 v)) (omega arith)
 
-  stored-bits : bitsOf (take (4 * (words + 1)) (overwritten out (4 * words) (bytesOf 4 (digits 32 v)))) ≡ bitsOf (take (4 * words) out) ++ digits 32 v
+  stored-bits : bitsOf (take (4 * (words + 1)) (overwritten out (4 * words) (bytesOf 4 (digits 32 v))))
+      ≡ bitsOf (take (4 * words) out) ++ digits 32 v
   stored-bits =
-      ap bitsOf (ap (λ (k : ℕ). take k (overwritten out (4 * words) (bytesOf 4 (digits 32 v)))) (sym place) ∙ take-overwritten out (4 * words) (bytesOf 4 (digits 32 v)) (omega arith))
+      ap bitsOf
+      (ap (λ (k : ℕ). take k (overwritten out (4 * words) (bytesOf 4 (digits 32 v)))) (sym place)
+      ∙ take-overwritten out (4 * words) (bytesOf 4 (digits 32 v)) (omega arith))
       ∙ flat-append 8 (take (4 * words) out) (bytesOf 4 (digits 32 v))
       ∙ ap (bitsOf (take (4 * words) out) ++_) (word-bits v)
 
@@ -75,7 +91,8 @@ module _ (out : List ℕ) (w : Writer) (v n : ℕ) (ready : Ready out w n) (hv :
 
   -- a word is stored
   pub put-stored : 32 ≤ w .count + n
-      → Put out w v n (overwritten out (4 * (w .words)) (bytesOf 4 (digits 32 (reg % 2 ^ 32)))) (record { words = w .words + 1; count = w .count + n - 32; acc = reg / 2 ^ 32 })
+      → Put out w v n (overwritten out (4 * (w .words)) (bytesOf 4 (digits 32 (reg % 2 ^ 32))))
+      (record { words = w .words + 1; count = w .count + n - 32; acc = reg / 2 ^ 32 })
   put-stored h =
       let fits : 4 * (w .words) + 4 ≤ length out = omega arith in
       let k : ℕ = w .count + n - 32 in
@@ -111,12 +128,17 @@ module _ (out : List ℕ) (w : Writer) (c : Closable out w) where
   finish-whole e =
       record {
         count = omega arith;
-        front = sym (ap (λ (k : ℕ). pad k (held out w)) (sym (add-zero (32 * (w .words)))) ∙ padded 0 ∙ append-nil (bitsOf (take (4 * (w .words)) out)));
+        front =
+            sym
+            (ap (λ (k : ℕ). pad k (held out w)) (sym (add-zero (32 * (w .words))))
+            ∙ padded 0
+            ∙ append-nil (bitsOf (take (4 * (w .words)) out)));
         rest = refl;
       }
 
   -- the last word is stored
-  pub finish-stored : (w .count ≡ 0 → ⊥) → Finished out w (overwritten out (4 * (w .words)) (bytesOf 4 (digits 32 (w .acc % 2 ^ 32)))) (w .words + 1)
+  pub finish-stored : (w .count ≡ 0 → ⊥)
+      → Finished out w (overwritten out (4 * (w .words)) (bytesOf 4 (digits 32 (w .acc % 2 ^ 32)))) (w .words + 1)
   finish-stored e =
       let fits : 4 * (w .words) + 4 ≤ length out = omega arith in
       let whole : 32 * (w .words + 1) ≡ 32 * (w .words) + 32 = omega arith in

@@ -1,4 +1,4 @@
--- A part of a slice up to its end, as code lends it and gets it back. Assumes nothing.
+-- A part of a slice up to its end, as code lends it and gets it back, and its laws. Assumes nothing.
 use Prim.Native.Nat.{ℕ, _-_, _≤_}
 use native.Mathlib.Omega.{arith}
 use mathlib.Core.Path.{_≡_}

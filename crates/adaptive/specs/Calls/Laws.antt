@@ -15,6 +15,7 @@ use Rattle.adaptive.specs.Number.Lawful.{Lawful, signed-lawful, unsigned
 use Rattle.adaptive.specs.Number.Read.{readAs-shortest, readAs-used, readAs-rejected}
 use Rattle.adaptive.specs.Calls.{written, signedRead, signedAnswer, signedWritten, unsignedRead, unsignedAnswer, unsignedWritten}
 
+-- ---- writing
 pub written-done : (b m : List ℕ) → length b ≤ length m → written b m ≡ wrote (length b) b m
 unfolding written
 written-done b m h = rw (le-ltb (length m) (length b) h)

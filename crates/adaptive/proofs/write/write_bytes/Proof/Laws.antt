@@ -8,12 +8,12 @@ use Rattle.answer.specs.Outcome.{outcome, answerOf, refused}
 use Rattle.adaptive.specs.Calls.{written}
 use Rattle.adaptive.specs.Calls.Laws.{written-done}
 
--- ---- writing
+-- too little room
 pub written-refused : (b m : List ℕ) → length m < length b → written b m ≡ refused 5 m
 unfolding written
 written-refused b m h = rw (lt-ltb (length m) (length b) h)
 
--- the same of what a call counts and leaves
+-- the bytes are written, and counted
 pub done-written : (b m m′ : List ℕ) (c : ℕ) → length b ≤ length m → c ≡ length b → m′ ≡ b ++ drop (length b) m
     → outcome (answerOf 0 c) m′ ≡ written b m
 done-written b m m′ c h ec em = rw (ec, em) (sym (written-done b m h))

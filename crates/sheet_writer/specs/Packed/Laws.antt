@@ -23,7 +23,7 @@ use Rattle.row_format.specs.Calls.Laws.{Packable, packable, packed-done, packed
 use Rattle.row_format.specs.Theorems.Memory.{packed-kept, packed-within}
 use Rattle.row_format.specs.Table.Laws.{accepted-table}
 use Rattle.row_pixels.specs.Laws.{length-halves}
-use Rattle.row_packer.specs.Measure.Laws.{rowBits-most}
+use Rattle.row_packer.specs.Write.Laws.{rowBits-most}
 use Rattle.sheet_format.specs.declared.SheetState.{SheetState}
 use Rattle.sheet_format.specs.declared.RecordWritten.{RecordWritten}
 use Rattle.sheet_format.specs.Record.{packedRecord, kindNumber}

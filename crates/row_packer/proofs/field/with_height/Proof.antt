@@ -1,6 +1,6 @@
 -- `row_packer::field::with_height` meets its contract: the shift loses no bit, and the sum joins the two. Assumes nothing.
 use borrow.Author.Needs.{needs}
-use Rattle.row_packer.specs.Field.Laws.{height-fits, holds-height}
+use Rattle.row_packer.proofs.field.Laws.{height-fits, holds-height}
 use Rattle.row_packer.proofs.field.with_height.Statement.{statement}
 use Rattle.row_packer.proofs.field.with_height.Tie as tie
 

@@ -2,7 +2,7 @@
 use Prim.Native.Nat.{_-_}
 use native.Mathlib.Omega.{arith}
 use borrow.Author.Needs.{needs}
-use Rattle.row_unpacker.specs.View.Laws.{step-least, step-most}
+use Rattle.row_unpacker.proofs.view.Laws.{step-least, step-most}
 use Rattle.row_unpacker.proofs.hints.spread.Statement.{statement}
 use Rattle.row_unpacker.proofs.hints.spread.Tie as tie
 

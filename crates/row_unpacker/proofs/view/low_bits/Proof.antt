@@ -1,7 +1,7 @@
 -- `view::low_bits` is a mask of n ones. Assumes nothing.
 use lib.Pow.{pow-pos}
 use borrow.Author.Needs.{needs}
-use Rattle.row_unpacker.specs.View.Laws.{one-shifted, masked}
+use Rattle.row_unpacker.proofs.view.Laws.{one-shifted, masked}
 use Rattle.row_unpacker.proofs.view.low_bits.Statement.{statement}
 use Rattle.row_unpacker.proofs.view.low_bits.Tie as tie
 

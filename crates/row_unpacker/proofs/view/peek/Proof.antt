@@ -1,7 +1,7 @@
 -- `view::peek` is `peek32`: past the fifth byte by itself, else by a number of four bytes and the fifth. Assumes nothing.
 use native.Mathlib.Omega.{arith}
 use borrow.Author.Needs.{needs}
-use Rattle.row_unpacker.specs.View.Laws.{window-five}
+use Rattle.row_unpacker.proofs.view.Laws.{window-five}
 use Rattle.row_unpacker.proofs.view.peek.Statement.{statement}
 use Rattle.row_unpacker.proofs.view.peek.Tie as tie
 

@@ -1,4 +1,4 @@
--- The laws of a row read item by item. Assumes nothing.
+-- A row read item by item: what is reached after some of them, and its laws. Assumes nothing.
 use Prim.Native.Nat.{ℕ, suc, _+_, _-_, _*_, _≤_, _<_}
 use native.Mathlib.Nat.{zero-add, add-zero, add-assoc, sub-zero}
 use native.Mathlib.Omega.{arith}
@@ -21,10 +21,24 @@ use Rattle.row_item.specs.declared.Progress.{Progress}
 use Rattle.row_item.specs.Coded.{coded, progress, Followed, stateOf}
 use Rattle.row_item.specs.Coded.Laws.{stateOf-progress}
 use Rattle.row_unpacker.specs.Item.{answered}
-use Rattle.row_unpacker.specs.Row.{Reached, whole, halted, reached, on, RowIs, Partly}
+use Rattle.row_unpacker.specs.Row.{Reached, whole, halted, reached, RowIs}
 use Rattle.row_unpacker.specs.declared.item.Read.{Read}
 use Rattle.row_unpacker.specs.declared.item.Read.the-variants.{Got, Refused}
 use Rattle.row_unpacker.specs.declared.row.RowRead.the-variants as row-read
+
+-- the same after bytes and bits that came before
+abbrev pub on : List ℕ → ℕ → Reached → Reached
+on b at (whole c u) = whole (b ++ c) (at + u)
+on b at (halted e p) = halted e (at + p)
+
+-- after i of n items, by any way g of reading one, from the stream r to memory of a size: the next item is at `at`, and the
+-- whole reading is what stands in memory and then what is read from there
+pub record Partly (g : State → List ℕ → Reading) (n : ℕ) (r : List ℕ) (size : ℕ) (out : List ℕ) (at : ℕ) (p : Progress) (i : ℕ) : Type 0 where
+  pub within : i ≤ n
+  pub kept : length out ≡ size
+  pub place : at ≤ 43 * i
+  pub state : p ≡ progress (stateOf p)
+  pub so-far : reached n fresh (readBy g fresh n r) ≡ on (take (2 * i) out) at (reached (n - i) (stateOf p) (readBy g (stateOf p) (n - i) (drop at r)))
 
 -- the bytes of one pixel more
 bytes-cons : (n p : ℕ) (ps : List ℕ) → bytesOf (2 * suc n) (flat 16 (p ∷ ps)) ≡ bytesOf 2 (digits 16 p) ++ bytesOf (2 * n) (flat 16 ps)

@@ -21,9 +21,9 @@ use Rattle.row_format.specs.Calls.{checked, afterRun, usedByRun, unpackNumber, 
 use Rattle.row_format.specs.Calls.Laws.{unpackNumber-unpackable, answer-number}
 use Rattle.row_format.specs.Theorems.Bounds.{readItems-uses}
 use Rattle.row_unpacker.specs.View.{Seen}
-use Rattle.row_unpacker.specs.View.Laws.{low-window}
+use Rattle.row_unpacker.proofs.view.Laws.{low-window}
 use Rattle.row_unpacker.specs.Row.{reached, RowIs}
-use Rattle.row_unpacker.specs.Row.Laws.{maxItemBits-any}
+use Rattle.row_unpacker.proofs.row.Laws.{maxItemBits-any}
 use Rattle.row_unpacker.specs.declared.view.View.{View}
 use Rattle.row_unpacker.specs.declared.row.RowRead.{RowRead}
 use Rattle.row_unpacker.specs.declared.row.RowRead.the-variants.{Done, Refused}

@@ -1,17 +1,20 @@
--- The laws of what is left of a row. Assumes nothing.
+-- The bits of the pixels that are left of a row, and their laws. Assumes nothing.
 use Prim.Native.Nat.{ℕ, _+_, _≤_, _<_}
 use mathlib.Core.Path.{_≡_, ap, _∙_}
 use mathlib.Core.List.{List, [], _++_}
-use lib.ListN.{length, getD, length-append}
+use lib.ListN.{length, drop, getD, length-append}
 use Rattle.bitstream.specs.Bits.{digits}
 use Rattle.bitstream.specs.Bits.Laws.{length-digits}
 use Rattle.row_format.specs.Row.{fresh, itemsFor, bits, rowBits}
 use Rattle.row_item.specs.declared.Progress.{Progress}
-use Rattle.row_item.specs.Coded.{progress}
+use Rattle.row_item.specs.Coded.{progress, stateOf}
 use Rattle.row_pixels.specs.Laws.{drop-more, drop-end}
 use Rattle.row_packer.specs.Encode.{Encodes}
-use Rattle.row_packer.specs.Remaining.{remaining}
 use Rattle.row_packer.specs.declared.encode.Encoded.{Encoded}
+
+-- the bits of the pixels from pixel i on, when the row has come to p
+unfoldable pub remaining : List ℕ → List ℕ → Progress → ℕ → List ℕ
+remaining t ps p i = bits t (itemsFor t (stateOf p) (drop i ps))
 
 module _ (t ps : List ℕ) where
   -- at the start all is left

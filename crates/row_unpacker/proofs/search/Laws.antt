@@ -19,10 +19,15 @@ use Rattle.row_format.specs.Reading.{none, found, find}
 use Rattle.row_format.specs.Theorems.Search.{find-only}
 use Rattle.code_table.specs.Check.Laws.{length-words}
 use Rattle.row_unpacker.specs.View.{Seen}
-use Rattle.row_unpacker.specs.View.Laws.{low-window}
-use Rattle.row_unpacker.specs.Search.{hit, Finds, CutShort, begun, Tested, Passed}
+use Rattle.row_unpacker.proofs.view.Laws.{low-window}
+use Rattle.row_unpacker.specs.Search.{hit, Finds, CutShort, begun, Tested}
 use Rattle.row_unpacker.specs.declared.view.View.{View}
 use Rattle.row_unpacker.specs.declared.search.Hit.the-variants.{At, Nowhere}
+
+-- no codeword in the words of t from word 3 to word i passes the test
+pub record Passed (f : List ℕ → List ℕ → Bool) (t : List ℕ) (v : View) (i : ℕ) : Type 0 where
+  pub least : 3 ≤ i
+  pub none : (r : List ℕ) → Seen r v → (j : ℕ) → j + 3 < i → f r (codewordAt t j) ≡ false
 
 -- ---- a string begins another exactly where the numbers of as many bits are equal
 pub begins-short : (a r : List ℕ) → length r < length a → begins a r ≡ false

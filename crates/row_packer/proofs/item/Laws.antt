@@ -41,10 +41,15 @@ module _ {h : Header} {p : Progress} {pixel : ℕ} where
 
   -- a height
   module _ (n : pixel ≡ 4095 → ⊥) (m : pixel ≡ 4094 → ⊥) where
-    chosen-has : ((t : List ℕ) → HeaderOf t h → hasDifference t (counted p pixel) ≡ true) → Chosen h p pixel (Difference (signed (counted p pixel)))
+    chosen-has : ((t : List ℕ) → HeaderOf t h → hasDifference t (counted p pixel) ≡ true)
+        → Chosen h p pixel (Difference (signed (counted p pixel)))
     unfolding itemFor byDifference
     chosen-has has =
-        record { item = λ t s hd q. rw (counted-is p s pixel q) (rw (ne-eqb pixel 4095 n, ne-eqb pixel 4094 m, (rw (counted-is p s pixel q) at (has t hd)))) }
+        record {
+          item = λ t s hd q.
+              rw (counted-is p s pixel q)
+              (rw (ne-eqb pixel 4095 n, ne-eqb pixel 4094 m, (rw (counted-is p s pixel q) at (has t hd))));
+        }
 
     chosen-lacks : ((t : List ℕ) → HeaderOf t h → hasDifference t (counted p pixel) ≡ false) → Chosen h p pixel (Escape pixel)
     unfolding itemFor byDifference

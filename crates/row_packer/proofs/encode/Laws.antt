@@ -12,9 +12,9 @@ use Rattle.row_item.specs.Coded.{progress, coded, Followed, stateOf}
 use Rattle.row_item.specs.Coded.Laws.{stateOf-progress}
 use Rattle.row_packer.specs.Header.{HeaderOf}
 use Rattle.row_packer.specs.Item.{Chosen}
-use Rattle.row_packer.specs.Item.Laws.{previous-progress}
+use Rattle.row_packer.proofs.item.Laws.{previous-progress}
 use Rattle.row_packer.specs.Field.{Holds, plain, Codable}
-use Rattle.row_packer.specs.Field.Laws.{plain-coded, codable}
+use Rattle.row_packer.proofs.field.Laws.{plain-coded, codable}
 use Rattle.row_packer.specs.Encode.{Sound, Encodes}
 use Rattle.row_packer.specs.declared.header.Header.{Header}
 use Rattle.row_packer.specs.declared.field.Field.{Field}
@@ -26,7 +26,9 @@ sound-height : {p : Progress} → Sound p → previous (stateOf p) ≤ 4093
 sound-height {p} h = omega (arith, h .height, ap (λ (x : Progress). x .previous) (h .is), previous-progress (stateOf p))
 
 -- ---- one pixel
-module _ {t : List ℕ} {h : Header} {p : Progress} {pixel : ℕ} {i : Item} (hd : HeaderOf t h) (sound : Sound p) (most : pixel ≤ 4095) (chosen : Chosen h p pixel i) where
+module _
+    {t : List ℕ} {h : Header} {p : Progress} {pixel : ℕ} {i : Item} (hd : HeaderOf t h)
+    (sound : Sound p) (most : pixel ≤ 4095) (chosen : Chosen h p pixel i) where
   abbrev item : row.Item
   item = itemFor t (stateOf p) pixel
 
@@ -39,7 +41,8 @@ module _ {t : List ℕ} {h : Header} {p : Progress} {pixel : ℕ} {i : Item} (hd
   pub chosen-codable : Codable t i
   chosen-codable = codable t (stateOf p) item item-is (right .fits)
 
-  pub encodes : {f : Field} {r : Progress} → Holds (itemBits t (plain i)) f → Followed p i pixel r → Encodes t p pixel (record { field = f; next = r })
+  pub encodes : {f : Field} {r : Progress} → Holds (itemBits t (plain i)) f → Followed p i pixel r
+      → Encodes t p pixel (record { field = f; next = r })
   encodes {f} holds followed =
       let next = followed .next (stateOf p) item (sound .is) item-is (sym (right .pixel)) in
       record {

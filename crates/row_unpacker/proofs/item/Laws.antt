@@ -23,7 +23,7 @@ use Rattle.row_item.specs.declared.Item.the-variants.{Difference, BadPixel, Bad
 use Rattle.row_item.specs.declared.Progress.{Progress}
 use Rattle.row_item.specs.Coded.{stateOf}
 use Rattle.row_unpacker.specs.View.{Seen}
-use Rattle.row_unpacker.specs.View.Laws.{low-window}
+use Rattle.row_unpacker.proofs.view.Laws.{low-window}
 use Rattle.row_unpacker.specs.Search.{hit, Finds, CutShort}
 use Rattle.row_unpacker.specs.Item.{answered, itemAt, foundAt, entryAt, HeightAt}
 use Rattle.row_unpacker.specs.declared.view.View.{View}

@@ -50,7 +50,8 @@ module _ (l : List ℕ) (at n : ℕ) (v : View) (seen : Seen (drop (at + n) l) v
         rw (lt-ltb (length (drop at l)) (n + 12) (omega (arith, after-codeword .left, length-drop n (drop at l))));
   }
 
-  pub height-got : 12 ≤ v .left → v .window % 4096 < 4094 → HeightAt (drop at l) at n (Got (Escape (v .window % 4096)) (v .window % 4096) (at + n + 12))
+  pub height-got : 12 ≤ v .left → v .window % 4096 < 4094
+      → HeightAt (drop at l) at n (Got (Escape (v .window % 4096)) (v .window % 4096) (at + n + 12))
   unfolding rawHeight
   height-got h small = record {
     is = λ s.
@@ -77,7 +78,8 @@ module _ (t : List ℕ) (s : State) (at i n low prev : ℕ) (low-is : low ≡ lo
 
     pub entry-above : 8186 < prev + (i + low) → Refused 8 at ≡ entryAt t s at i n
     unfolding entryAt
-    entry-above h = rw (le-leb 4093 (previous s + (i + lowLimit t)) above, lt-leb (previous s + (i + lowLimit t)) 8186 (rw (← prev-is, ← low-is) h))
+    entry-above h =
+        rw (le-leb 4093 (previous s + (i + lowLimit t)) above, lt-leb (previous s + (i + lowLimit t)) 8186 (rw (← prev-is, ← low-is) h))
 
     -- the code holds the signed difference z
     pub entry-got : prev + (i + low) ≤ 8186 → (z : ℤ) → z ≡ signed (i + low)
@@ -85,7 +87,8 @@ module _ (t : List ℕ) (s : State) (at i n low prev : ℕ) (low-is : low ≡ lo
     unfolding entryAt
     entry-got h z e =
         let kept : toZ w32 (ofZ w32 z) ≡ signed (i + low) = toZ-ofZ (rw e (signed-fits (i + low) (omega arith))) ∙ e in
-        rw (le-leb 4093 (previous s + (i + lowLimit t)) above, le-leb (previous s + (i + lowLimit t)) 8186 (rw (← prev-is, ← low-is) h), kept, low-is, prev-is)
+        rw (le-leb 4093 (previous s + (i + lowLimit t)) above, le-leb (previous s + (i + lowLimit t)) 8186 (rw (← prev-is, ← low-is) h))
+        (rw (kept, low-is, prev-is))
 
 -- ---- the codeword at place j, which has the word w
 module _ (t : List ℕ) (s : State) (r : List ℕ) (at j w : ℕ) (is : w ≡ getD t (j + 3) 0) where
@@ -96,7 +99,9 @@ module _ (t : List ℕ) (s : State) (r : List ℕ) (at j w : ℕ) (is : w ≡ ge
 
   by-place : (k : ℕ) → j ≡ k → answered s at (matched t s r k (w % 32)) ≡ foundAt t s r at j
   unfolding foundAt
-  by-place k e = ap (λ (n : ℕ). answered s at (matched t s r k n)) bits-is ∙ ap (λ (i : ℕ). answered s at (matched t s r i (length (codewordAt t j)))) (sym e)
+  by-place k e =
+      ap (λ (n : ℕ). answered s at (matched t s r k n)) bits-is
+      ∙ ap (λ (i : ℕ). answered s at (matched t s r i (length (codewordAt t j)))) (sym e)
 
   pub found-escape : j ≡ 0 → (x : Read) → HeightAt r at (w % 32) x → x ≡ foundAt t s r at j
   unfolding matched
@@ -123,7 +128,9 @@ hit-none : (m : Match) → Nowhere ≡ hit m → m ≡ none
 hit-none none e = refl
 hit-none (found i) e = cc
 
-module _ (tb wb : List ℕ) (at : ℕ) (p : Progress) (v : View) (seen : Seen (drop at (stream wb)) v) (h : Hit) (finds : Finds (wordsOf tb) v h) where
+module _
+    (tb wb : List ℕ) (at : ℕ) (p : Progress) (v : View) (seen : Seen (drop at (stream wb)) v)
+    (h : Hit) (finds : Finds (wordsOf tb) v h) where
   module _ (j : ℕ) (e : h ≡ At j) where
     found-is : find (codewords (wordsOf tb)) (drop at (stream wb)) ≡ found j
     found-is = hit-found j _ (sym e ∙ finds .is (drop at (stream wb)) seen)
@@ -150,6 +157,7 @@ module _ (tb wb : List ℕ) (at : ℕ) (p : Progress) (v : View) (seen : Seen (d
     unfolding itemAt readItem unmatched
     read-unknown d = rw (none-is, sym (cut .is (drop at (stream wb)) seen) ∙ d)
 
-pub itemAt-answered : (tb wb : List ℕ) (at : ℕ) (p : Progress) → itemAt tb wb at p ≡ answered (stateOf p) at (readItem (wordsOf tb) (stateOf p) (drop at (stream wb)))
+pub itemAt-answered : (tb wb : List ℕ) (at : ℕ) (p : Progress)
+    → itemAt tb wb at p ≡ answered (stateOf p) at (readItem (wordsOf tb) (stateOf p) (drop at (stream wb)))
 unfolding itemAt
 itemAt-answered tb wb at p = refl

@@ -26,19 +26,21 @@ use Rattle.row_unpacker.specs.declared.item.Read.{Read}
 use Rattle.row_unpacker.specs.declared.item.Read.the-variants.{Got, Refused}
 use Rattle.row_unpacker.specs.declared.row.RowRead.the-variants as row-read
 
--- the same after bytes and bits that came before
+-- what a reading reaches after bytes and bits that came before
 abbrev pub on : List ℕ → ℕ → Reached → Reached
 on b at (whole c u) = whole (b ++ c) (at + u)
 on b at (halted e p) = halted e (at + p)
 
 -- after i of n items, by any way g of reading one, from the stream r to memory of a size: the next item is at `at`, and the
 -- whole reading is what stands in memory and then what is read from there
-pub record Partly (g : State → List ℕ → Reading) (n : ℕ) (r : List ℕ) (size : ℕ) (out : List ℕ) (at : ℕ) (p : Progress) (i : ℕ) : Type 0 where
+pub record Partly
+    (g : State → List ℕ → Reading) (n : ℕ) (r : List ℕ) (size : ℕ) (out : List ℕ) (at : ℕ) (p : Progress) (i : ℕ) : Type 0 where
   pub within : i ≤ n
   pub kept : length out ≡ size
   pub place : at ≤ 43 * i
   pub state : p ≡ progress (stateOf p)
-  pub so-far : reached n fresh (readBy g fresh n r) ≡ on (take (2 * i) out) at (reached (n - i) (stateOf p) (readBy g (stateOf p) (n - i) (drop at r)))
+  pub so-far : reached n fresh (readBy g fresh n r)
+      ≡ on (take (2 * i) out) at (reached (n - i) (stateOf p) (readBy g (stateOf p) (n - i) (drop at r)))
 
 -- the bytes of one pixel more
 bytes-cons : (n p : ℕ) (ps : List ℕ) → bytesOf (2 * suc n) (flat 16 (p ∷ ps)) ≡ bytesOf 2 (digits 16 p) ++ bytesOf (2 * n) (flat 16 ps)
@@ -66,14 +68,17 @@ on-on b c at u (halted e p) = rw (add-assoc at u p)
 pub maxItemBits-any : (t : List ℕ) → maxItemBits t ≤ 43
 unfolding maxItemBits
 maxItemBits-any t =
-    let each : longest (codewords t) ≤ 43 = longest-most (codewords t) 43 (λ j h. rw (getD-codewords t j, length-codewordAt t j) (omega arith)) in
+    let each : longest (codewords t) ≤ 43 =
+    longest-most (codewords t) 43 (λ j h. rw (getD-codewords t j, length-codewordAt t j) (omega arith)) in
     omega arith
 
 pub readItem-most : (t : List ℕ) (s : State) (r : List ℕ) → bitsOfReading (readItem t s r) ≤ 43
 readItem-most t s r = omega (arith, readItem-uses t s r, maxItemBits-any t)
 
 -- ---- the loop, by any way of reading an item of at most 43 bits
-module _ (g : State → List ℕ → Reading) (most : (s : State) (r : List ℕ) → bitsOfReading (g s r) ≤ 43) (n : ℕ) (r : List ℕ) (size : ℕ) (room : 2 * n ≤ size) where
+module _
+    (g : State → List ℕ → Reading) (most : (s : State) (r : List ℕ) → bitsOfReading (g s r) ≤ 43)
+    (n : ℕ) (r : List ℕ) (size : ℕ) (room : 2 * n ≤ size) where
   pub partly-none : (out : List ℕ) (p : Progress) → length out ≡ size → p ≡ progress fresh → Partly g n r size out 0 p 0
   partly-none out p kept e =
       let s : stateOf p ≡ fresh = ap stateOf e in
@@ -111,7 +116,8 @@ module _ (g : State → List ℕ → Reading) (most : (s : State) (r : List ℕ)
       rest-of j u = readBy g (after (stateOf p) j) (n - (i + 1)) (drop u (drop at r))
 
       -- the reading from here on, by the next item
-      by-next : (y : Reading) → g (stateOf p) (drop at r) ≡ y → reached n fresh (readBy g fresh n r) ≡ from (suc (n - (i + 1))) (follow y rest-of)
+      by-next : (y : Reading) → g (stateOf p) (drop at r) ≡ y
+          → reached n fresh (readBy g fresh n r) ≡ from (suc (n - (i + 1))) (follow y rest-of)
       unfolding readBy from rest-of
       by-next y e =
           let left : n - i ≡ suc (n - (i + 1)) = omega arith in
@@ -120,11 +126,13 @@ module _ (g : State → List ℕ → Reading) (most : (s : State) (r : List ℕ)
           ∙ ap (λ (z : Reading). from (suc (n - (i + 1))) (follow z rest-of)) e
 
       -- the next item is refused
-      pub partly-stop : (number place : ℕ) (out′ : List ℕ) → x ≡ Refused number place → RowIs n out′ (row-read.Refused number place) (reached n fresh (readBy g fresh n r))
+      pub partly-stop : (number place : ℕ) (out′ : List ℕ) → x ≡ Refused number place
+          → RowIs n out′ (row-read.Refused number place) (reached n fresh (readBy g fresh n r))
       unfolding from
       partly-stop number place out′ d = go (g (stateOf p) (drop at r)) refl
         where
-          go : (y : Reading) → g (stateOf p) (drop at r) ≡ y → RowIs n out′ (row-read.Refused number place) (reached n fresh (readBy g fresh n r))
+          go : (y : Reading) → g (stateOf p) (drop at r) ≡ y
+              → RowIs n out′ (row-read.Refused number place) (reached n fresh (readBy g fresh n r))
           go (item j u) e =
               let other : Refused number place ≡ answered (stateOf p) at (item j u) = sym d ∙ is ∙ ap (answered (stateOf p) at) e in
               absurd (let z : _≡_ {A = ℕ} 0 1 = cc in omega arith)
@@ -137,12 +145,14 @@ module _ (g : State → List ℕ → Reading) (most : (s : State) (r : List ℕ)
           → out′ ≡ overwritten out (2 * i) (bytesOf 2 (digits 16 pixel)) → Partly g n r size out′ next p′ (i + 1)
       unfolding from rest-of
       partly-more what pixel next p′ out′ d f written =
-          subst⁻¹ (λ (l : List ℕ). Partly g n r size l next p′ (i + 1)) written (go (g (stateOf p) (drop at r)) refl (most (stateOf p) (drop at r)))
+          subst⁻¹ (λ (l : List ℕ). Partly g n r size l next p′ (i + 1)) written
+          (go (g (stateOf p) (drop at r)) refl (most (stateOf p) (drop at r)))
         where
           two : length (bytesOf 2 (digits 16 pixel)) ≡ 2
           two = length-cut 8 2 (digits 16 pixel)
 
-          front : take (2 * (i + 1)) (overwritten out (2 * i) (bytesOf 2 (digits 16 pixel))) ≡ take (2 * i) out ++ bytesOf 2 (digits 16 pixel)
+          front : take (2 * (i + 1)) (overwritten out (2 * i) (bytesOf 2 (digits 16 pixel)))
+              ≡ take (2 * i) out ++ bytesOf 2 (digits 16 pixel)
           front =
               let e : 2 * (i + 1) ≡ 2 * i + length (bytesOf 2 (digits 16 pixel)) = omega (arith, two) in
               rw e (take-overwritten out (2 * i) (bytesOf 2 (digits 16 pixel)) (omega (arith, q .kept)))
@@ -150,7 +160,8 @@ module _ (g : State → List ℕ → Reading) (most : (s : State) (r : List ℕ)
           go : (y : Reading) → g (stateOf p) (drop at r) ≡ y → bitsOfReading y ≤ 43
               → Partly g n r size (overwritten out (2 * i) (bytesOf 2 (digits 16 pixel))) next p′ (i + 1)
           go (item j u) e few =
-              let same : Got what pixel next ≡ Got (coded j) (pixelOf (stateOf p) j) (at + u) = sym d ∙ is ∙ ap (answered (stateOf p) at) e in
+              let same : Got what pixel next ≡ Got (coded j) (pixelOf (stateOf p) j) (at + u) =
+              sym d ∙ is ∙ ap (answered (stateOf p) at) e in
               let what-is : what ≡ coded j = cc in
               let pixel-is : pixel ≡ pixelOf (stateOf p) j = cc in
               let next-is : next ≡ at + u = cc in
@@ -164,7 +175,8 @@ module _ (g : State → List ℕ → Reading) (most : (s : State) (r : List ℕ)
                 so-far =
                     by-next (item j u) e
                     ∙ ap (on (take (2 * i) out) at) (reached-prepend (n - (i + 1)) (stateOf p) j u (rest-of j u))
-                    ∙ on-on (take (2 * i) out) (bytesOf 2 (digits 16 (pixelOf (stateOf p) j))) at u (reached (n - (i + 1)) (after (stateOf p) j) (rest-of j u))
+                    ∙ on-on (take (2 * i) out) (bytesOf 2 (digits 16 (pixelOf (stateOf p) j))) at u
+                    (reached (n - (i + 1)) (after (stateOf p) j) (rest-of j u))
                     ∙ rw (front, ← pixel-is, drop-drop u at r, s-is, next-is);
               }
           go (fault k u) e few =

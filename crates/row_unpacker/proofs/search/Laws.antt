@@ -46,7 +46,9 @@ module _ (a r : List ℕ) (bits-a : Below 2 a) (bits-r : Below 2 r) (within : le
       (λ e. rw (
         e,
         ne-eqb (numOf (take (length a) r)) (numOf a) (λ q.
-            true-false (given (numOf-inj (take (length a) r) a (below-take (length a) r bits-r) bits-a (lib.Seq.length-take-le (length a) r within) q)) e),
+            true-false
+            (given (numOf-inj (take (length a) r) a (below-take (length a) r bits-r) bits-a
+            (lib.Seq.length-take-le (length a) r within) q)) e),
       ))
 
 -- ---- the codeword of a word
@@ -89,7 +91,8 @@ module _ (w : ℕ) (v : View) where
   begins-low x short h ex = record {
     is = λ r seen.
         let size : v .left ≡ length r = omega (arith, seen .left) in
-        let front : x ≡ numOf (take (length r) (codeword w)) = ex ∙ sym (numOf-take-codeword w (v .left) h) ∙ ap (λ (k : ℕ). numOf (take k (codeword w))) size in
+        let front : x ≡ numOf (take (length r) (codeword w)) =
+        ex ∙ sym (numOf-take-codeword w (v .left) h) ∙ ap (λ (k : ℕ). numOf (take k (codeword w))) size in
         let whole : v .window ≡ numOf r = seen .window ∙ ap numOf (take-all 32 r (omega arith)) in
         rw (front, whole)
         (begins-eqb r (codeword w) (seen .bits) (below-codeword w) (omega (arith, length-codeword w)));
@@ -112,11 +115,13 @@ module _ (f : List ℕ → List ℕ → Bool) (t : List ℕ) (v : View) where
   }
 
   -- all codewords were passed
-  all-passed : (i : ℕ) → Passed f t v i → length t ≤ i → (r : List ℕ) → Seen r v → (j : ℕ) → j < length (codewords t) → f r (getD (codewords t) j []) ≡ false
+  all-passed : (i : ℕ) → Passed f t v i → length t ≤ i → (r : List ℕ) → Seen r v → (j : ℕ) → j < length (codewords t)
+      → f r (getD (codewords t) j []) ≡ false
   all-passed i p h r seen j b = rw (getD-codewords t j) (p .none r seen j (omega (arith, length-codewords t)))
 
 -- ---- what is found
-find-first : (ss : List (List ℕ)) (r : List ℕ) (i : ℕ) → ((j : ℕ) → j < i → begins (getD ss j []) r ≡ false) → i < length ss → begins (getD ss i []) r ≡ true
+find-first : (ss : List (List ℕ)) (r : List ℕ) (i : ℕ) → ((j : ℕ) → j < i → begins (getD ss j []) r ≡ false) → i < length ss
+    → begins (getD ss i []) r ≡ true
     → find ss r ≡ found i
 unfolding find
 find-first [] r i before h e = absurd (omega arith)
@@ -153,7 +158,9 @@ module _ (t : List ℕ) (v : View) where
     short-here p b yes′ = record {
       is = λ r seen.
           let least : 3 ≤ i = p .least in
-          sym (any-true-at (begins r) (codewords t) (i - 3) (omega (arith, length-codewords t)) (rw (place i least, ← is) (sym (b .is r seen) ∙ yes′)));
+          sym
+          (any-true-at (begins r) (codewords t) (i - 3) (omega (arith, length-codewords t))
+          (rw (place i least, ← is) (sym (b .is r seen) ∙ yes′)));
     }
 
   pub finds-nowhere : (i : ℕ) → Passed begun t v i → length t ≤ i → Finds t v Nowhere
@@ -177,7 +184,8 @@ finds-only tb v ok i w least h is b yes′ = record {
       let t = wordsOf tb in
       let a = accepted t (tableNumber-verdict tb ok) in
       let begins-it : begins (codewordAt t (i - 3)) r ≡ true =
-      ap (λ (s : List ℕ). begins s r) (sym (getD-codewords t (i - 3)) ∙ place t v i least ∙ ap codeword (sym is)) ∙ sym (b .is r seen) ∙ yes′ in
+      ap (λ (s : List ℕ). begins s r) (sym (getD-codewords t (i - 3)) ∙ place t v i least ∙ ap codeword (sym is)) ∙ sym (b .is r seen)
+      ∙ yes′ in
       sym (ap hit (find-only t a (i - 3) r (omega (arith, a .words, length-words tb)) begins-it));
 }
 

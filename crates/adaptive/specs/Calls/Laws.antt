@@ -8,7 +8,6 @@ use lib.ListN.{length, drop}
 use lib.IntN.{ℤ}
 use borrow.Author.Tests.{le-ltb}
 use Rattle.adaptive.specs.declared.SignedRead.{SignedRead}
-use Rattle.adaptive.specs.declared.UnsignedRead.{UnsignedRead}
 use Rattle.answer.specs.Outcome.{wrote}
 use Rattle.adaptive.specs.Number.{Kind, signed, unsigned, Reading, accepted, rejected, readAs, shortest}
 use Rattle.adaptive.specs.Number.Lawful.{Lawful, signed-lawful, unsigned-lawful}
@@ -62,13 +61,5 @@ unfolding signedRead
 signedRead-used s e = rw e (fields (readAs signed s) (readAs-uses signed s))
   where
     fields : (r : Reading ℤ) → Uses s r → Used s (signedAnswer r .number) (signedAnswer r .used)
-    fields (accepted v n) u = u
-    fields (rejected x) u = u
-
-pub unsignedRead-used : (s : List ℕ) {r : UnsignedRead} → r ≡ unsignedRead s → Used s (r .number) (r .used)
-unfolding unsignedRead
-unsignedRead-used s e = rw e (fields (readAs unsigned s) (readAs-uses unsigned s))
-  where
-    fields : (r : Reading ℕ) → Uses s r → Used s (unsignedAnswer r .number) (unsignedAnswer r .used)
     fields (accepted v n) u = u
     fields (rejected x) u = u

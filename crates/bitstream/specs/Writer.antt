@@ -3,8 +3,7 @@ use Prim.Native.Nat.{ℕ, _+_, _*_, _^_, _≤_, _<_}
 use mathlib.Core.Path.{_≡_}
 use mathlib.Core.List.{List, _++_}
 use lib.ListN.{length, take, drop}
-use Rattle.bitstream.specs.Bits.{digits, bitsOf, wordsFor}
-use Rattle.bitstream.specs.Bits.Laws.{pad}
+use Rattle.bitstream.specs.Bits.{digits, bitsOf, wordsFor, pad}
 use Rattle.bitstream.specs.declared.writer.Writer.{Writer}
 
 -- the bits written so far: the stored words, then the register

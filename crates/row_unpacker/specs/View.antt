@@ -3,8 +3,7 @@ use Prim.Native.Nat.{ℕ, min}
 use mathlib.Core.Path.{_≡_}
 use mathlib.Core.List.{List}
 use lib.ListN.{length, take}
-use Rattle.bitstream.specs.Bits.{numOf}
-use Rattle.bitstream.specs.Bits.Laws.{Below}
+use Rattle.bitstream.specs.Bits.{numOf, Below}
 use Rattle.row_unpacker.specs.declared.view.View.{View}
 
 -- v is what is seen of the bits r

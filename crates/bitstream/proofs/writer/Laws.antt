@@ -8,7 +8,7 @@ use lib.ListN.{length, take, drop}
 use lib.Seq.{length-take-le}
 use lib.Arith.{digits-lt}
 use lib.Pow.{pow-add, pow-mono, shl-exact, shr-lt}
-use Rattle.bitstream.specs.Bits.{digits, bitsOf, bytesOf}
+use Rattle.bitstream.specs.Bits.{digits, bitsOf, bytesOf, pad}
 use Rattle.bitstream.specs.Bits.Laws.{
   digits-split,
   digits-join,
@@ -20,7 +20,6 @@ use Rattle.bitstream.specs.Bits.Laws.{
   flat-cut,
   length-flat,
   length-cut,
-  pad,
   pad-append,
 }
 use Rattle.bitstream.specs.Memory.{overwritten}

@@ -7,8 +7,8 @@ use mathlib.Core.List.{List, [], _++_, append-nil}
 use lib.ListN.{length, replicate}
 use lib.Dec.{eqb}
 use borrow.Author.Tests.{not-true}
-use Rattle.bitstream.specs.Bits.{digits, flat, cut, wordsOf, bitsOf}
-use Rattle.bitstream.specs.Bits.Laws.{Below, below-nil, below-cons, below-flat, pad-all, length-flat, length-cut, cut-flat, flat-cut}
+use Rattle.bitstream.specs.Bits.{digits, flat, cut, wordsOf, bitsOf, Below}
+use Rattle.bitstream.specs.Bits.Laws.{below-nil, below-cons, below-flat, pad-all, length-flat, length-cut, cut-flat, flat-cut}
 use Rattle.row_format.specs.Lists.{any}
 use Rattle.row_format.specs.Lists.Laws.{and-true-all}
 use Rattle.row_format.specs.Table.{codeword, codewords, wrongSize, wrongWord, wrongCodeword, verdict, tableNumber}

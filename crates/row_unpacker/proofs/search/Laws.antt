@@ -8,8 +8,8 @@ use lib.ListN.{length, take, drop, getD, take-append-drop}
 use lib.Seq.{take-append-seam, take-at, take-all}
 use lib.Dec.{ltb, eqb}
 use borrow.Author.Tests.{ltb-true, ltb-false, eq-eqb, ne-eqb}
-use Rattle.bitstream.specs.Bits.{numOf, digits, begins, wordsOf}
-use Rattle.bitstream.specs.Bits.Laws.{Below, below-take, below-digits, length-digits, digits-split, numOf-digits, numOf-inj}
+use Rattle.bitstream.specs.Bits.{numOf, digits, begins, wordsOf, Below}
+use Rattle.bitstream.specs.Bits.Laws.{below-take, below-digits, length-digits, digits-split, numOf-digits, numOf-inj}
 use Rattle.row_format.specs.Lists.{any}
 use Rattle.row_format.specs.Lists.Laws.{by-test, true-false, any-false, any-false-at}
 use Rattle.row_format.specs.BitLaws.{begins-length, begins-drop, begins-append}

@@ -4,8 +4,8 @@ use native.Mathlib.Omega.{arith}
 use mathlib.Core.Path.{_≡_}
 use mathlib.Core.List.{List, map}
 use lib.ListN.{length, getD}
-use Rattle.bitstream.specs.Bits.{wordsOf}
-use Rattle.bitstream.specs.Bits.Laws.{Below, below-digits}
+use Rattle.bitstream.specs.Bits.{wordsOf, Below}
+use Rattle.bitstream.specs.Bits.Laws.{below-digits}
 use Rattle.row_format.specs.Table.{tableSize, codewordAt, tableNumber, codeword}
 use Rattle.row_format.specs.Table.Laws.{tableNumber-whole, tableNumber-verdict, right-size}
 use Rattle.code_table.specs.Check.{WholeTable}

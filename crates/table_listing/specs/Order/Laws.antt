@@ -19,7 +19,8 @@ use mathlib.Core.List.{
 use lib.ListN.{length, take, drop, getD, length-append, take-append-drop}
 use lib.Dec.{leb, eqb}
 use borrow.Author.Tests.{le-leb, lt-leb, eq-eqb, ne-eqb, eqb-true, eqb-false}
-use Rattle.bitstream.specs.Bits.Laws.{Below, below-cons, below-head, below-tail}
+use Rattle.bitstream.specs.Bits.Laws.{below-cons, below-head, below-tail}
+use Rattle.bitstream.specs.Bits.{Below}
 use Rattle.row_format.specs.Lists.Laws.{by-test}
 use Rattle.table_listing.specs.Order.{way, picked, order}
 

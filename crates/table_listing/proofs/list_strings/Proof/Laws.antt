@@ -4,8 +4,7 @@ use native.Mathlib.Omega.{arith}
 use mathlib.Core.Path.{_≡_, sym, ap, _∙_}
 use mathlib.Core.List.{List, map}
 use lib.ListN.{length, drop}
-use Rattle.bitstream.specs.Bits.{wordsOf}
-use Rattle.bitstream.specs.Bits.Laws.{Below}
+use Rattle.bitstream.specs.Bits.{wordsOf, Below}
 use Rattle.row_format.specs.Table.{tableSize, codewordAt, tableNumber}
 use Rattle.code_table.specs.Check.Laws.{length-words, whole-table-words}
 use Rattle.table_listing.specs.Order.{order, places}

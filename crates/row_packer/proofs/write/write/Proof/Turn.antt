@@ -5,8 +5,8 @@ use mathlib.Core.Path.{_≡_, refl, sym, ap, _∙_}
 use mathlib.Core.List.{List, [], _++_, append-assoc, append-nil}
 use lib.ListN.{length, take, drop, getD, take-append-drop}
 use lib.Seq.{drop-drop, length-take-le}
-use Rattle.bitstream.specs.Bits.{digits, flat, bytesOf, wordsFor}
-use Rattle.bitstream.specs.Bits.Laws.{Below, below-cut, below-take, length-cut, flat-cut, pad}
+use Rattle.bitstream.specs.Bits.{digits, flat, bytesOf, wordsFor, Below, pad}
+use Rattle.bitstream.specs.Bits.Laws.{below-cut, below-take, length-cut, flat-cut}
 use Rattle.bitstream.specs.Writer.{held, Ready, Closable, Put, Finished, Good}
 use Rattle.bitstream.specs.declared.writer.Writer.{Writer}
 use Rattle.row_format.specs.BitLaws.{bitsOf-inj}

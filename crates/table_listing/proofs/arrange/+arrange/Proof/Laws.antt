@@ -5,7 +5,7 @@ use mathlib.Core.Path.{_≡_, refl, sym, ap, _∙_}
 use mathlib.Core.List.{List, [], _∷_, _++_, append-nil, append-assoc}
 use lib.ListN.{length, take, drop, length-append}
 use lib.Seq.{take-at, drop-at, take-length, drop-length}
-use Rattle.bitstream.specs.Bits.Laws.{Below}
+use Rattle.bitstream.specs.Bits.{Below}
 use Rattle.table_listing.specs.Order.{picked, order}
 use Rattle.table_listing.specs.Order.Laws.{picked-some, picked-other, order-none, order-suc, by-three}
 use Rattle.table_listing.specs.Parted.{Parted}

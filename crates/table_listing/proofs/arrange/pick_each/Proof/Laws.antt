@@ -6,7 +6,7 @@ use mathlib.Core.Path.{_≡_, sym, ap, _∙_}
 use mathlib.Core.List.{List, _++_, append-nil}
 use lib.ListN.{length, length-append, drop-of-length-le}
 use Rattle.bitstream.specs.Memory.{overwritten}
-use Rattle.bitstream.specs.Bits.Laws.{Below}
+use Rattle.bitstream.specs.Bits.{Below}
 use Rattle.text.specs.Put.{Put}
 use Rattle.text.specs.Put.Laws.{put-put}
 use Rattle.table_listing.specs.Order.{picked}

@@ -1,4 +1,5 @@
 // A writer of bit strings, one after the other, through a register that stores whole words.
+use crate::shift::above;
 ghost use mathlib.Core.Path.{_≡_};
 ghost use Prim.Native.Nat.{_+_, _*_, _^_, _<_};
 ghost use Rattle.bitstream.specs.Writer.{Ready, Put, Closable, Finished};
@@ -30,7 +31,7 @@ pub fn put(out: &mut [u8], w: Writer, v: u64, n: u32) -> Writer
 {
     let words = w.words;
     let count = w.count + n;
-    let acc = (v << w.count) + w.acc;
+    let acc = above(v, w.count, w.acc);
     if count < 32 {
         return Writer { words, count, acc };
     }

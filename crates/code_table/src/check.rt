@@ -3,6 +3,7 @@ use crate::header::low_limit;
 use crate::header::table_size;
 use crate::header::word_at;
 use answer::Answer;
+use bitstream::shift::power;
 use prefix_free::prefix_free;
 ghost use mathlib.Core.Path.{_≡_};
 ghost use mathlib.Core.Bool.{true, false, not};
@@ -107,7 +108,7 @@ fn well_formed(w: u32) -> bool
     if 27 < len {
         return false;
     }
-    (w / 32) >> len == 0
+    w / 32 < power(len)
 }
 
 // What one pass over the string words finds.

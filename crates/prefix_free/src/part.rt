@@ -1,5 +1,5 @@
 // Lengths and bits of codewords in words, and the parting of words by one bit.
-use bitstream::bit::bit_of;
+use bitstream::shift::bit_of;
 ghost use mathlib.Core.Path.{_≡_};
 ghost use Prim.Native.Nat.{_<_};
 ghost use lib.ListN.{length};

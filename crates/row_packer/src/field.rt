@@ -1,4 +1,5 @@
 // The bits of an item, as a number and its length.
+use bitstream::shift::above;
 use code_table::header::word_at;
 use row_item::Item;
 ghost use mathlib.Core.Path.{_≡_};
@@ -58,7 +59,7 @@ fn with_height(escape: Field, height: u32) -> Field
     ensures { λ r. ⌜ Holds (digits (escape .len) (escape .bits) ++ digits 12 height) r ⌝ }
 {
     Field {
-        bits: ((height as u64) << escape.len) + escape.bits,
+        bits: above(height as u64, escape.len, escape.bits),
         len: escape.len + 12,
     }
 }

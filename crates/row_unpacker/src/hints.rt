@@ -9,7 +9,8 @@ use crate::search::Hit;
 use crate::search::begins_rest;
 use crate::search::search;
 use crate::view::View;
-use crate::view::low_bits;
+use bitstream::shift::low_bits;
+use bitstream::shift::power;
 use code_table::header::word_at;
 ghost use mathlib.Core.Path.{_≡_};
 ghost use Prim.Native.Nat.{_<_};
@@ -115,7 +116,7 @@ pub fn fill(table: &[u8], hints: &mut Hints)
 fn spread(hints: &mut Hints, bits: u32, len: u32, i: u16)
     requires { ⌜ len < 32 ⌝ }
 {
-    let step = 1usize << len;
+    let step = power(len) as usize;
     let mut k = bits as usize;
     while k < 4096 {
         hints[k] = i;

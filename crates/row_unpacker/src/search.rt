@@ -1,6 +1,6 @@
 // The codeword that begins the rest of a stream, in table order.
 use crate::view::View;
-use crate::view::low_bits;
+use bitstream::shift::low_bits;
 use code_table::header::word_at;
 ghost use Prim.Native.Nat.{_<_};
 ghost use Rattle.bitstream.specs.Bits.{begins, wordsOf};

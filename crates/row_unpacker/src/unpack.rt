@@ -2,9 +2,9 @@
 use crate::row::RowRead;
 use crate::row::read_row;
 use crate::view::look_ahead;
-use crate::view::low_bits;
 use answer::Answer;
 use bitstream::copy::copy;
+use bitstream::shift::low_bits;
 use code_table::check::check;
 ghost use mathlib.Core.Path.{_≡_};
 ghost use Prim.Native.Nat.{_*_, _≤_};

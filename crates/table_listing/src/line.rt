@@ -1,6 +1,6 @@
 // The line of a string: its name, a space, its bits.
 use crate::string::string_word;
-use bitstream::bit::bit_of;
+use bitstream::shift::bit_of;
 use code_table::entry::difference_of;
 use text::number::put_integer;
 use text::put::put_bytes;

@@ -1,5 +1,5 @@
 // The strings of a table by their places: 0 raw, 1 bad pixel, 2 bad bias, 3 + i entry i.
-use bitstream::bit::bit_of;
+use bitstream::shift::bit_of;
 use code_table::header::word_at;
 ghost use mathlib.Core.Path.{_≡_};
 ghost use Prim.Native.Nat.{_+_, _<_};

@@ -1,17 +1,17 @@
 -- The laws of the writer of bit strings: its register and the words that it stores. Assumes nothing.
 use Prim.Native.Nat.{ℕ, _+_, _-_, _*_, _/_, _%_, _^_, _≤_, _<_}
-use native.Mathlib.Nat.{add-comm, add-zero, mod-eq-of-lt, lt-of-lt-of-le}
+use native.Mathlib.Nat.{add-zero, mod-eq-of-lt}
 use native.Mathlib.Omega.{arith}
 use mathlib.Core.Path.{_≡_, refl, sym, ap, _∙_, subst}
 use mathlib.Core.List.{List, _++_, append-assoc, append-nil}
 use lib.ListN.{length, take, drop}
 use lib.Seq.{length-take-le}
-use lib.Arith.{digits-lt}
-use lib.Pow.{pow-add, pow-mono, shl-exact, shr-lt}
+use lib.Pow.{shr-lt}
 use Rattle.bitstream.specs.Bits.{digits, bitsOf, bytesOf, pad}
 use Rattle.bitstream.specs.Bits.Laws.{
   digits-split,
   digits-join,
+  above-lt,
   digits-mod,
   digits-pad,
   below-digits,
@@ -26,21 +26,6 @@ use Rattle.bitstream.specs.Memory.{overwritten}
 use Rattle.bitstream.specs.Memory.Laws.{take-overwritten, drop-overwritten}
 use Rattle.bitstream.specs.Writer.{held, Ready, Put, Closable, Finished}
 use Rattle.bitstream.specs.declared.writer.Writer.{Writer}
-
--- ---- the register
-module _ (v n k a : ℕ) (hv : v < 2 ^ n) (ha : a < 2 ^ k) (most : n + k ≤ 64) where
-  -- the shift loses nothing
-  register : v * 2 ^ k % 2 ^ 64 + a ≡ v * 2 ^ k + a
-  register = ap (_+ a) (shl-exact n k 64 hv most)
-
-  register-lt : v * 2 ^ k % 2 ^ 64 + a < 2 ^ (k + n)
-  register-lt = rw (register, add-comm k n, pow-add 2 n k) (digits-lt hv ha)
-
-  register-bits : digits k a ++ digits n v ≡ digits (k + n) (v * 2 ^ k % 2 ^ 64 + a)
-  register-bits = rw register (digits-join k n v a ha)
-
-pub register-fits : (v n k a : ℕ) → v < 2 ^ n → a < 2 ^ k → n ≤ 32 → k < 32 → v * 2 ^ k % 2 ^ 64 + a < 2 ^ 64
-register-fits v n k a hv ha hn hk = lt-of-lt-of-le (register-lt v n k a hv ha (omega arith)) (pow-mono {i = k + n} {j = 64} (omega arith))
 
 -- ---- a stored word
 pub pad-digits : (w v : ℕ) → pad w (digits w v) ≡ digits w v
@@ -68,22 +53,19 @@ module _ (out : List ℕ) (words v : ℕ) (fits : 4 * words + 4 ≤ length out) 
 -- ---- the ways out of `put`
 module _ (out : List ℕ) (w : Writer) (v n : ℕ) (ready : Ready out w n) (hv : v < 2 ^ n) where
   abbrev reg : ℕ
-  reg = v * 2 ^ (w .count) % 2 ^ 64 + w .acc
-
-  most : n + w .count ≤ 64
-  most = omega arith
+  reg = v * 2 ^ (w .count) + w .acc
 
   held-more : held out w ++ digits n v ≡ bitsOf (take (4 * (w .words)) out) ++ digits (w .count + n) reg
   held-more =
       append-assoc (bitsOf (take (4 * (w .words)) out)) (digits (w .count) (w .acc)) (digits n v)
-      ∙ ap (bitsOf (take (4 * (w .words)) out) ++_) (register-bits v n (w .count) (w .acc) hv (ready .good .low) most)
+      ∙ ap (bitsOf (take (4 * (w .words)) out) ++_) (digits-join (w .count) n v (w .acc) (ready .good .low))
 
   -- the register still has room
   pub put-kept : w .count + n < 32 → Put out w v n out (record { words = w .words; count = w .count + n; acc = reg })
   put-kept h =
       record {
         bits = sym held-more;
-        good = record { few = h; low = register-lt v n (w .count) (w .acc) hv (ready .good .low) most };
+        good = record { few = h; low = above-lt (w .count) n v (w .acc) (ready .good .low) hv };
         size = refl;
         rest = refl;
       }
@@ -106,7 +88,7 @@ module _ (out : List ℕ) (w : Writer) (v n : ℕ) (ready : Ready out w n) (hv :
             ∙ sym held-more;
         good = record {
           few = omega arith;
-          low = shr-lt k 32 (subst (λ (m : ℕ). reg < 2 ^ m) (sym whole′) (register-lt v n (w .count) (w .acc) hv (ready .good .low) most));
+          low = shr-lt k 32 (subst (λ (m : ℕ). reg < 2 ^ m) (sym whole′) (above-lt (w .count) n v (w .acc) (ready .good .low) hv));
         };
         size = omega arith;
         rest = stored-rest out (w .words) (reg % 2 ^ 32) fits;

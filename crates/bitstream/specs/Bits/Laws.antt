@@ -1,6 +1,6 @@
 -- The laws of bits in bytes. Assumes nothing.
 use Prim.Native.Nat.{ℕ, zero, suc, _+_, _-_, _*_, _/_, _%_, _^_, _≤_, _<_, zero-le}
-use native.Mathlib.Nat.{zero-mod, zero-div, add-zero, zero-add, add-comm, add-assoc, mod-lt, mod-one, div-one, suc-add, mul-zero, mul-suc, mul-one, mul-assoc, add-mul, pow-suc, mod-eq-of-lt, div-lt-iff-lt-mul, not-suc-le-zero, le-of-suc-le-suc}
+use native.Mathlib.Nat.{zero-mod, zero-div, add-zero, zero-add, add-comm, add-assoc, mod-lt, mod-one, div-one, suc-add, mul-zero, mul-suc, mul-one, mul-assoc, add-mul, pow-suc, mod-eq-of-lt, div-lt-iff-lt-mul, not-suc-le-zero, le-of-suc-le-suc, lt-of-lt-of-le}
 use native.Mathlib.Omega.{arith}
 use mathlib.Core.Path.{_≡_, refl, sym, ap, _∙_}
 use mathlib.Core.List.{List, [], _∷_, _++_, append-assoc}
@@ -8,7 +8,7 @@ use lib.ListN.{length, take, drop, getD, replicate, length-append, length-drop}
 use lib.Seq.{take-nil, drop-nil, take-append-add, drop-append-add, take-at, drop-at, take-append-le, drop-append-le}
 use lib.Arith.{digits-lt, digits-div, mod-mul}
 use lib.Bits.{block-half, block-odd}
-use lib.Pow.{shr-shr, pow-pos}
+use lib.Pow.{shr-shr, pow-pos, pow-add, pow-mono}
 use Rattle.bitstream.specs.Bits.{digits, numOf, flat, cut}
 pub use Rattle.bitstream.specs.Bits.{Below, pad}
 
@@ -69,6 +69,14 @@ digits-join zero m q r h =
 digits-join (suc n) m q r h =
     let h′ : r / 2 < 2 ^ n = div-lt-iff-lt-mul {k = 2} (omega arith) .1 (rw (← pow-suc 2 n) h) in
     rw (suc-add n m, block-odd q n r, block-half q n r) (ap (r % 2 ∷_) (digits-join n m q (r / 2) h′))
+
+-- m bits above n bits are n + m bits
+module _ (n m q r : ℕ) (hr : r < 2 ^ n) (hq : q < 2 ^ m) where
+  pub above-lt : q * 2 ^ n + r < 2 ^ (n + m)
+  above-lt = rw (add-comm n m, pow-add 2 m n) (digits-lt hq hr)
+
+  pub above-fits : n < 32 → m ≤ 32 → q * 2 ^ n + r < 2 ^ 64
+  above-fits few most = lt-of-lt-of-le above-lt (pow-mono {i = n + m} {j = 64} (omega arith))
 
 pub digits-mod : (w v : ℕ) → digits w (v % 2 ^ w) ≡ digits w v
 unfolding digits

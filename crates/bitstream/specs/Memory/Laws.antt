@@ -1,13 +1,13 @@
 -- The laws of numbers in memory: what a few bytes read one by one make. Assumes nothing.
-use Prim.Native.Nat.{ℕ, zero, suc, _+_, _*_, _/_, _%_, _^_, _≤_}
+use Prim.Native.Nat.{ℕ, zero, suc, _+_, _*_, _/_, _%_, _^_, _≤_, _<_}
 use native.Mathlib.Nat.{mod-eq-of-lt, suc-add, zero-add, not-suc-le-zero}
 use native.Mathlib.Omega.{arith}
 use mathlib.Core.Path.{_≡_, refl, sym, ap, _∙_}
 use mathlib.Core.List.{List, [], _∷_, _++_}
 use lib.ListN.{length, take, drop, getD, length-append, length-drop}
-use lib.Seq.{take-at, drop-at, take-take, drop-drop, length-take-le}
+use lib.Seq.{take-at, drop-at, take-add, take-take, drop-drop, length-take-le}
 use Rattle.bitstream.specs.Bits.{numOf, flat, bitsOf, numberOf}
-use Rattle.bitstream.specs.Bits.Laws.{numberOf-suc, numOf-field, below-flat, flat-take, flat-drop}
+use Rattle.bitstream.specs.Bits.Laws.{numOf-append, numberOf-suc, numOf-field, below-flat, length-flat, flat-append, flat-take, flat-drop}
 use Rattle.bitstream.specs.Memory.{ByteAt, overwritten}
 
 byte-mod : {s : List ℕ} {at b : ℕ} → ByteAt s at b → getD s at 0 % 256 ≡ b
@@ -36,6 +36,19 @@ read-five at h0 h1 h2 h3 h4 =
     number-more at (at + 1) 4 (omega arith) h0
     (number-more (at + 1) (at + 2) 3 (omega arith) h1
     (number-more (at + 2) (at + 3) 2 (omega arith) h2 (number-more (at + 3) (at + 4) 1 (omega arith) h3 (number-last h4))))
+
+-- the same as a number of four bytes and the fifth
+pub read-four-one : {s : List ℕ} (at : ℕ) {low high : ℕ} → at + 4 < length s → low ≡ numberOf (take 4 (drop at s)) → ByteAt s (at + 4) high
+    → high * 4294967296 + low ≡ numberOf (take 5 (drop at s))
+read-four-one {s} at {low} {high} h is byte =
+    let four : length (bitsOf (take 4 (drop at s))) ≡ 32 =
+    length-flat 8 (take 4 (drop at s)) ∙ ap (8 *_) (length-take-le 4 (drop at s) (omega (arith, length-drop at s))) in
+    let last : numberOf (take 1 (drop 4 (drop at s))) ≡ high =
+    ap (λ (l : List ℕ). numberOf (take 1 l)) (drop-drop 4 at s) ∙ sym (number-last byte) in
+    sym (ap numberOf (take-add 4 1 (drop at s))
+    ∙ ap numOf (flat-append 8 (take 4 (drop at s)) (take 1 (drop 4 (drop at s))))
+    ∙ numOf-append (bitsOf (take 4 (drop at s))) (bitsOf (take 1 (drop 4 (drop at s))))
+    ∙ rw (four, last, ← is))
 
 -- ---- a field of bits out of five bytes
 take-drop-take : (r n m : ℕ) (l : List ℕ) → r + n ≤ m → take n (drop r (take m l)) ≡ take n (drop r l)

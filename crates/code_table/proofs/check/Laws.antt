@@ -1,15 +1,13 @@
 -- The ways out of the check: of a string word, of the whole table, and of its last stage. Assumes nothing.
 use Prim.Native.Nat.{ℕ, _+_, _-_, _/_, _%_, _^_, _≤_, _<_, max}
-use native.Mathlib.Nat.{div-eq-of-lt, div-lt-iff-lt-mul, one-mul}
 use native.Mathlib.Omega.{arith}
 use mathlib.Core.Path.{_≡_, sym, ap, _∙_, subst}
 use mathlib.Core.Bool.{Bool, true, false, cond, not, _||_, or-true, Bool·not-not}
 use mathlib.Core.List.{List, map}
 use lib.ListN.{length, drop, length-drop}
 use lib.Seq.{take-all}
-use lib.Dec.{ltb, eqb}
-use lib.Pow.{pow-pos}
-use borrow.Author.Tests.{lt-leb, le-leb, lt-ltb, le-ltb, eq-eqb, ne-eqb, ltb-true, ltb-false, not-true, not-false}
+use lib.Dec.{ltb}
+use borrow.Author.Tests.{lt-leb, le-leb, lt-ltb, le-ltb, eq-eqb, not-true, not-false}
 use Rattle.answer.specs.Outcome.{answerOf}
 use Rattle.bitstream.specs.Bits.{wordsOf}
 use Rattle.row_format.specs.Lists.Laws.{by-test}
@@ -41,22 +39,9 @@ module _ (w : ℕ) where
   unfolding wrongWord
   formed-long g h = rw (le-leb 1 (w % 32) g, lt-leb (w % 32) 27 h)
 
-  -- no bit above n bits: shifted down by n nothing is left
-  shifted-zero : (v n : ℕ) → eqb (v / 2 ^ n) 0 ≡ ltb v (2 ^ n)
-  shifted-zero v n = by-test (ltb v (2 ^ n))
-      (λ e. rw (e, eq-eqb (v / 2 ^ n) 0 (div-eq-of-lt (ltb-true v (2 ^ n) e))))
-      (λ e. rw (e, ne-eqb (v / 2 ^ n) 0 (λ z. not-below e (below-one z))))
-    where
-      not-below : ltb v (2 ^ n) ≡ false → v < 2 ^ n → ⊥
-      not-below e h = omega (arith, ltb-false v (2 ^ n) e)
-
-      below-one : v / 2 ^ n ≡ 0 → v < 2 ^ n
-      below-one z = subst (v <_) (one-mul (2 ^ n)) (div-lt-iff-lt-mul (pow-pos n) .0 (omega arith))
-
-  pub formed-last : 1 ≤ w % 32 → w % 32 ≤ 27 → eqb (w / 32 / 2 ^ (w % 32)) 0 ≡ not (wrongWord w)
+  pub formed-last : 1 ≤ w % 32 → w % 32 ≤ 27 → ltb (w / 32) (2 ^ (w % 32)) ≡ not (wrongWord w)
   unfolding wrongWord
-  formed-last g h =
-      rw (le-leb 1 (w % 32) g, le-leb (w % 32) 27 h) (shifted-zero (w / 32) (w % 32) ∙ sym (Bool·not-not (ltb (w / 32) (2 ^ (w % 32)))))
+  formed-last g h = rw (le-leb 1 (w % 32) g, le-leb (w % 32) 27 h) (sym (Bool·not-not (ltb (w / 32) (2 ^ (w % 32)))))
 
 -- ---- the ways out of the check
 pub checked-sizes : (b : List ℕ) → tableNumber b ≡ 1 → answerOf 1 0 ≡ checked b

@@ -1,17 +1,14 @@
 -- The laws of the bits of an item: the ways out of `field_of` and of its parts. Assumes nothing.
 use Prim.Native.Nat.{ℕ, _+_, _-_, _*_, _/_, _%_, _^_, _≤_, _<_}
-use native.Mathlib.Nat.{add-comm, lt-of-lt-of-le}
 use native.Mathlib.Omega.{arith}
 use mathlib.Core.Path.{_≡_, refl, sym, ap, _∙_, subst}
 use mathlib.Core.List.{List, _++_}
 use lib.ListN.{length, getD}
 use lib.IntN.{ℤ, pos, natAbs, _+ℤ_}
-use lib.Arith.{digits-lt}
-use lib.Pow.{pow-add, pow-mono, shl-exact}
 use mir.Val.{SFits, toZ, ofZ}
 use mir.Syntax.{w32}
 use Rattle.bitstream.specs.Bits.{digits}
-use Rattle.bitstream.specs.Bits.Laws.{digits-join, length-digits}
+use Rattle.bitstream.specs.Bits.Laws.{digits-join, above-lt, length-digits}
 use Rattle.row_format.specs.Table.{lowLimit, tableSize, codeword, codewordAt, signed}
 use Rattle.row_format.specs.Table.Laws.{Accepted, length-codewordAt}
 use Rattle.row_format.specs.Row as row
@@ -36,18 +33,8 @@ escape-length {t} {r} ok h =
 
 -- ---- the escape codeword b of n bits and a height in 12 bits more
 module _ (b n h : ℕ) (few : n ≤ 15) (above : b < 2 ^ n) (twelve : h < 4096) where
-  -- the shift loses nothing
-  shifted : h * 2 ^ n % 2 ^ 64 + b ≡ h * 2 ^ n + b
-  shifted = ap (_+ b) (shl-exact 12 n 64 twelve (omega arith))
-
-  shifted-lt : h * 2 ^ n % 2 ^ 64 + b < 2 ^ (n + 12)
-  shifted-lt = rw (shifted, add-comm n 12, pow-add 2 12 n) (digits-lt twelve above)
-
-  pub height-fits : h * 2 ^ n % 2 ^ 64 + b < 2 ^ 64
-  height-fits = lt-of-lt-of-le shifted-lt (pow-mono {i = n + 12} {j = 64} (omega arith))
-
-  pub holds-height : Holds (digits n b ++ digits 12 h) (record { bits = h * 2 ^ n % 2 ^ 64 + b; len = n + 12 })
-  holds-height = record { bits = rw shifted (sym (digits-join n 12 h b above)); above = shifted-lt; most = omega arith }
+  pub holds-height : {r : ℕ} → r ≡ h * 2 ^ n + b → Holds (digits n b ++ digits 12 h) (record { bits = r; len = n + 12 })
+  holds-height e = rw e (record { bits = sym (digits-join n 12 h b above); above = above-lt n 12 h b above twelve; most = omega arith })
 
 -- ---- an item as the code holds it, turned round
 pub plain-coded : (j : row.Item) → plain (coded j) ≡ j

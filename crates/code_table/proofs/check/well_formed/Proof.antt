@@ -11,11 +11,11 @@ returns c = formed-empty (c .before .args .w) (c .if1 .taken)
 returns-2 : tie.Need-returns-2
 returns-2 c = formed-long (c .before .before .args .w) (omega arith) (c .if2 .taken)
 
-shr-result : tie.Need-shr-result
-shr-result c = search needs
+power-requires : tie.Need-power-requires
+power-requires c κs = search needs
 
 returns-3 : tie.Need-returns-3
-returns-3 c = formed-last (c .before .before .args .w) (omega arith) (omega arith)
+returns-3 c = rw (c .power .ensures) (formed-last (c .before .before .before .args .w) (omega arith) (omega arith))
 
 pub well-formed-spec : {M : Type 1} → statement M
-well-formed-spec = tie.close (tie.spec returns returns-2 shr-result returns-3)
+well-formed-spec = tie.close (tie.spec returns returns-2 power-requires returns-3)

@@ -1,8 +1,8 @@
 -- `hints::spread` is safe, and nothing more is claimed. The invariant says nothing; the measure is the heads that are left. Assumes nothing.
 use Prim.Native.Nat.{_-_}
 use native.Mathlib.Omega.{arith}
+use lib.Pow.{pow-pos, pow-mono}
 use borrow.Author.Needs.{needs}
-use Rattle.row_unpacker.proofs.view.Laws.{step-least, step-most}
 use Rattle.row_unpacker.proofs.hints.spread.Statement.{statement}
 use Rattle.row_unpacker.proofs.hints.spread.Tie as tie
 
@@ -12,8 +12,11 @@ Inv-loop hints₀ bits len i step k₀ hints k = Unit {0}
 abbrev μ-loop : tie.MeasureT-loop
 μ-loop hints₀ bits len i step k₀ hints k = 4096 - k
 
-shl-step : tie.Need-shl-step Inv-loop μ-loop
-shl-step c = search needs
+power-requires : tie.Need-power-requires Inv-loop μ-loop
+power-requires c κs = search needs
+
+cast-step : tie.Need-cast-step Inv-loop μ-loop
+cast-step c = search needs
 
 loop-holds : tie.Need-loop-holds Inv-loop μ-loop
 loop-holds c = search needs
@@ -26,13 +29,13 @@ element-write-hints c = search needs
 
 add-k : tie.Need-add-k Inv-loop μ-loop
 add-k c =
-    let start = c .before .before in
-    record { fits = omega (arith, step-most (start .args .len) (start .pre)) }
+    let start = c .before .before .before in
+    record { fits = omega (arith, pow-mono {i = start .args .len} {j = 31} (omega arith)) }
 
 loop-less : tie.Need-loop-less Inv-loop μ-loop
 loop-less c =
-    let start = c .before .before in
-    omega (arith, step-least (start .args .len) (start .pre))
+    let start = c .before .before .before in
+    omega (arith, pow-pos (start .args .len))
 
 loop-again : tie.Need-loop-again Inv-loop μ-loop
 loop-again c = search needs
@@ -46,7 +49,8 @@ spread-spec =
     (tie.spec
     Inv-loop
     μ-loop
-    shl-step
+    power-requires
+    cast-step
     loop-holds
     mul-hints
     element-write-hints

@@ -1,0 +1,18 @@
+-- `shift::low_bits` is a remainder by a power. Assumes nothing.
+use native.Mathlib.Omega.{arith}
+use lib.Pow.{pow-pos}
+use borrow.Author.Needs.{needs}
+use Rattle.bitstream.proofs.shift.low_bits.Statement.{statement}
+use Rattle.bitstream.proofs.shift.low_bits.Tie as tie
+
+power-requires : tie.Need-power-requires
+power-requires c κs = search needs
+
+rem-result : tie.Need-rem-result
+rem-result c = omega (arith, pow-pos (c .before .args .n))
+
+returns : tie.Need-returns
+returns c = rw (c .power .ensures)
+
+pub low-bits-spec : {M : Type 1} → statement M
+low-bits-spec = tie.close (tie.spec power-requires rem-result returns)

@@ -1,4 +1,4 @@
--- What the inner functions of reading answer. Assumes nothing.
+-- What the inner functions of reading answer. Definitions only. Assumes nothing.
 use Prim.Native.Nat.{ℕ, _^_}
 use mathlib.Core.Bool.{Bool, true, false}
 use lib.ListN.{length}

@@ -1,10 +1,10 @@
 -- Bits in bytes. A slice of bytes is a stream of bits, the lowest bit of byte 0 first; for little-endian words this is
 -- document 01's order, "bit 0 of word 0, then upward, then to the next word". A bit is the number 0 or 1.
 -- Definitions only; their laws are in Bits/Laws.antt. Assumes nothing.
-use Prim.Native.Nat.{ℕ, zero, suc, _+_, _*_, _/_, _%_}
+use Prim.Native.Nat.{ℕ, zero, suc, _+_, _*_, _/_, _%_, _<_}
 use mathlib.Core.Bool.{Bool, true, false, _&&_}
 use mathlib.Core.List.{List, [], _∷_, _++_}
-use lib.ListN.{length, take, drop}
+use lib.ListN.{length, take, drop, getD}
 use lib.Dec.{eqb}
 pub mod Laws
 
@@ -61,3 +61,13 @@ unfoldable pub begins : List ℕ → List ℕ → Bool
 begins [] r = true
 begins (b ∷ s) [] = false
 begins (b ∷ s) (c ∷ r) = let q : Bool = begins s r in eqb b c && q
+
+-- every element of the list is below k: of bits below 2, of bytes below 256
+pub record Below (k : ℕ) (xs : List ℕ) : Type 0 where
+  pub below : (i : ℕ) → getD xs i 0 < k
+
+-- the first k bits of a stream, 0 past its end
+abbrev pub pad : ℕ → List ℕ → List ℕ
+pad zero b = []
+pad (suc k) [] = 0 ∷ pad k []
+pad (suc k) (x ∷ b) = x ∷ pad k b

@@ -1,4 +1,3 @@
 pub mod Bits
 pub mod Memory
-pub mod Part
 pub mod Writer

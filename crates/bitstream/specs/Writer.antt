@@ -1,12 +1,10 @@
--- What a writer of bit strings holds, and what its calls leave. Assumes nothing.
+-- What a writer of bit strings holds, and what its calls leave. Definitions only. Assumes nothing.
 use Prim.Native.Nat.{ℕ, _+_, _*_, _^_, _≤_, _<_}
 use mathlib.Core.Path.{_≡_}
 use mathlib.Core.List.{List, _++_}
 use lib.ListN.{length, take, drop}
-use Rattle.bitstream.specs.Bits.{digits, bitsOf, wordsFor}
-use Rattle.bitstream.specs.Bits.Laws.{pad}
+use Rattle.bitstream.specs.Bits.{digits, bitsOf, wordsFor, pad}
 use Rattle.bitstream.specs.declared.writer.Writer.{Writer}
-pub mod Laws
 
 -- the bits written so far: the stored words, then the register
 abbrev pub held : List ℕ → Writer → List ℕ

@@ -1,5 +1,5 @@
--- What the stages of the table check establish. Assumes nothing.
-use Prim.Native.Nat.{ℕ, _+_, _%_, _≤_, max}
+-- What the stages of the table check establish. Definitions only; their laws are in Check/Laws.antt. Assumes nothing.
+use Prim.Native.Nat.{ℕ, _+_, _%_, max}
 use mathlib.Core.Path.{_≡_}
 use mathlib.Core.Bool.{Bool, true, false, cond}
 use mathlib.Core.List.{List, map}
@@ -32,14 +32,6 @@ pub record AllGathered (ws : List ℕ) (r : Gathered) (out : List ℕ) : Type 0 
   pub right : r .ok ≡ true → any wrongWord ws ≡ false
   pub most : r .ok ≡ true → r .longest ≡ longest (map codeword ws)
   pub wrong : r .ok ≡ false → any wrongWord ws ≡ true
-
--- the same pass, n words wanted, after i of them: longest is the longest length so far
-pub record Gathering (ts : List ℕ) (n : ℕ) (out : List ℕ) (most i : ℕ) : Type 0 where
-  pub within : i ≤ n
-  pub size : length out ≡ n
-  pub copied : take i out ≡ take i ts
-  pub right : any wrongWord (take i ts) ≡ false
-  pub longest-is : most ≡ longest (map codeword (take i ts))
 
 -- what is answered of string words that are in order, by their longest length and the escape's
 unfoldable pub judged : List ℕ → ℕ → ℕ → Answer

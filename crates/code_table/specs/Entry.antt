@@ -1,4 +1,4 @@
--- The entry that stands for a difference. Assumes nothing.
+-- The entry that stands for a difference. Definitions only; their laws are in Entry/Laws.antt. Assumes nothing.
 use Prim.Native.Nat.{ℕ, _-_, _≤_}
 use mathlib.Core.Path.{_≡_}
 use mathlib.Core.Bool.{cond}

@@ -1,4 +1,3 @@
 pub mod Check
 pub mod Entry
 pub mod Plain
-pub mod Words

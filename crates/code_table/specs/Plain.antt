@@ -1,8 +1,7 @@
--- The plain table lent out. Assumes nothing.
-use Prim.Native.Nat.{ℕ, _*_, _≤_}
-use mathlib.Core.Path.{_≡_}
-use mathlib.Core.List.{List, _++_}
-use lib.ListN.{length, take, drop}
+-- The plain table lent out. Definitions only; their laws are in Plain/Laws.antt. Assumes nothing.
+use Prim.Native.Nat.{ℕ, _*_}
+use mathlib.Core.List.{List}
+use lib.ListN.{length}
 use lib.Dec.{ltb}
 use Rattle.bitstream.specs.Bits.{flat, bytesOf}
 use Rattle.answer.specs.declared.Answer.{Answer}
@@ -17,9 +16,3 @@ plainLent m = unless (refuseIf (ltb (length m) 2072) 5) (λ e. refused e m) (wro
 -- the bytes of words
 unfoldable pub wordBytes : List ℕ → List ℕ
 wordBytes ws = bytesOf (4 * length ws) (flat 32 ws)
-
--- after i words were stored
-pub record Storing (ws out₀ out : List ℕ) (i : ℕ) : Type 0 where
-  pub within : i ≤ length ws
-  pub size : length out ≡ length out₀
-  pub memory : out ≡ wordBytes (take i ws) ++ drop (4 * i) out₀

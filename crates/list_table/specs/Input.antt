@@ -1,4 +1,4 @@
--- What reading came to. Assumes nothing.
+-- What reading came to. Definitions only. Assumes nothing.
 use Prim.Native.Nat.{ℕ, _≤_}
 use Rattle.list_table.specs.declared.Input.{Input}
 use Rattle.list_table.specs.declared.Input.the-variants.{Bytes, Failed}

@@ -1,5 +1,5 @@
 -- Words whose codewords lie on one branch of the code tree, and their parting by the next bit. Definitions only; their laws
--- are in Branch/Laws.antt. Assumes nothing.
+-- are in Branch/. Assumes nothing.
 use Prim.Native.Nat.{ℕ, _+_, _/_, _%_, _^_, _≤_, _<_}
 use mathlib.Core.Path.{_≡_}
 use mathlib.Core.Bool.{Bool, _||_}
@@ -7,6 +7,8 @@ use mathlib.Core.List.{List, map}
 use lib.ListN.{length, take, drop, getD}
 use Rattle.row_format.specs.Table.{codeword, clash}
 pub mod Laws
+pub mod Pairs
+pub mod Fork
 
 -- some codeword of these words equals or begins another
 abbrev pub clashes : List ℕ → Bool
@@ -24,27 +26,10 @@ pub record Agree (d : ℕ) (l : List ℕ) : Type 0 where
 pub record Longer (d : ℕ) (l : List ℕ) : Type 0 where
   pub longer : (k : ℕ) → k < length l → d < getD l k 0 % 32
 
--- each word of p is a word of l
-pub record Among (l p : List ℕ) : Type 0 where
-  pub place : (k : ℕ) → k < length p → (k′ : ℕ) × (k′ < length l) × (getD p k 0 ≡ getD l k′ 0)
-
 -- r is the length of the shortest of the first n codewords, and 32, which is none's, where n is 0
 pub record Shortest (l : List ℕ) (n r : ℕ) : Type 0 where
   pub least : (k : ℕ) → k < n → r ≤ getD l k 0 % 32
   pub found : r < 32 → (k : ℕ) × (k < n) × (getD l k 0 % 32 ≡ r)
-
--- of the first n words those below r have a 0 at bit d, and the others a 1
-pub record Parted (d : ℕ) (l : List ℕ) (n r : ℕ) : Type 0 where
-  pub most : r ≤ n
-  pub zeros : (k : ℕ) → k < r → bitAt d (getD l k 0) ≡ 0
-  pub ones : (k : ℕ) → r ≤ k → k < n → bitAt d (getD l k 0) ≡ 1
-
--- what the parting of s keeps while it moves words about, t being where it has come to
-pub record Reordered (d : ℕ) (s t : List ℕ) : Type 0 where
-  pub long : length t ≡ length s
-  pub agree : Agree d t
-  pub longer : Longer d t
-  pub clashing : clashes t ≡ clashes s
 
 -- s is left as t, whose first r words and whose rest agree in one bit more; what clashes in s clashes in one of the two
 pub record Split (d : ℕ) (s t : List ℕ) (r : ℕ) : Type 0 where

@@ -1,4 +1,5 @@
--- The items and states of document 01's rows (row_format, Row.antt) as the code holds them. Assumes nothing.
+-- The items and states of document 01's rows (row_format, Row.antt) as the code holds them. Definitions only; their law
+-- is in Coded/Laws.antt. Assumes nothing.
 use Prim.Native.Nat.{ℕ}
 use mathlib.Core.Path.{_≡_}
 use mathlib.Core.Bool.{true, false, cond}

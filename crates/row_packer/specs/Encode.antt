@@ -1,4 +1,4 @@
--- One pixel of a row. Assumes nothing.
+-- One pixel of a row. Definitions only. Assumes nothing.
 use Prim.Native.Nat.{ℕ, _≤_}
 use mathlib.Core.Path.{_≡_}
 use mathlib.Core.List.{List}
@@ -7,7 +7,6 @@ use Rattle.row_item.specs.declared.Progress.{Progress}
 use Rattle.row_item.specs.Coded.{progress, stateOf}
 use Rattle.row_packer.specs.Field.{Holds}
 use Rattle.row_packer.specs.declared.encode.Encoded.{Encoded}
-pub mod Laws
 
 -- p is a state's, and what is previous is a height
 pub record Sound (p : Progress) : Type 0 where

@@ -1,4 +1,4 @@
--- The bits of an item, as a number and its length. Assumes nothing.
+-- The bits of an item, as a number and its length. Definitions only. Assumes nothing.
 use Prim.Native.Nat.{ℕ, _+_, _^_, _≤_, _<_}
 use mathlib.Core.Path.{_≡_}
 use mathlib.Core.List.{List}
@@ -11,7 +11,6 @@ use Rattle.row_item.specs.declared.Item.{Item}
 use Rattle.row_item.specs.declared.Item.the-variants.{Difference, BadPixel, BadBias, Escape}
 use Rattle.row_item.specs.Coded.{coded}
 use Rattle.row_packer.specs.declared.field.Field.{Field}
-pub mod Laws
 
 -- r holds these bits
 pub record Holds (b : List ℕ) (r : Field) : Type 0 where

@@ -1,4 +1,4 @@
--- What of a table's header the code carries along. Assumes nothing.
+-- What of a table's header the code carries along. Definitions only. Assumes nothing.
 use Prim.Native.Nat.{ℕ}
 use mathlib.Core.Path.{_≡_}
 use mathlib.Core.List.{List}

@@ -1,2 +1,1 @@
-pub mod Pixels
-pub mod Above
+pub mod Laws

@@ -1,4 +1,4 @@
--- One item read at a place of a row's words. Assumes nothing.
+-- One item read at a place of a row's words. Definitions only. Assumes nothing.
 use Prim.Native.Nat.{ℕ, _+_}
 use mathlib.Core.Path.{_≡_}
 use mathlib.Core.Bool.{cond}
@@ -12,7 +12,6 @@ use Rattle.row_item.specs.declared.Progress.{Progress}
 use Rattle.row_item.specs.Coded.{coded, stateOf}
 use Rattle.row_unpacker.specs.declared.item.Read.{Read}
 use Rattle.row_unpacker.specs.declared.item.Read.the-variants.{Got, Refused}
-pub mod Laws
 
 -- a reading at a place as the code answers it. The bits that a refused item uses are no part of the answer
 abbrev pub answered : State → ℕ → Reading → Read

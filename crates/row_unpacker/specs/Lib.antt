@@ -2,4 +2,3 @@ pub mod View
 pub mod Search
 pub mod Item
 pub mod Row
-pub mod Unpack

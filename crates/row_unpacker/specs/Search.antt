@@ -1,17 +1,17 @@
--- The search for the codeword that begins the rest of a stream, of which only a view is at hand. Assumes nothing.
-use Prim.Native.Nat.{ℕ, _+_, _≤_, _<_}
+-- The search for the codeword that begins the rest of a stream, of which only a view is at hand. Definitions only.
+-- Assumes nothing.
+use Prim.Native.Nat.{ℕ}
 use mathlib.Core.Path.{_≡_}
-use mathlib.Core.Bool.{Bool, false}
+use mathlib.Core.Bool.{Bool}
 use mathlib.Core.List.{List}
 use Rattle.bitstream.specs.Bits.{begins}
 use Rattle.row_format.specs.Lists.{any}
-use Rattle.row_format.specs.Table.{codeword, codewords, codewordAt}
+use Rattle.row_format.specs.Table.{codeword, codewords}
 use Rattle.row_format.specs.Reading.{Match, none, found, find}
 use Rattle.row_unpacker.specs.View.{Seen}
 use Rattle.row_unpacker.specs.declared.view.View.{View}
 use Rattle.row_unpacker.specs.declared.search.Hit.{Hit}
 use Rattle.row_unpacker.specs.declared.search.Hit.the-variants.{At, Nowhere}
-pub mod Laws
 
 -- a match as the code holds it
 abbrev pub hit : Match → Hit
@@ -34,8 +34,3 @@ begun r s = begins s r
 -- b is the test of what v shows and the codeword of the word w
 pub record Tested (f : List ℕ → List ℕ → Bool) (w : ℕ) (v : View) (b : Bool) : Type 0 where
   pub is : (r : List ℕ) → Seen r v → b ≡ f r (codeword w)
-
--- no codeword in the words of t from word 3 to word i passes the test
-pub record Passed (f : List ℕ → List ℕ → Bool) (t : List ℕ) (v : View) (i : ℕ) : Type 0 where
-  pub least : 3 ≤ i
-  pub none : (r : List ℕ) → Seen r v → (j : ℕ) → j + 3 < i → f r (codewordAt t j) ≡ false

@@ -5,7 +5,7 @@ use mathlib.Core.Path.{_≡_}
 use mathlib.Core.List.{List}
 use lib.ListN.{length}
 use Rattle.bitstream.specs.Bits.{halvesOf, wordsOf}
-use Rattle.bitstream.specs.Part.{partFrom}
+use Rattle.bitstream.specs.Memory.Part.{partFrom}
 use Rattle.answer.specs.declared.Answer.{Answer}
 use Rattle.answer.specs.Outcome.{outcome}
 use Rattle.row_format.specs.Calls.{packed}

@@ -13,7 +13,7 @@ use Rattle.answer.specs.Outcome.{_orElse_}
 use Rattle.answer.specs.Outcome.Laws.{lessNumber-zero, orElse-zero-left, orElse-zero-right}
 use Rattle.row_format.specs.Lists.{any}
 use Rattle.row_format.specs.Calls.{tooMany}
-use Rattle.row_pixels.specs.Pixels.{length-halves}
+use Rattle.row_pixels.specs.Laws.{length-halves}
 use Rattle.sheet_format.specs.declared.SheetState.{SheetState}
 use Rattle.sheet_format.specs.Record.{packedRecord, plainRecord, kindNumber, placeNumber}
 use Rattle.sheet_format.specs.Writing.{bodyFor, givenNumber, tooHigh}

@@ -1,8 +1,7 @@
 pub mod Order
-pub mod Pick
-pub mod Strings
+pub mod Parted
 pub mod Line
 pub mod Listing
-pub mod Fill
+pub mod Append
 pub mod Theorems
 pub mod Cases

@@ -13,9 +13,8 @@ use Rattle.table_listing.specs.Order.{places, occurs, before}
 use Rattle.table_listing.specs.Order.Laws.{order-perm}
 use Rattle.table_listing.specs.Order.Once.{length-order, order-once, getD-places, length-places}
 use Rattle.table_listing.specs.Order.Sorted.{order-before}
-use Rattle.table_listing.specs.Strings.{codewordAt-bits}
 use Rattle.table_listing.specs.Listing.{treeOrder, lines, joined, listing, block}
-use Rattle.table_listing.specs.Listing.Laws.{strings-count}
+use Rattle.table_listing.specs.Listing.Laws.{strings-count, codewordAt-bits}
 use Rattle.table_listing.specs.Listing.Blocks
 use Rattle.table_listing.specs.Listing.Long.{lines-cut}
 

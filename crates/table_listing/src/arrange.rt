@@ -7,7 +7,7 @@ ghost use Rattle.bitstream.specs.Bits.{wordsOf};
 ghost use Rattle.row_format.specs.Table.{codewordAt};
 ghost use Rattle.text.specs.Put.{Put};
 ghost use Rattle.table_listing.specs.Order.{picked, order, places};
-ghost use Rattle.table_listing.specs.Pick.{Parted};
+ghost use Rattle.table_listing.specs.Parted.{Parted};
 
 // Where the places that go into the 0-branch begin, and where those that go into the 1-branch do.
 struct Parts {

@@ -7,14 +7,13 @@ ghost use mathlib.Core.Path.{_≡_};
 ghost use mathlib.Core.List.{[], _∷_, map};
 ghost use Prim.Native.Nat.{_+_, _≤_, _<_};
 ghost use lib.ListN.{length, drop};
-ghost use Rattle.bitstream.specs.Bits.{wordsOf};
-ghost use Rattle.bitstream.specs.Bits.Laws.{Below};
+ghost use Rattle.bitstream.specs.Bits.{wordsOf, Below};
 ghost use Rattle.row_format.specs.Table.{tableSize};
 ghost use Rattle.code_table.specs.Check.{WholeTable};
 ghost use Rattle.text.specs.Lines.{refusedLine};
 ghost use Rattle.table_listing.specs.Line.{line};
 ghost use Rattle.table_listing.specs.Listing.{left, blockOf};
-ghost use Rattle.table_listing.specs.Fill.{Appended};
+ghost use Rattle.table_listing.specs.Append.{Appended};
 
 // The lines of the strings at some places, from the place numbered `first` on.
 pub fn list_lines(table: &[u8], list: &[u16], first: usize, out: &mut [u8]) -> Listed

@@ -1,8 +1,8 @@
 -- Bytes put into memory, one run after the other. Definitions only; their laws are in Put/Laws.antt. Assumes nothing.
-use Prim.Native.Nat.{ℕ, _+_, _≤_}
+use Prim.Native.Nat.{ℕ, _+_}
 use mathlib.Core.Path.{_≡_}
 use mathlib.Core.List.{List}
-use lib.ListN.{length, take}
+use lib.ListN.{length}
 use Rattle.bitstream.specs.Memory.{overwritten}
 pub mod Laws
 
@@ -10,9 +10,3 @@ pub mod Laws
 pub record Put (m : List ℕ) (at : ℕ) (b : List ℕ) (r : ℕ) (m′ : List ℕ) : Type 0 where
   pub next : r ≡ at + length b
   pub memory : m′ ≡ overwritten m at b
-
--- the same on the way, after i elements of b
-pub record Putting (m : List ℕ) (at : ℕ) (b : List ℕ) (i : ℕ) (m′ : List ℕ) : Type 0 where
-  pub within : i ≤ length b
-  pub size : length m′ ≡ length m
-  pub put : Put m at (take i b) (at + i) m′

@@ -1,4 +1,4 @@
--- Text as bytes. Definitions only; their laws are in Text/Laws.antt and Text/Signed.antt. Assumes nothing.
+-- Text as bytes. Definitions only; their laws are in Text/Laws.antt. Assumes nothing.
 use Prim.Native.Nat.{ℕ, zero, suc, _+_, _/_, _%_}
 use Prim.Native.Char.{code}
 use Prim.Native.String.{String}
@@ -7,7 +7,6 @@ use mathlib.Core.List.{List, [], _∷_, _++_}
 use lib.Dec.{ltb}
 use lib.IntN.{ℤ, pos, negsuc}
 pub mod Laws
-pub mod Signed
 
 -- the bytes of a text in ASCII
 abbrev pub ascii : String → List ℕ

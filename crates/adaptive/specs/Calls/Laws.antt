@@ -1,33 +1,23 @@
 -- The laws of the calls' answers. Assumes nothing.
 use Prim.Native.Nat.{ℕ, _≤_, _<_, zero-le}
 use native.Mathlib.Omega.{arith}
-use mathlib.Core.Path.{_≡_, refl, sym, ap}
+use mathlib.Core.Path.{_≡_, refl, ap}
 use mathlib.Core.Bool.{true}
-use mathlib.Core.List.{List, _++_}
+use mathlib.Core.List.{List}
 use lib.ListN.{length, drop}
 use lib.IntN.{ℤ}
-use borrow.Author.Tests.{lt-ltb, le-ltb}
+use borrow.Author.Tests.{le-ltb}
 use Rattle.adaptive.specs.declared.SignedRead.{SignedRead}
-use Rattle.adaptive.specs.declared.UnsignedRead.{UnsignedRead}
-use Rattle.answer.specs.Outcome.{outcome, answerOf, refused, wrote}
+use Rattle.answer.specs.Outcome.{wrote}
 use Rattle.adaptive.specs.Number.{Kind, signed, unsigned, Reading, accepted, rejected, readAs, shortest}
 use Rattle.adaptive.specs.Number.Lawful.{Lawful, signed-lawful, unsigned-lawful}
 use Rattle.adaptive.specs.Number.Read.{readAs-shortest, readAs-used, readAs-rejected}
 use Rattle.adaptive.specs.Calls.{written, signedRead, signedAnswer, signedWritten, unsignedRead, unsignedAnswer, unsignedWritten}
 
 -- ---- writing
-pub written-refused : (b m : List ℕ) → length m < length b → written b m ≡ refused 5 m
-unfolding written
-written-refused b m h = rw (lt-ltb (length m) (length b) h)
-
 pub written-done : (b m : List ℕ) → length b ≤ length m → written b m ≡ wrote (length b) b m
 unfolding written
 written-done b m h = rw (le-ltb (length m) (length b) h)
-
--- the same of what a call counts and leaves
-pub done-written : (b m m′ : List ℕ) (c : ℕ) → length b ≤ length m → c ≡ length b → m′ ≡ b ++ drop (length b) m
-    → outcome (answerOf 0 c) m′ ≡ written b m
-done-written b m m′ c h ec em = rw (ec, em) (sym (written-done b m h))
 
 -- ---- what is written is read back from the memory that it was written to
 back : {A : Type 0} {K : Kind A} → Lawful K → (v : A) (m : List ℕ) → K .inRange v ≡ true → length (shortest K v) ≤ length m
@@ -71,13 +61,5 @@ unfolding signedRead
 signedRead-used s e = rw e (fields (readAs signed s) (readAs-uses signed s))
   where
     fields : (r : Reading ℤ) → Uses s r → Used s (signedAnswer r .number) (signedAnswer r .used)
-    fields (accepted v n) u = u
-    fields (rejected x) u = u
-
-pub unsignedRead-used : (s : List ℕ) {r : UnsignedRead} → r ≡ unsignedRead s → Used s (r .number) (r .used)
-unfolding unsignedRead
-unsignedRead-used s e = rw e (fields (readAs unsigned s) (readAs-uses unsigned s))
-  where
-    fields : (r : Reading ℕ) → Uses s r → Used s (unsignedAnswer r .number) (unsignedAnswer r .used)
     fields (accepted v n) u = u
     fields (rejected x) u = u

@@ -10,10 +10,7 @@ use lib.Arith.{digits-lt, digits-div, mod-mul}
 use lib.Bits.{block-half, block-odd}
 use lib.Pow.{shr-shr, pow-pos, pow-add, pow-mono}
 use Rattle.bitstream.specs.Bits.{digits, numOf, flat, cut}
-
--- every element of the list is below k: of bits below 2, of bytes below 256
-pub record Below (k : ℕ) (xs : List ℕ) : Type 0 where
-  pub below : (i : ℕ) → getD xs i 0 < k
+pub use Rattle.bitstream.specs.Bits.{Below, pad}
 
 pub below-nil : {k : ℕ} → 0 < k → Below k []
 below-nil h = record { below = λ i. h }
@@ -205,12 +202,7 @@ cut-append w (suc m) n a b e =
     let rest : length (drop w a) ≡ w * m = length-drop w a ∙ (omega arith) in
     rw (suc-add m n, take-append-le w a b enough, drop-append-le w a b enough) (ap (numOf (take w a) ∷_) (cut-append w m n (drop w a) b rest))
 
--- ---- pad: the first k bits of a stream, 0 past its end
-abbrev pub pad : ℕ → List ℕ → List ℕ
-pad zero b = []
-pad (suc k) [] = 0 ∷ pad k []
-pad (suc k) (x ∷ b) = x ∷ pad k b
-
+-- ---- the first k bits of a stream, 0 past its end
 pub pad-add : (m n : ℕ) (b : List ℕ) → pad (m + n) b ≡ pad m b ++ pad n (drop m b)
 pad-add zero n b = rw (zero-add n)
 pad-add (suc m) n [] = rw (suc-add m n) (ap (0 ∷_) (pad-add m n [] ∙ rw (drop-nil {A = ℕ} m)))

@@ -9,7 +9,7 @@ use lib.Seq.{take-at, length-take-le}
 use lib.Dec.{eqb}
 use borrow.Author.Tests.{eqb-true, eqb-false, le-ltb}
 use borrow.Rule.Slice.PartMut.{put-same}
-use Rattle.bitstream.specs.Part.{partFrom, withPart, part-is, part-back}
+use Rattle.bitstream.specs.Memory.Part.{partFrom, withPart, part-is, part-back}
 use Rattle.answer.specs.declared.Answer.{Answer}
 use Rattle.answer.specs.Outcome.{Outcome, outcome, wrote}
 use Rattle.row_format.specs.Lists.Laws.{by-test}

@@ -1,5 +1,6 @@
 -- The proof of the cycle of calls {free}. The measure is what is left of 32 bits: a codeword has at most 31, and no call
 -- is made where one has ended. Assumes nothing.
+mod Laws
 use Prim.Native.Nat.{ℕ, _+_, _-_, _<_}
 use native.Mathlib.Omega.{arith}
 use mathlib.Core.Path.{_≡_, sym, ap, _∙_}
@@ -12,7 +13,7 @@ use borrow.Fn.Kinds.{In, Out}
 use borrow.Fn.PlainCycle.{Measures, is, falls, and}
 use lib.ListN.{length, take, drop}
 use lib.Seq.{length-take-le}
-use Rattle.prefix_free.specs.Branch.Laws.{clashes-few, clashes-ended, clashes-low-free, clashes-low-clash, shortest-longer, shortest-deeper, rest-kept}
+use Laws.{clashes-few, clashes-ended, clashes-low-free, clashes-low-clash, shortest-longer, shortest-deeper, rest-kept}
 use Rattle.prefix_free.proofs.free.Reads as free
 use Rattle.prefix_free.proofs.free.Kinds as free-kinds
 use Rattle.prefix_free.proofs.+free.Lts-free as free-lts

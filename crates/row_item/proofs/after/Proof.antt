@@ -1,6 +1,7 @@
 -- `row_item::after` meets its contract: by the kind of item. Assumes nothing.
+mod Laws
 use borrow.Author.Needs.{needs}
-use Rattle.row_item.specs.Coded.Laws.{after-difference, after-bad-pixel, after-bad-bias, after-first-escape, after-later-escape}
+use Laws.{after-difference, after-bad-pixel, after-bad-bias, after-first-escape, after-later-escape}
 use Rattle.row_item.proofs.after.Statement.{statement}
 use Rattle.row_item.proofs.after.Tie as tie
 

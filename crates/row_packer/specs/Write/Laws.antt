@@ -1,110 +1,29 @@
--- The laws of the pass that writes a row: its turns and its way out. Assumes nothing.
-use Prim.Native.Nat.{ℕ, _+_, _-_, _*_, _≤_, _<_}
+-- The laws of the bits of a row: no more than of the longest row of as many pixels. Assumes nothing.
+use Prim.Native.Nat.{ℕ, _*_, _/_, _≤_}
+use native.Mathlib.Nat.{mul-le-mul-left}
 use native.Mathlib.Omega.{arith}
-use mathlib.Core.Path.{_≡_, refl, sym, ap, _∙_}
-use mathlib.Core.List.{List, [], _++_, append-assoc, append-nil}
-use lib.ListN.{length, take, drop, getD, take-append-drop}
-use lib.Seq.{drop-drop, length-take-le}
-use Rattle.bitstream.specs.Bits.{digits, flat, bytesOf, wordsFor}
-use Rattle.bitstream.specs.Bits.Laws.{Below, below-cut, below-take, length-cut, flat-cut, pad}
-use Rattle.bitstream.specs.Writer.{held, Ready, Closable, Put, Finished}
-use Rattle.bitstream.specs.declared.writer.Writer.{Writer}
-use Rattle.row_format.specs.BitLaws.{bitsOf-inj}
-use Rattle.row_format.specs.Row.{fresh, rowBits}
-use Rattle.row_format.specs.Theorems.Words.{below-rowBits}
-use Rattle.row_item.specs.declared.Progress.{Progress}
-use Rattle.row_item.specs.Coded.{progress}
-use Rattle.row_packer.specs.Encode.{Encodes}
-use Rattle.row_packer.specs.Encode.Laws.{sound-progress}
-use Rattle.row_packer.specs.Remaining.{remaining}
-use Rattle.row_packer.specs.Remaining.Laws.{remaining-none, remaining-more, remaining-all, length-remaining-more}
-use Rattle.row_packer.specs.Write.{Written, Writing}
-use Rattle.row_packer.specs.declared.encode.Encoded.{Encoded}
+use mathlib.Core.Path.{_≡_, sym}
+use mathlib.Core.Bool.{false}
+use mathlib.Core.List.{List}
+use lib.ListN.{length}
+use lib.Dec.{ltb}
+use borrow.Author.Tests.{le-ltb}
+use Rattle.bitstream.specs.Bits.{halvesOf, wordsFor}
+use Rattle.row_format.specs.Table.{maxItemBits, Accepted}
+use Rattle.row_format.specs.Table.Laws.{maxItemBits-most}
+use Rattle.row_format.specs.Row.{rowBits}
+use Rattle.row_format.specs.Theorems.Bounds.{length-rowBits}
+use Rattle.row_pixels.specs.Laws.{length-halves}
 
--- what is alike from a place on is alike from a later place on
-drop-later : (a b : ℕ) (o m : List ℕ) → a ≤ b → drop a o ≡ drop a m → drop b o ≡ drop b m
-drop-later a b o m h e =
-    let place : a + (b - a) ≡ b = omega arith in
-    ap (λ (k : ℕ). drop k o) (sym place) ∙ sym (drop-drop (b - a) a o) ∙ ap (drop (b - a)) e ∙ drop-drop (b - a) a m ∙ ap (λ (k : ℕ). drop k m) place
+module _ {t : List ℕ} (accepted : Accepted t) (pb : List ℕ) {most : ℕ} (is : most ≡ maxItemBits t) (few : length pb / 2 ≤ 4096) where
+  pub longest-most : length pb / 2 * most ≤ 110592
+  longest-most = rw is (omega (arith, mul-le-mul-left (length pb / 2) (maxItemBits-most t accepted)))
 
-pub writing-none : (t ps m : List ℕ) {w : Writer} {p : Progress} → w ≡ record { words = 0; count = 0; acc = 0 } → p ≡ progress fresh → Writing t ps m m w p 0
-unfolding flat digits
-writing-none t ps m e q =
-    rw e
-    (record {
-      within = omega arith;
-      sound = sound-progress fresh q (omega arith);
-      whole = remaining-none t ps q;
-      good = record { few = omega arith; low = omega arith };
-      sum = omega (arith, ap length (remaining-none t ps q));
-      size = refl;
-      rest = refl;
-    })
+  rowBits-longest : length (rowBits t (halvesOf pb)) ≤ length pb / 2 * most
+  rowBits-longest = rw is (rw (length-halves pb) at (length-rowBits t (halvesOf pb)))
 
-module _ {t ps m o : List ℕ} {w : Writer} {p : Progress} {i : ℕ} (s : Writing t ps m o w p i) (room : 4 * wordsFor (length (rowBits t ps)) ≤ length m) where
-  -- the next pixel
-  module _ (h : i < length ps) {pixel : ℕ} (e : pixel ≡ getD ps i 0) {r : Encoded} (en : Encodes t p pixel r) where
-    pub writing-ready : {n : ℕ} → n ≤ r .field .len → Ready o w n
-    writing-ready few =
-        record {
-          good = s .good;
-          most = omega (arith, en .bits .most);
-          fits = omega (arith, s .sum, s .size, length-remaining-more t ps i h e en);
-        }
+  pub rowBits-most : length (rowBits t (halvesOf pb)) ≤ 110592
+  rowBits-most = omega (arith, rowBits-longest, longest-most)
 
-    pub writing-more : {o′ : List ℕ} {w′ : Writer} → Put o w (r .field .bits) (r .field .len) o′ w′ → length o′ ≡ length o → Writing t ps m o′ w′ (r .next) (i + 1)
-    writing-more {o′} {w′} put same =
-        let bits = digits (r .field .len) (r .field .bits) in
-        let left = remaining t ps (r .next) (i + 1) in
-        let later : 4 * (w .words) ≤ 4 * (w′ .words) = omega (arith, put .size, put .good .few) in
-        record {
-          within = omega arith;
-          sound = en .sound;
-          whole =
-              ap (_++ left) (put .bits)
-              ∙ append-assoc (held o w) bits left
-              ∙ ap (held o w ++_) (sym (remaining-more t ps i h e en))
-              ∙ s .whole;
-          good = put .good;
-          sum = omega (arith, put .size, s .sum, length-remaining-more t ps i h e en);
-          size = same ∙ s .size;
-          rest = put .rest ∙ drop-later (4 * (w .words)) (4 * (w′ .words)) o m later (s .rest);
-        }
-
-  -- every pixel is put
-  module _ (g : length ps ≤ i) where
-    end : remaining t ps p i ≡ []
-    end = remaining-all t ps p i (s .within) g
-
-    pub written-bits : 32 * (w .words) + w .count ≡ length (rowBits t ps)
-    written-bits = omega (arith, s .sum, ap length end)
-
-    held-all : held o w ≡ rowBits t ps
-    held-all = sym (append-nil (held o w)) ∙ ap (held o w ++_) (sym end) ∙ s .whole
-
-    pub written-closable : Closable o w
-    written-closable = record { good = s .good; fits = rw written-bits (omega (arith, s .size)) }
-
-    -- the words hold the row's bits and zeros, and what follows them is as it was
-    pub written-all : {o′ : List ℕ} {n : ℕ} → Finished o w o′ n → length o′ ≡ length o → Below 256 o′ → Written t ps m o′ (32 * (w .words) + w .count)
-    written-all {o′} {n} f same bytes =
-        let b = rowBits t ps in
-        let whole : n ≡ wordsFor (length b) = f .count ∙ ap wordsFor written-bits in
-        let place : 8 * (4 * n) ≡ 32 * n = omega arith in
-        let enough : 4 * n ≤ length o′ = omega (arith, s .size) in
-        let later : 4 * (w .words) ≤ 4 * n = omega (arith, written-bits) in
-        let front : take (4 * n) o′ ≡ bytesOf (4 * n) b =
-        bitsOf-inj (4 * n) (take (4 * n) o′) (bytesOf (4 * n) b)
-        (below-take (4 * n) o′ bytes)
-        (below-cut 8 (4 * n) b (below-rowBits t ps))
-        (length-take-le (4 * n) o′ enough)
-        (length-cut 8 (4 * n) b)
-        (f .front
-        ∙ ap (pad (32 * n)) held-all
-        ∙ ap (λ (k : ℕ). pad k b) (sym place)
-        ∙ sym (flat-cut 8 (4 * n) b (below-rowBits t ps))) in
-        let back : drop (4 * n) o′ ≡ drop (4 * n) m = f .rest ∙ drop-later (4 * (w .words)) (4 * n) o m later (s .rest) in
-        record {
-          memory = sym (take-append-drop (4 * n) o′) ∙ rw (front, back, whole, length-cut 8 (4 * wordsFor (length b)) b);
-          bits = written-bits;
-        }
+  pub longest-fits : {lent : ℕ} → wordsFor (length pb / 2 * most) ≤ lent → false ≡ ltb lent (wordsFor (length (rowBits t (halvesOf pb))))
+  longest-fits {lent} h = sym (le-ltb lent (wordsFor (length (rowBits t (halvesOf pb)))) (omega (arith, rowBits-longest)))

@@ -1,12 +1,12 @@
 -- `row_pixels::any_above` meets its contract: the loop's invariant is that `above` tells it of the pixels passed; the measure is
 -- the pixels left. Assumes nothing.
+mod Turn
 use Prim.Native.Nat.{_-_}
 use mathlib.Core.Logic.{⊎-elim}
 use borrow.Author.Needs.{needs}
 use Rattle.bitstream.specs.Bits.{halvesOf}
-use Rattle.row_pixels.specs.Pixels.{inside-halves, past-halves}
-use Rattle.row_pixels.specs.Above.{Looking}
-use Rattle.row_pixels.specs.Above.Laws.{looking-none, looking-low, looking-high, looked-all}
+use Rattle.row_pixels.specs.Laws.{inside-halves, past-halves}
+use Turn.{Looking, looking-none, looking-low, looking-high, looked-all}
 use Rattle.row_pixels.proofs.any_above.Statement.{statement}
 use Rattle.row_pixels.proofs.any_above.Tie as tie
 

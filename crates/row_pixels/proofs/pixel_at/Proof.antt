@@ -1,7 +1,8 @@
 -- `row_pixels::pixel_at` meets its contract: pixel i is the number of two bytes. Assumes nothing.
+mod Laws
 use borrow.Author.Needs.{needs}
-use mathlib.Core.Path.{_∙_, sym}
-use Rattle.row_pixels.specs.Pixels.{getD-halves}
+use mathlib.Core.Path.{sym, _∙_}
+use Laws.{getD-halves}
 use Rattle.row_pixels.proofs.pixel_at.Statement.{statement}
 use Rattle.row_pixels.proofs.pixel_at.Tie as tie
 

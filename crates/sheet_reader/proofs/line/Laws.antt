@@ -6,7 +6,7 @@ use mathlib.Core.List.{List, _++_}
 use lib.ListN.{length, drop}
 use lib.Dec.{ltb}
 use borrow.Author.Tests.{lt-ltb, le-ltb}
-use Rattle.bitstream.specs.Part.{partFrom, part-is}
+use Rattle.bitstream.specs.Memory.Part.{partFrom, part-is}
 use Rattle.answer.specs.Outcome.{_orElse_, refuseIf, lent, roomNumber}
 use Rattle.answer.specs.Outcome.Laws.{lessNumber-zero, orElse-assoc, orElse-zero-left, orElse-zero-right, given-first, given-next}
 use Rattle.row_format.specs.Row.{tooMany}

@@ -13,7 +13,7 @@ use Rattle.bitstream.specs.Bits.{digits, cut, bytesOf}
 use Rattle.bitstream.specs.Bits.Laws.{length-cut}
 use Rattle.bitstream.specs.Memory.{overwritten}
 use Rattle.bitstream.specs.Memory.Laws.{length-overwritten}
-use Rattle.bitstream.specs.Part.{partFrom, part-is}
+use Rattle.bitstream.specs.Memory.Part.{partFrom, part-is}
 use Rattle.adaptive.specs.declared.SignedRead.{SignedRead}
 use Rattle.adaptive.specs.Calls.{signedRead}
 use Rattle.adaptive.specs.Calls.Laws.{signedRead-used}

@@ -12,7 +12,7 @@ use lib.Dec.{ltb}
 use borrow.Author.Tests.{lt-ltb, le-ltb}
 use Rattle.bitstream.specs.Bits.{flat, wordsFor}
 use Rattle.bitstream.specs.Bits.Laws.{length-cut}
-use Rattle.bitstream.specs.Part.{partFrom, part-is}
+use Rattle.bitstream.specs.Memory.Part.{partFrom, part-is}
 use Rattle.answer.specs.declared.Answer.{Answer}
 use Rattle.answer.specs.Outcome.{Outcome, outcome, wrote, _orElse_, refuseIf, nothing, lent, roomNumber}
 use Rattle.answer.specs.Outcome.Laws.{lessNumber-zero, lessNumber-none, lessNumber-given, unequalNumber-none, unequalNumber-given, orElse-assoc, orElse-none, orElse-zero-right, orElse-same, given-first, given-next}

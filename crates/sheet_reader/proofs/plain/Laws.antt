@@ -9,7 +9,7 @@ use lib.Seq.{take-all}
 use lib.Dec.{ltb}
 use borrow.Author.Tests.{lt-ltb, le-ltb}
 use Rattle.bitstream.specs.Bits.{halvesOf}
-use Rattle.bitstream.specs.Part.{partFrom, part-is}
+use Rattle.bitstream.specs.Memory.Part.{partFrom, part-is}
 use Rattle.answer.specs.Outcome.{_orElse_, lent, roomNumber}
 use Rattle.answer.specs.Outcome.Laws.{lessNumber-zero, unequalNumber-none, unequalNumber-given, orElse-assoc, given-first, given-next}
 use Rattle.row_format.specs.Lists.{any}

@@ -6,7 +6,7 @@ use mathlib.Core.List.{List, _++_, append-assoc}
 use lib.ListN.{length, take, drop, length-append}
 use lib.Seq.{take-length, drop-at, drop-drop, length-take-le}
 use lib.Dec.{ltb}
-use Rattle.bitstream.specs.Part.{partFrom, withPart, part-is, part-back}
+use Rattle.bitstream.specs.Memory.Part.{partFrom, withPart, part-is, part-back}
 use Rattle.answer.specs.Outcome.{_orElse_, refuseIf}
 use Rattle.answer.specs.Outcome.Laws.{lessNumber-none, lessNumber-given, orElse-assoc}
 use Rattle.sheet_format.specs.declared.SheetState.{SheetState}

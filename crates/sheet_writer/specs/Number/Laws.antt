@@ -13,8 +13,7 @@ use borrow.Author.Tests.{lt-ltb, le-ltb}
 use Rattle.bitstream.specs.Bits.{numberOf, wordsOf}
 use Rattle.answer.specs.declared.Answer.{Answer}
 use Rattle.answer.specs.Outcome.{outcome}
-use Rattle.code_table.specs.Words.{getD-words}
-use Rattle.code_table.specs.Check.Laws.{length-words}
+use Rattle.code_table.specs.Check.Laws.{length-words, getD-words}
 use Rattle.adaptive.specs.Number.{signed, shortest}
 use Rattle.adaptive.specs.Calls.{written, signedWritten}
 use Rattle.adaptive.specs.Calls.Laws.{written-done}

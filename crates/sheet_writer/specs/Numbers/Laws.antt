@@ -7,7 +7,7 @@ use mathlib.Core.List.{List, [], _∷_, _++_, append-assoc, append-nil}
 use lib.ListN.{length, take, drop, getD, length-append, length-drop, take-append-drop}
 use lib.Seq.{take-suc, take-all, length-take-le, take-at, drop-drop, drop-at}
 use lib.IntN.{ℤ, pos}
-use Rattle.bitstream.specs.Part.{partFrom, withPart, part-is, part-back}
+use Rattle.bitstream.specs.Memory.Part.{partFrom, withPart, part-is, part-back}
 use Rattle.answer.specs.declared.Answer.{Answer}
 use Rattle.sheet_format.specs.Line.{lineBytes}
 use Rattle.sheet_format.specs.Line.Laws.{length-lineBytes}

@@ -12,7 +12,7 @@ use borrow.Author.Tests.{lt-ltb, le-ltb}
 use borrow.Rule.Slice.PartMut.{put-same}
 use Rattle.bitstream.specs.Bits.{halvesOf, wordsOf, wordsFor}
 use Rattle.bitstream.specs.Bits.Laws.{length-cut}
-use Rattle.bitstream.specs.Part.{partFrom, withPart, part-is, part-back}
+use Rattle.bitstream.specs.Memory.Part.{partFrom, withPart, part-is, part-back}
 use Rattle.answer.specs.declared.Answer.{Answer}
 use Rattle.answer.specs.Outcome as answers
 use Rattle.answer.specs.Outcome.{_orElse_, refuseIf}
@@ -22,8 +22,8 @@ use Rattle.row_format.specs.Calls.{packNumber, Packable}
 use Rattle.row_format.specs.Calls.Laws.{packable, packed-done, packed-number}
 use Rattle.row_format.specs.Theorems.Memory.{packed-kept, packed-within}
 use Rattle.row_format.specs.Table.Laws.{accepted-table}
-use Rattle.row_pixels.specs.Pixels.{length-halves}
-use Rattle.row_packer.specs.Measure.Laws.{rowBits-most}
+use Rattle.row_pixels.specs.Laws.{length-halves}
+use Rattle.row_packer.specs.Write.Laws.{rowBits-most}
 use Rattle.sheet_format.specs.declared.SheetState.{SheetState}
 use Rattle.sheet_format.specs.declared.RecordWritten.{RecordWritten}
 use Rattle.sheet_format.specs.Record.{packedRecord, kindNumber}

@@ -1,4 +1,5 @@
 -- `table_listing::list_strings`: the places are numbered, arranged and listed. Assumes nothing.
+mod Laws
 use Prim.Native.Nat.{_-_, _/_}
 use native.Mathlib.Omega.{arith}
 use mathlib.Core.Path.{_≡_, sym, ap, _∙_}
@@ -7,7 +8,8 @@ use lib.Seq.{length-take-le}
 use Rattle.bitstream.specs.Bits.{wordsOf}
 use Rattle.row_format.specs.Table.{codewordAt}
 use Rattle.table_listing.specs.Order.{order, places}
-use Rattle.table_listing.specs.Listing.Laws.{accepted-whole, strings-most, strings-least, arranged-below, arranged-block}
+use Rattle.table_listing.specs.Listing.Laws.{accepted-whole}
+use Laws.{strings-most, strings-least, arranged-below, arranged-block}
 use borrow.Author.Needs.{needs}
 use Rattle.table_listing.proofs.list_strings.Statement.{statement}
 use Rattle.table_listing.proofs.list_strings.Tie as tie

@@ -1,9 +1,10 @@
 -- `table_listing::list_table`: the check refuses the table, or it is listed. Assumes nothing.
+mod Laws
 use mathlib.Core.Path.{sym, ap, _∙_}
 use lib.Dec.{lit≤}
 use Rattle.answer.specs.declared.Answer.{Answer}
 use Rattle.row_format.specs.Calls.Laws.{checked-number}
-use Rattle.table_listing.specs.Listing.Laws.{refused-block}
+use Laws.{refused-block}
 use borrow.Author.Needs.{needs}
 use Rattle.table_listing.proofs.list_table.Statement.{statement}
 use Rattle.table_listing.proofs.list_table.Tie as tie

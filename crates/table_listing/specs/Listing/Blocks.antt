@@ -18,12 +18,11 @@ use Rattle.text.specs.Text.{ascii, field, decimal}
 use Rattle.text.specs.Text.Laws.{length-decimal}
 use Rattle.text.specs.Lines.{newline, refusedLine}
 use Rattle.table_listing.specs.Order.Once.{length-order}
-use Rattle.table_listing.specs.Strings.{codewordAt-bits}
 use Rattle.table_listing.specs.Line.{line}
 use Rattle.table_listing.specs.Line.Laws.{getD-map, line-most}
 use Rattle.table_listing.specs.declared.Listed.{Listed}
 use Rattle.table_listing.specs.Listing.{treeOrder, linesFor, lines, joined, fitting, Block, block, left}
-use Rattle.table_listing.specs.Listing.Laws.{strings-count, accepted-whole, treeOrder-below, lines-accepted}
+use Rattle.table_listing.specs.Listing.Laws.{strings-count, accepted-whole, treeOrder-below, lines-accepted, codewordAt-bits}
 
 -- ---- one block after the other
 joined-append : (ks ls : List (List ℕ)) → joined (ks ++ ls) ≡ joined ks ++ joined ls
@@ -38,7 +37,8 @@ block-text b first m =
     let text = joined (take (fitting (length m) (drop first (lines b))) (drop first (lines b))) in
     ap (λ (n : ℕ). take n (overwritten m 0 text)) (sym (zero-add (length text))) ∙ take-overwritten m 0 text (omega arith)
 
-pub block-then : (b : List ℕ) (first n : ℕ) → joined (drop first (lines b)) ≡ joined (take n (drop first (lines b))) ++ joined (drop (first + n) (lines b))
+pub block-then : (b : List ℕ) (first n : ℕ)
+    → joined (drop first (lines b)) ≡ joined (take n (drop first (lines b))) ++ joined (drop (first + n) (lines b))
 block-then b first n =
     sym (ap joined (take-append-drop n (drop first (lines b))))
     ∙ joined-append (take n (drop first (lines b))) (drop n (drop first (lines b)))
@@ -58,7 +58,8 @@ tableNumber-most b =
 
 refusedLine-most : (e : ℕ) → e ≤ 3 → length (refusedLine e) ≤ 128
 refusedLine-most e h =
-    rw (length-append (field (ascii "refused ") e) newline, length-append (ascii "refused ") (decimal e)) (omega (arith, length-decimal 0 e (omega arith)))
+    rw (length-append (field (ascii "refused ") e) newline, length-append (ascii "refused ") (decimal e))
+    (omega (arith, length-decimal 0 e (omega arith)))
 
 strings-most : (b : List ℕ) → tableNumber b ≡ 0 → (k : ℕ) → length (getD (map (line (wordsOf b)) (treeOrder (wordsOf b))) k []) ≤ 128
 strings-most b ok k =
@@ -138,5 +139,6 @@ module _ (b : List ℕ) (first : ℕ) (m : List ℕ) {m′ : List ℕ} {r : List
 
   pub answer-bytes : r .bytes ≤ length m
   answer-bytes =
-      let bytes-is : r .bytes ≡ length (joined (take (fitting (length m) (drop first (lines b))) (drop first (lines b)))) = ap (λ (k : Block). k .answer .bytes) e in
+      let bytes-is : r .bytes ≡ length (joined (take (fitting (length m) (drop first (lines b))) (drop first (lines b)))) =
+      ap (λ (k : Block). k .answer .bytes) e in
       omega (arith, fitting-room (length m) (drop first (lines b)))

@@ -1,5 +1,5 @@
 -- The laws of tree order. Assumes nothing.
-use Prim.Native.Nat.{ℕ, zero, suc, _+_, _-_, _≤_, _<_}
+use Prim.Native.Nat.{ℕ, zero, suc, _+_, _≤_, _<_}
 use native.Mathlib.Omega.{arith}
 use mathlib.Core.Path.{_≡_, refl, sym, ap, _∙_}
 use mathlib.Core.List.{
@@ -7,11 +7,9 @@ use mathlib.Core.List.{
   [],
   _∷_,
   _++_,
-  append-nil,
   List·Permᴰ,
   List·Permᴰ·nil,
   List·Permᴰ·cons,
-  List·Permᴰ·swap,
   List·Permᴰ·trans,
   Permᴰ·refl,
   Permᴰ·append-right,
@@ -21,7 +19,8 @@ use mathlib.Core.List.{
 use lib.ListN.{length, take, drop, getD, length-append, take-append-drop}
 use lib.Dec.{leb, eqb}
 use borrow.Author.Tests.{le-leb, lt-leb, eq-eqb, ne-eqb, eqb-true, eqb-false}
-use Rattle.bitstream.specs.Bits.Laws.{Below, below-cons, below-head, below-tail}
+use Rattle.bitstream.specs.Bits.Laws.{below-cons, below-head, below-tail}
+use Rattle.bitstream.specs.Bits.{Below}
 use Rattle.row_format.specs.Lists.Laws.{by-test}
 use Rattle.table_listing.specs.Order.{way, picked, order}
 
@@ -75,7 +74,7 @@ module _ (s : ℕ → List ℕ) (d k : ℕ) where
       (λ e. rw (picked-other p ps e) (picked-below n ps (below-tail h)))
 
 -- ---- tree order
-order-none : (s : ℕ → List ℕ) (left d : ℕ) → order s left d [] ≡ []
+pub order-none : (s : ℕ → List ℕ) (left d : ℕ) → order s left d [] ≡ []
 unfolding order
 order-none s zero d = refl
 order-none s (suc left) d = refl
@@ -88,7 +87,7 @@ order-suc s left d (p ∷ ps) = refl
 
 -- ---- of strings of bits each place goes one of the three ways
 module _ (s : ℕ → List ℕ) (bits : (p : ℕ) → Below 2 (s p)) where
-  by-three : {A : Type 0} (d p : ℕ) → (way d (s p) ≡ 0 → A) → (way d (s p) ≡ 1 → A) → (way d (s p) ≡ 2 → A) → A
+  pub by-three : {A : Type 0} (d p : ℕ) → (way d (s p) ≡ 0 → A) → (way d (s p) ≡ 1 → A) → (way d (s p) ≡ 2 → A) → A
   by-three {A} d p f g h = go (way d (s p)) refl (way-most d (s p) (bits p))
     where
       go : (k : ℕ) → way d (s p) ≡ k → k < 3 → A
@@ -99,13 +98,19 @@ module _ (s : ℕ → List ℕ) (bits : (p : ℕ) → Below 2 (s p)) where
 
   -- the three picks of a list whose first place goes a known way
   module _ (d p : ℕ) (ps : List ℕ) where
-    to-ends : way d (s p) ≡ 0 → picked s d 0 (p ∷ ps) ++ picked s d 1 (p ∷ ps) ++ picked s d 2 (p ∷ ps) ≡ (p ∷ picked s d 0 ps) ++ picked s d 1 ps ++ picked s d 2 ps
+    to-ends : way d (s p) ≡ 0
+        → picked s d 0 (p ∷ ps) ++ picked s d 1 (p ∷ ps) ++ picked s d 2 (p ∷ ps)
+        ≡ (p ∷ picked s d 0 ps) ++ picked s d 1 ps ++ picked s d 2 ps
     to-ends e = rw (picked-some s d 0 p ps e, picked-other s d 1 p ps (λ q. omega arith), picked-other s d 2 p ps (λ q. omega arith))
 
-    to-zeros : way d (s p) ≡ 1 → picked s d 0 (p ∷ ps) ++ picked s d 1 (p ∷ ps) ++ picked s d 2 (p ∷ ps) ≡ picked s d 0 ps ++ (p ∷ picked s d 1 ps) ++ picked s d 2 ps
+    to-zeros : way d (s p) ≡ 1
+        → picked s d 0 (p ∷ ps) ++ picked s d 1 (p ∷ ps) ++ picked s d 2 (p ∷ ps)
+        ≡ picked s d 0 ps ++ (p ∷ picked s d 1 ps) ++ picked s d 2 ps
     to-zeros e = rw (picked-some s d 1 p ps e, picked-other s d 0 p ps (λ q. omega arith), picked-other s d 2 p ps (λ q. omega arith))
 
-    to-ones : way d (s p) ≡ 2 → picked s d 0 (p ∷ ps) ++ picked s d 1 (p ∷ ps) ++ picked s d 2 (p ∷ ps) ≡ picked s d 0 ps ++ picked s d 1 ps ++ (p ∷ picked s d 2 ps)
+    to-ones : way d (s p) ≡ 2
+        → picked s d 0 (p ∷ ps) ++ picked s d 1 (p ∷ ps) ++ picked s d 2 (p ∷ ps)
+        ≡ picked s d 0 ps ++ picked s d 1 ps ++ (p ∷ picked s d 2 ps)
     to-ones e = rw (picked-some s d 2 p ps e, picked-other s d 0 p ps (λ q. omega arith), picked-other s d 1 p ps (λ q. omega arith))
 
   pub parted-perm : (d : ℕ) (ps : List ℕ) → List·Permᴰ (picked s d 0 ps ++ picked s d 1 ps ++ picked s d 2 ps) ps
@@ -114,7 +119,9 @@ module _ (s : ℕ → List ℕ) (bits : (p : ℕ) → Below 2 (s p)) where
       let rest = List·Permᴰ·cons {a = p} refl (parted-perm d ps) in
       by-three d p
       (λ e. rw (to-ends d p ps e) rest)
-      (λ e. rw (to-zeros d p ps e) (List·Permᴰ·trans (Permᴰ·append-right (picked s d 2 ps) (Permᴰ·middle p (picked s d 0 ps) (picked s d 1 ps))) rest))
+      (λ e.
+      rw (to-zeros d p ps e)
+      (List·Permᴰ·trans (Permᴰ·append-right (picked s d 2 ps) (Permᴰ·middle p (picked s d 0 ps) (picked s d 1 ps))) rest))
       (λ e. rw (to-ones d p ps e) (List·Permᴰ·trans (Permᴰ·middle p (picked s d 0 ps ++ picked s d 1 ps) (picked s d 2 ps)) rest))
 
   -- tree order leaves no place out and adds none
@@ -124,40 +131,7 @@ module _ (s : ℕ → List ℕ) (bits : (p : ℕ) → Below 2 (s p)) where
       rw (order-suc s left d ps)
       (List·Permᴰ·trans
       (List·Permᴰ·trans
-      (Permᴰ·append-right (order s left (suc d) (picked s d 2 ps)) (Permᴰ·append-left (picked s d 0 ps) (order-perm left (suc d) (picked s d 1 ps))))
+      (Permᴰ·append-right (order s left (suc d) (picked s d 2 ps))
+      (Permᴰ·append-left (picked s d 0 ps) (order-perm left (suc d) (picked s d 1 ps))))
       (Permᴰ·append-left (picked s d 0 ps ++ picked s d 1 ps) (order-perm left (suc d) (picked s d 2 ps))))
       (parted-perm d ps))
-
-  -- no place, or one alone, is in order
-  order-one : (left d p : ℕ) → order s left d (p ∷ []) ≡ p ∷ []
-  order-one zero d p = unfold order in refl
-  order-one (suc left) d p =
-      let nil : (k : ℕ) → picked s d k [] ≡ [] = λ k. unfold picked in refl in
-      order-suc s left d (p ∷ [])
-      ∙ by-three d p
-      (λ e. rw (picked-some s d 0 p [] e, picked-other s d 1 p [] (λ q. omega arith), picked-other s d 2 p [] (λ q. omega arith), nil 0, nil 1, nil 2, order-none s left (suc d)))
-      (λ e. rw (picked-some s d 1 p [] e, picked-other s d 0 p [] (λ q. omega arith), picked-other s d 2 p [] (λ q. omega arith), nil 0, nil 1, nil 2, order-none s left (suc d), order-one left (suc d) p))
-      (λ e. rw (picked-some s d 2 p [] e, picked-other s d 0 p [] (λ q. omega arith), picked-other s d 1 p [] (λ q. omega arith), nil 0, nil 1, nil 2, order-none s left (suc d), order-one left (suc d) p))
-
-  pub order-few : (left d : ℕ) (ps : List ℕ) → length ps < 2 → order s left d ps ≡ ps
-  order-few left d [] h = order-none s left d
-  order-few left d (p ∷ []) h = order-one left d p
-  order-few left d (p ∷ q ∷ ps) h = absurd (omega arith)
-
--- no bits to go
-pub order-end : (s : ℕ → List ℕ) (left d : ℕ) (ps : List ℕ) → left ≡ 0 → ps ≡ order s left d ps
-unfolding order
-order-end s zero d ps e = refl
-order-end s (suc left) d ps e = absurd (omega arith)
-
--- a node with `left` bits to go, in a tree 27 bits deep
-pub order-step : (s : ℕ → List ℕ) (left : ℕ) (ps : List ℕ) → 1 ≤ left → left ≤ 27
-    → order s left (27 - left) ps
-    ≡ picked s (27 - left) 0 ps
-    ++ order s (left - 1) (27 - (left - 1)) (picked s (27 - left) 1 ps)
-    ++ order s (left - 1) (27 - (left - 1)) (picked s (27 - left) 2 ps)
-order-step s zero ps least most = absurd (omega arith)
-order-step s (suc left) ps least most =
-    let one : suc left - 1 ≡ left = omega arith in
-    let deeper : 27 - left ≡ suc (27 - suc left) = omega arith in
-    rw (one, deeper) (order-suc s left (27 - suc left) ps)

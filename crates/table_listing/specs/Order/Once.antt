@@ -8,7 +8,8 @@ use lib.ListN.{length, getD, length-append, List·getD-append}
 use lib.Seq.{getD-at}
 use lib.Dec.{ltb}
 use borrow.Author.Tests.{eq-eqb, ne-eqb, ltb-true, ltb-false}
-use Rattle.bitstream.specs.Bits.Laws.{Below, below-nil, below-cons, below-head, below-tail, below-append}
+use Rattle.bitstream.specs.Bits.Laws.{below-nil, below-cons, below-head, below-tail, below-append}
+use Rattle.bitstream.specs.Bits.{Below}
 use Rattle.row_format.specs.Lists.Laws.{by-test}
 use Rattle.table_listing.specs.Order.{order, places, occurs}
 use Rattle.table_listing.specs.Order.Laws.{order-perm}

@@ -9,7 +9,7 @@ use lib.ListN.{length, drop, getD, drop-of-length-le}
 use lib.Seq.{drop-cons}
 use lib.Dec.{leb}
 use borrow.Author.Tests.{leb-true, leb-false, eq-eqb}
-use Rattle.bitstream.specs.Bits.Laws.{Below}
+use Rattle.bitstream.specs.Bits.{Below}
 use Rattle.row_format.specs.Lists.Laws.{by-test}
 use Rattle.table_listing.specs.Order.{way, picked, order, before}
 use Rattle.table_listing.specs.Order.Laws.{way-ended, way-on, by-way, picked-some, picked-other, order-suc, order-perm}

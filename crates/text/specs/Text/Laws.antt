@@ -1,16 +1,15 @@
 -- The laws of numbers as text. Assumes nothing.
-use Prim.Native.Nat.{ℕ, zero, suc, _+_, _/_, _%_, _^_, _≤_, _<_}
+use Prim.Native.Nat.{ℕ, zero, suc, _/_, _%_, _^_, _≤_, _<_}
 use native.Mathlib.Nat.{div-lt-iff-lt-mul, mod-eq-of-lt, pow-suc}
 use native.Mathlib.Omega.{arith}
 use mathlib.Core.Path.{_≡_, refl, sym, ap, _∙_}
 use mathlib.Core.Bool.{Bool, true, false}
-use mathlib.Core.List.{List, [], _∷_, _++_}
-use lib.ListN.{length, set, length-append}
+use mathlib.Core.List.{[], _∷_, _++_}
+use lib.ListN.{length, length-append}
 use lib.Dec.{ltb}
+use lib.IntN.{ℤ, pos, negsuc, natAbs}
 use borrow.Author.Tests.{lt-ltb, le-ltb, ltb-true, ltb-false}
-use Rattle.text.specs.Put.{Put}
-use Rattle.text.specs.Put.Laws.{put-one, put-more}
-use Rattle.text.specs.Text.{digit, spelled, decimal}
+use Rattle.text.specs.Text.{digit, spelled, decimal, integer}
 
 -- the two ways of a test, with what each says
 by-ten : {A : Type 0} (n : ℕ) → (n < 10 → A) → (10 ≤ n → A) → A
@@ -58,13 +57,12 @@ length-decimal (suc k) n h =
     by-ten n
     (λ l. rw (decimal-digit n l) (omega arith))
     (λ l.
-    let front : length (decimal (n / 10)) ≤ suc k = length-decimal k (n / 10) (div-lt-iff-lt-mul (omega arith) .1 (rw (pow-suc 10 (suc k)) at h)) in
+    let front : length (decimal (n / 10)) ≤ suc k =
+    length-decimal k (n / 10) (div-lt-iff-lt-mul (omega arith) .1 (rw (pow-suc 10 (suc k)) at h)) in
     rw (decimal-more n l, length-append (decimal (n / 10)) (digit (n % 10) ∷ [])) (omega arith))
 
--- ---- a number put digit by digit
-pub put-digit : {m : List ℕ} {at : ℕ} (n : ℕ) → n < 10 → at < length m → Put m at (decimal n) (at + 1) (set m at (digit (n % 10)))
-put-digit {m} {at} n h room = rw (decimal-digit n h, mod-eq-of-lt h) (put-one m at (digit n) room)
-
-pub put-digits : {m m′ : List ℕ} {at r : ℕ} (n : ℕ) → 10 ≤ n → r < length m → length m′ ≡ length m → Put m at (decimal (n / 10)) r m′
-    → Put m at (decimal n) (r + 1) (set m′ r (digit (n % 10)))
-put-digits n h room e p = rw (decimal-more n h) (put-more (digit (n % 10)) room e p)
+-- one byte more than its digits at most
+pub length-integer : (k : ℕ) (z : ℤ) → natAbs z < 10 ^ suc k → length (integer z) ≤ suc (suc k)
+unfolding integer
+length-integer k (pos n) h = omega (arith, length-decimal k n h)
+length-integer k (negsuc n) h = omega (arith, length-decimal k (suc n) h)

@@ -1,4 +1,5 @@
 -- `adaptive::write::write_bytes` meets its contract. Assumes nothing.
+mod Laws
 use native.Mathlib.Omega.{arith}
 use Prim.Native.Nat.{suc}
 use lib.ListN.{length}
@@ -6,7 +7,7 @@ use mathlib.Core.Path.{_≡_, sym}
 use borrow.Author.Needs.{needs}
 use Rattle.adaptive.specs.Number.{bytesOf}
 use Rattle.adaptive.specs.Number.Laws.{length-bytesOf}
-use Rattle.adaptive.specs.Calls.Laws.{written-refused, done-written}
+use Laws.{written-refused, done-written}
 use Rattle.adaptive.proofs.write.write_bytes.Statement.{statement}
 use Rattle.adaptive.proofs.write.write_bytes.Tie as tie
 

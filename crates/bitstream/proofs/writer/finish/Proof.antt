@@ -1,7 +1,7 @@
 -- `bitstream::writer::finish` meets its contract: either nothing is left, or the register is the last word. Assumes nothing.
 use native.Mathlib.Omega.{arith}
 use borrow.Author.Needs.{needs}
-use Rattle.bitstream.specs.Writer.Laws.{finish-whole, finish-stored}
+use Rattle.bitstream.proofs.writer.Laws.{finish-whole, finish-stored}
 use Rattle.bitstream.proofs.writer.finish.Statement.{statement}
 use Rattle.bitstream.proofs.writer.finish.Tie as tie
 

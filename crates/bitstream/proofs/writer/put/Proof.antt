@@ -2,7 +2,7 @@
 use native.Mathlib.Omega.{arith}
 use borrow.Author.Needs.{needs}
 use Rattle.bitstream.specs.Bits.Laws.{above-fits}
-use Rattle.bitstream.specs.Writer.Laws.{put-kept, put-stored}
+use Rattle.bitstream.proofs.writer.Laws.{put-kept, put-stored}
 use Rattle.bitstream.proofs.writer.put.Statement.{statement}
 use Rattle.bitstream.proofs.writer.put.Tie as tie
 

@@ -1,7 +1,7 @@
 -- `code_table::check::check` meets its contract: either the sizes are wrong, or the codewords decide. Assumes nothing.
 use lib.Dec.{lit≤}
 use borrow.Author.Needs.{needs}
-use Rattle.code_table.specs.Check.Laws.{checked-sizes}
+use Rattle.code_table.proofs.check.Laws.{checked-sizes}
 use Rattle.code_table.proofs.check.check.Statement.{statement}
 use Rattle.code_table.proofs.check.check.Tie as tie
 

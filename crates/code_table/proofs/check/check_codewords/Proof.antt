@@ -1,11 +1,12 @@
 -- `code_table::check::check_codewords` meets its contract: the escape is too long, or a word is wrong, or the prefix test decides. Assumes nothing.
 use Prim.Native.Nat.{ℕ, _-_, _/_, _%_, _<_}
 use native.Mathlib.Omega.{arith}
-use mathlib.Core.Path.{sym, ap, subst, _∙_}
+use mathlib.Core.Path.{sym, ap, _∙_, subst}
 use lib.ListN.{length}
 use lib.Seq.{length-take-le}
 use borrow.Author.Needs.{needs}
-use Rattle.code_table.specs.Check.Laws.{whole-table-words, checked-escape, checked-refused, checked-gathered}
+use Rattle.code_table.specs.Check.Laws.{whole-table-words}
+use Rattle.code_table.proofs.check.Laws.{checked-escape, checked-refused, checked-gathered}
 use Rattle.code_table.proofs.check.check_codewords.Statement.{statement}
 use Rattle.code_table.proofs.check.check_codewords.Tie as tie
 

@@ -1,12 +1,12 @@
 -- `code_table::check::gather` meets its contract: the invariant is that the words so far are copied, right, and their longest length known; the measure is the count of words left. Assumes nothing.
+mod Turn
 use Prim.Native.Nat.{_-_}
 use native.Mathlib.Omega.{arith}
-use mathlib.Core.Path.{refl, _∙_, sym}
+use mathlib.Core.Path.{refl, sym, _∙_}
 use lib.ListN.{length, drop}
 use borrow.Author.Needs.{needs}
 use Rattle.bitstream.specs.Bits.{wordsOf}
-use Rattle.code_table.specs.Check.{Gathering}
-use Rattle.code_table.specs.Check.Laws.{codewordWords-enough, codewordWords-at, gathering-none, gathering-more, gathered-wrong, gathered-all}
+use Turn.{Gathering, codewordWords-enough, codewordWords-at, gathering-none, gathering-more, gathered-wrong, gathered-all}
 use Rattle.code_table.proofs.check.gather.Statement.{statement}
 use Rattle.code_table.proofs.check.gather.Tie as tie
 

@@ -1,7 +1,7 @@
 -- `code_table::check::judge` meets its contract: the prefix test decides. Assumes nothing.
 use mathlib.Core.Path.{sym, _∙_}
 use borrow.Author.Needs.{needs}
-use Rattle.code_table.specs.Check.Laws.{judged-free, judged-clash}
+use Rattle.code_table.proofs.check.Laws.{judged-free, judged-clash}
 use Rattle.code_table.proofs.check.judge.Statement.{statement}
 use Rattle.code_table.proofs.check.judge.Tie as tie
 

@@ -1,7 +1,7 @@
 -- `code_table::check::well_formed` meets its contract: by the tests of `wrongWord`, in their order. Assumes nothing.
 use native.Mathlib.Omega.{arith}
 use borrow.Author.Needs.{needs}
-use Rattle.code_table.specs.Check.Laws.{formed-empty, formed-long, formed-last}
+use Rattle.code_table.proofs.check.Laws.{formed-empty, formed-long, formed-last}
 use Rattle.code_table.proofs.check.well_formed.Statement.{statement}
 use Rattle.code_table.proofs.check.well_formed.Tie as tie
 

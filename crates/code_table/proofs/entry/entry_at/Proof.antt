@@ -2,7 +2,7 @@
 use native.Mathlib.Omega.{arith}
 use borrow.Author.Needs.{needs}
 use Rattle.bitstream.specs.Bits.{wordsOf}
-use Rattle.code_table.specs.Entry.Laws.{entry-below, entry-inside, entry-above}
+use Rattle.code_table.proofs.entry.Laws.{entry-below, entry-inside, entry-above}
 use Rattle.code_table.proofs.entry.entry_at.Statement.{statement}
 use Rattle.code_table.proofs.entry.entry_at.Tie as tie
 

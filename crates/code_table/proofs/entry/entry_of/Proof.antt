@@ -1,6 +1,6 @@
 -- `code_table::entry::entry_of` meets its contract: a number from -4093 to 4093 has a count, any other has no entry. Assumes nothing.
 use native.Mathlib.Omega.{arith}
-use mathlib.Core.Path.{_≡_, subst, ap, _∙_}
+use mathlib.Core.Path.{_≡_, ap, _∙_, subst}
 use mathlib.Core.Bool.{true}
 use lib.IntN.{ℤ, pos, negsuc, natAbs}
 use lib.Signed.{ltZ}
@@ -8,7 +8,8 @@ use borrow.Author.Needs.{needs}
 use mir.Facts.{toZ-ofZ}
 use Rattle.bitstream.specs.Bits.{wordsOf}
 use Rattle.code_table.specs.Entry.{entryAt}
-use Rattle.code_table.specs.Entry.Laws.{tested, sum-fits, sum-count, found-below, found-above, found-inside}
+use Rattle.code_table.specs.Entry.Laws.{sum-fits, sum-count}
+use Rattle.code_table.proofs.entry.Laws.{tested, found-below, found-above, found-inside}
 use Rattle.code_table.proofs.entry.entry_of.Statement.{statement}
 use Rattle.code_table.proofs.entry.entry_of.Tie as tie
 

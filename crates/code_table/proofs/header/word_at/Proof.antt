@@ -1,7 +1,7 @@
 -- `code_table::header::word_at` meets its contract: a word is the number of its four bytes. Assumes nothing.
-use mathlib.Core.Path.{_∙_, sym}
+use mathlib.Core.Path.{sym, _∙_}
 use borrow.Author.Needs.{needs}
-use Rattle.code_table.specs.Words.{getD-words}
+use Rattle.code_table.specs.Check.Laws.{getD-words}
 use Rattle.code_table.proofs.header.word_at.Statement.{statement}
 use Rattle.code_table.proofs.header.word_at.Tie as tie
 

@@ -1,4 +1,5 @@
 -- `code_table::plain::plain_table` meets its contract: either the bytes do not fit, or the words are stored. Assumes nothing.
+mod Laws
 use Prim.Native.Nat.{ℕ, _*_}
 use native.Mathlib.Omega.{arith}
 use mathlib.Core.Path.{ap, _∙_}
@@ -6,7 +7,7 @@ use mathlib.Core.List.{List, _++_}
 use lib.ListN.{length, drop}
 use borrow.Author.Needs.{needs}
 use Rattle.code_table.specs.Plain.{wordBytes}
-use Rattle.code_table.specs.Plain.Laws.{plain-refused, plain-lent}
+use Laws.{plain-refused, plain-lent}
 use Rattle.code_table.proofs.plain.plain_table.Statement.{statement}
 use Rattle.code_table.proofs.plain.plain_table.Tie as tie
 

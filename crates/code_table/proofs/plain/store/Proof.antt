@@ -1,9 +1,9 @@
 -- `code_table::plain::store` meets its contract: the invariant is that the words so far are stored and the rest is as it was; the measure is the count of words left. Assumes nothing.
+mod Turn
 use Prim.Native.Nat.{_-_}
 use lib.ListN.{length}
 use borrow.Author.Needs.{needs}
-use Rattle.code_table.specs.Plain.{Storing}
-use Rattle.code_table.specs.Plain.Laws.{storing-none, storing-more, storing-all}
+use Turn.{Storing, storing-none, storing-more, storing-all}
 use Rattle.code_table.proofs.plain.store.Statement.{statement}
 use Rattle.code_table.proofs.plain.store.Tie as tie
 

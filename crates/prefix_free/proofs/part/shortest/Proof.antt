@@ -1,6 +1,7 @@
 -- `part::shortest` meets its contract. The invariant: `least` is the shortest of the first i. The measure is what is left.
 -- Assumes nothing.
-use Prim.Native.Nat.{_≤_, _-_}
+mod Turn
+use Prim.Native.Nat.{_-_, _≤_}
 use borrow.Author.Needs.{needs}
 use denote.Ref.{now}
 use native.Mathlib.Omega.{arith}
@@ -8,7 +9,7 @@ use mathlib.Core.Path.{_≡_}
 use mathlib.Core.Logic.{⊎-elim}
 use lib.ListN.{length}
 use Rattle.prefix_free.specs.Branch.{Shortest}
-use Rattle.prefix_free.specs.Branch.Laws.{shortest-none, shortest-kept, shortest-less}
+use Turn.{shortest-none, shortest-kept, shortest-less}
 use Rattle.prefix_free.proofs.part.shortest.Statement.{statement}
 use Rattle.prefix_free.proofs.part.shortest.Tie as tie
 

@@ -1,12 +1,13 @@
 -- `part::split` meets its contract. The invariant: the first i words are parted, and the words are those of the entry in
 -- another order. The measure is what is left. Assumes nothing.
-use Prim.Native.Nat.{_≤_, _-_}
+mod Exchange
+mod Turn
+use Prim.Native.Nat.{_-_, _≤_}
 use borrow.Author.Needs.{needs}
 use native.Mathlib.Omega.{arith}
 use mathlib.Core.Path.{_≡_}
 use lib.ListN.{length, length-set}
-use Rattle.prefix_free.specs.Branch.{Parted, Reordered}
-use Rattle.prefix_free.specs.Branch.Laws.{parted-none, parted-more, parted-split, reordered-none, reordered-more}
+use Turn.{Parted, Reordered, parted-none, parted-more, parted-split, reordered-none, reordered-more}
 use Rattle.prefix_free.proofs.part.split.Statement.{statement}
 use Rattle.prefix_free.proofs.part.split.Tie as tie
 

@@ -1,7 +1,7 @@
 -- `row_packer::encode::encode` meets its contract: the chosen item can be written, and its bits and what follows it are the
 -- definition's. Assumes nothing.
 use borrow.Author.Needs.{needs}
-use Rattle.row_packer.specs.Encode.Laws.{chosen-codable, encodes}
+use Rattle.row_packer.proofs.encode.Laws.{chosen-codable, encodes}
 use Rattle.row_packer.proofs.encode.encode.Statement.{statement}
 use Rattle.row_packer.proofs.encode.encode.Tie as tie
 

@@ -2,7 +2,7 @@
 use borrow.Author.Needs.{needs}
 use native.Mathlib.Omega.{arith}
 use Rattle.code_table.specs.Check.Laws.{length-words}
-use Rattle.row_packer.specs.Field.Laws.{holds-codeword}
+use Rattle.row_packer.proofs.field.Laws.{holds-codeword}
 use Rattle.row_packer.proofs.field.codeword_at.Statement.{statement}
 use Rattle.row_packer.proofs.field.codeword_at.Tie as tie
 

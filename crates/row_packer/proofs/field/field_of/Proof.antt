@@ -2,7 +2,7 @@
 -- the code computes in i32 is the difference's count from -4093. Assumes nothing.
 use borrow.Author.Needs.{needs}
 use native.Mathlib.Omega.{arith}
-use Rattle.row_packer.specs.Field.Laws.{escape-length, count-fits, count-is, count-low, count-high, holds-difference, escape-twelve, holds-escape}
+use Rattle.row_packer.proofs.field.Laws.{escape-length, count-fits, count-is, count-low, count-high, holds-difference, escape-twelve, holds-escape}
 use Rattle.row_packer.proofs.field.field_of.Statement.{statement}
 use Rattle.row_packer.proofs.field.field_of.Tie as tie
 

@@ -2,7 +2,7 @@
 use native.Mathlib.Omega.{arith}
 use borrow.Author.Needs.{needs}
 use Rattle.bitstream.specs.Bits.Laws.{above-fits}
-use Rattle.row_packer.specs.Field.Laws.{holds-height}
+use Rattle.row_packer.proofs.field.Laws.{holds-height}
 use Rattle.row_packer.proofs.field.with_height.Statement.{statement}
 use Rattle.row_packer.proofs.field.with_height.Tie as tie
 

@@ -1,6 +1,6 @@
 -- `row_packer::item::item_for` meets its contract: each way out is document 01's case for the pixel. Assumes nothing.
 use borrow.Author.Needs.{needs}
-use Rattle.row_packer.specs.Item.Laws.{chosen-bad-pixel, chosen-bad-bias, chosen-below, chosen-difference, chosen-above}
+use Rattle.row_packer.proofs.item.Laws.{chosen-bad-pixel, chosen-bad-bias, chosen-below, chosen-difference, chosen-above}
 use Rattle.row_packer.proofs.item.item_for.Statement.{statement}
 use Rattle.row_packer.proofs.item.item_for.Tie as tie
 

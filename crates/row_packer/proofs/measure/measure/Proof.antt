@@ -1,12 +1,13 @@
 -- `row_packer::measure::measure` meets its contract. The loop's invariant: the bits counted and the bits of what is left make
 -- the row's. The measure is the pixels left. Assumes nothing.
+mod Turn
 use borrow.Author.Needs.{needs}
 use native.Mathlib.Omega.{arith}
 use Prim.Native.Nat.{_-_}
 use Rattle.bitstream.specs.Bits.{wordsOf, halvesOf}
-use Rattle.row_pixels.specs.Pixels.{inside-halves, past-halves, pixel-most}
-use Rattle.row_packer.specs.Measure.{Measuring}
-use Rattle.row_packer.specs.Measure.Laws.{measuring-none, measuring-more, measured-all}
+use Rattle.row_pixels.specs.Laws.{inside-halves, past-halves, pixel-most}
+use Turn.{Measuring}
+use Rattle.row_packer.proofs.measure.measure.Proof.Turn.{measuring-none, measuring-more, measured-all}
 use Rattle.row_packer.proofs.measure.measure.Statement.{statement}
 use Rattle.row_packer.proofs.measure.measure.Tie as tie
 

@@ -5,7 +5,7 @@ use native.Mathlib.Omega.{arith}
 use mathlib.Core.Path.{ap, _∙_}
 use lib.Dec.{ltb}
 use Rattle.bitstream.specs.Bits.{wordsFor}
-use Rattle.row_packer.specs.Measure.Laws.{longest-most, rowBits-most, longest-fits}
+use Rattle.row_packer.specs.Write.Laws.{longest-most, rowBits-most, longest-fits}
 use Rattle.row_packer.proofs.measure.too_short.Statement.{statement}
 use Rattle.row_packer.proofs.measure.too_short.Tie as tie
 

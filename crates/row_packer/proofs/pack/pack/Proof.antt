@@ -1,6 +1,6 @@
 -- `row_packer::pack::pack` meets its contract: the refusals 1, 2, 3 and 11. Assumes nothing.
 use borrow.Author.Needs.{needs}
-use Rattle.row_packer.specs.Calls.{checked-zero, checked-count, packed-table, packed-many}
+use Rattle.row_packer.proofs.Laws.{checked-zero, checked-count, packed-table, packed-many}
 use Rattle.row_packer.proofs.pack.pack.Statement.{statement}
 use Rattle.row_packer.proofs.pack.pack.Tie as tie
 

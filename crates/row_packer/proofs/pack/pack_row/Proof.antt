@@ -2,7 +2,7 @@
 use borrow.Author.Needs.{needs}
 use mathlib.Core.Path.{sym, _∙_}
 use Rattle.row_format.specs.Table.Laws.{accepted-table}
-use Rattle.row_packer.specs.Calls.{header-words, packed-above, packed-full, room-enough, packed-all}
+use Rattle.row_packer.proofs.Laws.{header-words, packed-above, packed-full, room-enough, packed-all}
 use Rattle.row_packer.proofs.pack.pack_row.Statement.{statement}
 use Rattle.row_packer.proofs.pack.pack_row.Tie as tie
 

@@ -1,7 +1,7 @@
 -- `row_packer::room::room` meets its contract: the refusals 1, 2, 3 and 11, and n times M in words. Assumes nothing.
 use borrow.Author.Needs.{needs}
 use native.Mathlib.Omega.{arith}
-use Rattle.row_packer.specs.Calls.{checked-zero, checked-count, room-table, room-many, room-most, room-done}
+use Rattle.row_packer.proofs.Laws.{checked-zero, checked-count, room-table, room-many, room-most, room-done}
 use Rattle.row_packer.proofs.room.room.Statement.{statement}
 use Rattle.row_packer.proofs.room.room.Tie as tie
 

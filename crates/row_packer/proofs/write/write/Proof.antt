@@ -1,14 +1,22 @@
 -- `row_packer::write::write` meets its contract. The loop's invariant: what the writer holds and the bits of what is left are the
 -- row's bits, and the memory after the words stored is as it was. The measure is the pixels left. Assumes nothing.
+mod Turn
 use borrow.Author.Needs.{needs}
 use native.Mathlib.Omega.{arith}
 use Prim.Native.Nat.{_-_}
 use mathlib.Core.Path.{refl, _∙_}
 use Rattle.bitstream.specs.Bits.{wordsOf, halvesOf}
-use Rattle.row_pixels.specs.Pixels.{inside-halves, past-halves, pixel-most}
-use Rattle.row_packer.specs.Measure.Laws.{rowBits-most}
-use Rattle.row_packer.specs.Write.{Writing}
-use Rattle.row_packer.specs.Write.Laws.{writing-none, writing-ready, writing-more, written-closable, written-bits, written-all}
+use Rattle.row_pixels.specs.Laws.{inside-halves, past-halves, pixel-most}
+use Rattle.row_packer.specs.Write.Laws.{rowBits-most}
+use Turn.{Writing}
+use Rattle.row_packer.proofs.write.write.Proof.Turn.{
+  writing-none,
+  writing-ready,
+  writing-more,
+  written-closable,
+  written-bits,
+  written-all,
+}
 use Rattle.row_packer.proofs.write.write.Statement.{statement}
 use Rattle.row_packer.proofs.write.write.Tie as tie
 

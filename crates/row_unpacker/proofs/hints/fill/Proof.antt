@@ -3,7 +3,7 @@ use Prim.Native.Nat.{_-_, _/_}
 use native.Mathlib.Omega.{arith}
 use lib.ListN.{length}
 use borrow.Author.Needs.{needs}
-use Rattle.row_unpacker.specs.Search.Laws.{words-most}
+use Rattle.row_unpacker.proofs.search.Laws.{words-most}
 use Rattle.row_unpacker.proofs.hints.fill.Statement.{statement}
 use Rattle.row_unpacker.proofs.hints.fill.Tie as tie
 

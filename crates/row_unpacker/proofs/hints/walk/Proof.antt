@@ -1,7 +1,7 @@
 -- `hints::walk` is safe, and nothing more is claimed. The invariant says nothing; the measure is the word, whose next is less. Assumes nothing.
 use native.Mathlib.Omega.{arith}
 use borrow.Author.Needs.{needs}
-use Rattle.row_unpacker.specs.Search.Laws.{words-most}
+use Rattle.row_unpacker.proofs.search.Laws.{words-most}
 use Rattle.row_unpacker.proofs.hints.walk.Statement.{statement}
 use Rattle.row_unpacker.proofs.hints.walk.Tie as tie
 

@@ -2,7 +2,7 @@
 use borrow.Author.Needs.{needs}
 use Rattle.bitstream.specs.Bits.{wordsOf}
 use Rattle.row_item.specs.Coded.{stateOf}
-use Rattle.row_unpacker.specs.Item.Laws.{entry-below, entry-above, entry-got}
+use Rattle.row_unpacker.proofs.item.Laws.{entry-below, entry-above, entry-got}
 use Rattle.row_unpacker.proofs.item.entry_found.Statement.{statement}
 use Rattle.row_unpacker.proofs.item.entry_found.Tie as tie
 

@@ -2,7 +2,7 @@
 use native.Mathlib.Omega.{arith}
 use borrow.Author.Needs.{needs}
 use Rattle.bitstream.specs.Bits.{stream}
-use Rattle.row_unpacker.specs.Item.Laws.{height-short, height-got, height-bad}
+use Rattle.row_unpacker.proofs.item.Laws.{height-short, height-got, height-bad}
 use Rattle.row_unpacker.proofs.item.height_after.Statement.{statement}
 use Rattle.row_unpacker.proofs.item.height_after.Tie as tie
 

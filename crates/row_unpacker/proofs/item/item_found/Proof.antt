@@ -5,7 +5,7 @@ use lib.ListN.{drop}
 use borrow.Author.Needs.{needs}
 use Rattle.bitstream.specs.Bits.{wordsOf, stream}
 use Rattle.row_item.specs.Coded.{stateOf}
-use Rattle.row_unpacker.specs.Item.Laws.{found-escape, found-bad-pixel, found-bad-bias, found-entry}
+use Rattle.row_unpacker.proofs.item.Laws.{found-escape, found-bad-pixel, found-bad-bias, found-entry}
 use Rattle.row_unpacker.proofs.item.item_found.Statement.{statement}
 use Rattle.row_unpacker.proofs.item.item_found.Tie as tie
 

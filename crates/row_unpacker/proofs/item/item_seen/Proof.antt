@@ -1,6 +1,6 @@
 -- `item::item_seen`: the item of what was found; where nothing was, 6 or 7. Assumes nothing.
 use borrow.Author.Needs.{needs}
-use Rattle.row_unpacker.specs.Item.Laws.{found-within, read-found, read-short, read-unknown}
+use Rattle.row_unpacker.proofs.item.Laws.{found-within, read-found, read-short, read-unknown}
 use Rattle.row_unpacker.proofs.item.item_seen.Statement.{statement}
 use Rattle.row_unpacker.proofs.item.item_seen.Tie as tie
 

@@ -7,9 +7,8 @@ use lib.ListN.{length}
 use borrow.Author.Needs.{needs}
 use Rattle.bitstream.specs.Bits.{wordsOf, stream}
 use Rattle.row_format.specs.Reading.{readItem, readItems}
-use Rattle.row_unpacker.specs.Item.Laws.{itemAt-answered}
-use Rattle.row_unpacker.specs.Row.{Partly}
-use Rattle.row_unpacker.specs.Row.Laws.{readItem-most, partly-none, partly-more, partly-stop, partly-all}
+use Rattle.row_unpacker.proofs.item.Laws.{itemAt-answered}
+use Rattle.row_unpacker.proofs.row.Laws.{readItem-most, partly-none, partly-more, partly-stop, partly-all, Partly}
 use Rattle.row_unpacker.proofs.row.read_items.Statement.{statement}
 use Rattle.row_unpacker.proofs.row.read_items.Tie as tie
 

@@ -1,7 +1,7 @@
 -- `search::begun_by_rest`: a rest longer than the codeword is no beginning of it; any other is where the codeword's lowest bits are the window. Assumes nothing.
 use native.Mathlib.Omega.{arith}
 use borrow.Author.Needs.{needs}
-use Rattle.row_unpacker.specs.Search.Laws.{begins-long, begins-low}
+use Rattle.row_unpacker.proofs.search.Laws.{begins-long, begins-low}
 use Rattle.row_unpacker.proofs.search.begun_by_rest.Statement.{statement}
 use Rattle.row_unpacker.proofs.search.begun_by_rest.Tie as tie
 

@@ -6,8 +6,7 @@ use lib.ListN.{length}
 use borrow.Author.Needs.{needs}
 use Rattle.bitstream.specs.Bits.{begins, wordsOf}
 use Rattle.code_table.specs.Check.Laws.{length-words}
-use Rattle.row_unpacker.specs.Search.{Passed}
-use Rattle.row_unpacker.specs.Search.Laws.{passed-none, passed-more, short-long, short-here, short-nowhere}
+use Rattle.row_unpacker.proofs.search.Laws.{passed-none, passed-more, short-long, short-here, short-nowhere, Passed}
 use Rattle.row_unpacker.proofs.search.cut_short.Statement.{statement}
 use Rattle.row_unpacker.proofs.search.cut_short.Tie as tie
 

@@ -5,8 +5,8 @@ use lib.ListN.{length}
 use borrow.Author.Needs.{needs}
 use Rattle.bitstream.specs.Bits.{wordsOf}
 use Rattle.code_table.specs.Check.Laws.{length-words}
-use Rattle.row_unpacker.specs.Search.{begun, Passed}
-use Rattle.row_unpacker.specs.Search.Laws.{passed-none, passed-more, finds-here, finds-nowhere}
+use Rattle.row_unpacker.specs.Search.{begun}
+use Rattle.row_unpacker.proofs.search.Laws.{passed-none, passed-more, finds-here, finds-nowhere, Passed}
 use Rattle.row_unpacker.proofs.search.search.Statement.{statement}
 use Rattle.row_unpacker.proofs.search.search.Tie as tie
 

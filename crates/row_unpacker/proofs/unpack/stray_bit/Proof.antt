@@ -1,7 +1,7 @@
 -- `unpack::stray_bit`: in whole words no bit is unused; else the window's lowest bits are those of the last word that are. Assumes nothing.
 use borrow.Author.Needs.{needs}
 use Rattle.bitstream.specs.Bits.{stream}
-use Rattle.row_unpacker.specs.Unpack.{stray-none, stray-low}
+use Rattle.row_unpacker.proofs.unpack.Laws.{stray-none, stray-low}
 use Rattle.row_unpacker.proofs.unpack.stray_bit.Statement.{statement}
 use Rattle.row_unpacker.proofs.unpack.stray_bit.Tie as tie
 

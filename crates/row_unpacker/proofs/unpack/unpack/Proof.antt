@@ -1,7 +1,7 @@
 -- `unpack::unpack`: the table's number, 11, 5, and then the row's own outcome. Assumes nothing.
 use native.Mathlib.Omega.{arith}
 use borrow.Author.Needs.{needs}
-use Rattle.row_unpacker.specs.Unpack.{accepted-table, unpacked-table, unpacked-many, unpacked-full, unpacked-row}
+use Rattle.row_unpacker.proofs.unpack.Laws.{accepted-table, unpacked-table, unpacked-many, unpacked-full, unpacked-row}
 use Rattle.row_unpacker.proofs.unpack.unpack.Statement.{statement}
 use Rattle.row_unpacker.proofs.unpack.unpack.Tie as tie
 

@@ -4,7 +4,7 @@ use mathlib.Core.Path.{sym, _∙_}
 use borrow.Author.Needs.{needs}
 use Rattle.bitstream.specs.Bits.{wordsOf, stream}
 use Rattle.row_format.specs.Reading.{readItems}
-use Rattle.row_unpacker.specs.Unpack.{row-stray, row-used, row-done, row-refused}
+use Rattle.row_unpacker.proofs.unpack.Laws.{row-stray, row-used, row-done, row-refused}
 use Rattle.row_unpacker.proofs.unpack.unpack_row.Statement.{statement}
 use Rattle.row_unpacker.proofs.unpack.unpack_row.Tie as tie
 

@@ -5,7 +5,7 @@ use mathlib.Core.Path.{sym}
 use lib.ListN.{length}
 use lib.Seq.{length-take-le}
 use borrow.Author.Needs.{needs}
-use Rattle.row_unpacker.specs.View.Laws.{seen-stream}
+use Rattle.row_unpacker.proofs.view.Laws.{seen-stream}
 use Rattle.row_unpacker.proofs.view.look_ahead.Statement.{statement}
 use Rattle.row_unpacker.proofs.view.look_ahead.Tie as tie
 

@@ -1,4 +1,5 @@
 -- The proof of the cycle of calls {arrange}. The measure is the bits that the tree still goes deeper. Assumes nothing.
+mod Laws
 use Prim.Native.Nat.{ℕ, _-_, _<_}
 use native.Mathlib.Omega.{arith}
 use mathlib.Core.Path.{_≡_, sym}
@@ -9,9 +10,8 @@ use borrow.Fn.PlainCycle.{Measures, is, falls, and}
 use lib.ListN.{length, drop, length-take, length-drop}
 use Rattle.bitstream.specs.Bits.{wordsOf}
 use Rattle.row_format.specs.Table.{codewordAt}
-use Rattle.table_listing.specs.Order.Laws.{order-end, order-few}
-use Rattle.table_listing.specs.Strings.{codewordAt-bits}
-use Rattle.table_listing.specs.Pick.Laws.{Bounds, parted-bounds, step}
+use Laws.{order-end, order-few, Bounds, parted-bounds, step}
+use Rattle.table_listing.specs.Listing.Laws.{codewordAt-bits}
 use Rattle.table_listing.proofs.arrange.arrange.Reads as arrange
 use Rattle.table_listing.proofs.arrange.arrange.Kinds as arrange-kinds
 use Rattle.table_listing.proofs.arrange.+arrange.Lts-arrange as arrange-lts

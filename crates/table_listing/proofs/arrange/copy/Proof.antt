@@ -3,8 +3,7 @@ use Prim.Native.Nat.{_-_}
 use mathlib.Core.Path.{refl, sym}
 use borrow.Author.Needs.{needs}
 use lib.ListN.{length}
-use Rattle.table_listing.specs.Pick.{Copying}
-use Rattle.table_listing.specs.Pick.Laws.{copying-none, copying-more, copying-all}
+use Rattle.table_listing.proofs.arrange.Laws.{Copying, copying-none, copying-more, copying-all}
 use Rattle.table_listing.proofs.arrange.copy.Statement.{statement}
 use Rattle.table_listing.proofs.arrange.copy.Tie as tie
 

@@ -7,8 +7,7 @@ use borrow.Author.Needs.{needs}
 use lib.ListN.{length}
 use Rattle.table_listing.specs.Order.{places}
 use Rattle.table_listing.specs.Order.Once.{length-places, getD-places}
-use Rattle.table_listing.specs.Pick.{Copying}
-use Rattle.table_listing.specs.Pick.Laws.{copying-none, copying-more, copying-all}
+use Rattle.table_listing.proofs.arrange.Laws.{Copying, copying-none, copying-more, copying-all}
 use Rattle.table_listing.proofs.arrange.number.Statement.{statement}
 use Rattle.table_listing.proofs.arrange.number.Tie as tie
 

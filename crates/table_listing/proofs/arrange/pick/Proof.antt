@@ -1,5 +1,6 @@
 -- `table_listing::arrange::pick`: of the first i places those that go the way k are put before each turn; the measure is
 -- what is left of the places. Assumes nothing.
+mod Turn
 use Prim.Native.Nat.{_-_, _<_}
 use mathlib.Core.Path.{sym, _∙_}
 use native.Mathlib.Omega.{arith}
@@ -7,8 +8,7 @@ use borrow.Author.Needs.{needs}
 use lib.ListN.{length}
 use Rattle.bitstream.specs.Bits.{wordsOf}
 use Rattle.row_format.specs.Table.{codewordAt}
-use Rattle.table_listing.specs.Pick.{Picking}
-use Rattle.table_listing.specs.Pick.Laws.{picking-none, picking-some, picking-other, picking-all, picking-room}
+use Turn.{Picking, picking-none, picking-some, picking-other, picking-all, picking-room}
 use Rattle.table_listing.proofs.arrange.pick.Statement.{statement}
 use Rattle.table_listing.proofs.arrange.pick.Tie as tie
 

@@ -1,9 +1,10 @@
 -- `table_listing::arrange::pick_each`: the three ways together have each place once. Assumes nothing.
+mod Laws
 use native.Mathlib.Omega.{arith}
 use Rattle.bitstream.specs.Bits.{wordsOf}
 use Rattle.row_format.specs.Table.{codewordAt}
-use Rattle.table_listing.specs.Strings.{codewordAt-bits}
-use Rattle.table_listing.specs.Pick.Laws.{picked-length, parted-all}
+use Rattle.table_listing.specs.Listing.Laws.{codewordAt-bits}
+use Laws.{picked-length, parted-all}
 use borrow.Author.Needs.{needs}
 use Rattle.table_listing.proofs.arrange.pick_each.Statement.{statement}
 use Rattle.table_listing.proofs.arrange.pick_each.Tie as tie

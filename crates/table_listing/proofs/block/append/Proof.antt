@@ -1,5 +1,5 @@
 -- `table_listing::block::append`: the text fits, or not. Assumes nothing.
-use Rattle.table_listing.specs.Fill.Laws.{append-fits, append-stays}
+use Rattle.table_listing.proofs.block.Laws.{append-fits, append-stays}
 use borrow.Author.Needs.{needs}
 use Rattle.table_listing.proofs.block.append.Statement.{statement}
 use Rattle.table_listing.proofs.block.append.Tie as tie

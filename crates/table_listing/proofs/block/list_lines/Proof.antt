@@ -8,9 +8,16 @@ use borrow.Author.Needs.{needs}
 use lib.ListN.{length, drop, getD}
 use Rattle.bitstream.specs.Bits.{wordsOf}
 use Rattle.table_listing.specs.Line.{line}
-use Rattle.table_listing.specs.Line.Laws.{line-some}
-use Rattle.table_listing.specs.Fill.{Filling}
-use Rattle.table_listing.specs.Fill.Laws.{filling-none, filling-all, turn-stop, turn-more, line-at, length-lines}
+use Rattle.table_listing.proofs.block.Laws.{
+  Filling,
+  filling-none,
+  filling-all,
+  turn-stop,
+  turn-more,
+  line-at,
+  length-lines,
+  line-some,
+}
 use Rattle.table_listing.proofs.block.list_lines.Statement.{statement}
 use Rattle.table_listing.proofs.block.list_lines.Tie as tie
 

@@ -1,6 +1,6 @@
 -- `table_listing::block::list_refusal`: the line is past, does not fit, or fits. Assumes nothing.
 use Rattle.text.specs.Lines.{refusedLine}
-use Rattle.table_listing.specs.Fill.Laws.{refused-some, alone-past, alone-stays, alone-fits}
+use Rattle.table_listing.proofs.block.Laws.{refused-some, alone-past, alone-stays, alone-fits}
 use borrow.Author.Needs.{needs}
 use Rattle.table_listing.proofs.block.list_refusal.Statement.{statement}
 use Rattle.table_listing.proofs.block.list_refusal.Tie as tie

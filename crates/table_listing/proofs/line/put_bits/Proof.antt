@@ -1,4 +1,5 @@
 -- `table_listing::line::put_bits`: i bits are put before each turn; the measure is what is left of them. Assumes nothing.
+mod Turn
 use Prim.Native.Nat.{_+_, _-_, _%_, _≤_, _<_}
 use native.Mathlib.Omega.{arith}
 use mathlib.Core.Path.{_≡_, refl, ap, _∙_}
@@ -7,9 +8,9 @@ use borrow.Author.Needs.{needs}
 use lib.ListN.{length}
 use Rattle.row_format.specs.Table.{codeword}
 use Rattle.text.specs.Text.{digit}
-use Rattle.text.specs.Put.{Putting}
-use Rattle.text.specs.Put.Laws.{putting-none, putting-more, putting-all}
-use Rattle.table_listing.specs.Line.Laws.{length-bits, getD-bits}
+use Turn.{Putting, putting-none, putting-more, putting-all}
+use Rattle.table_listing.specs.Line.Laws.{length-bits}
+use Rattle.table_listing.proofs.line.Laws.{getD-bits}
 use Rattle.table_listing.proofs.line.put_bits.Statement.{statement}
 use Rattle.table_listing.proofs.line.put_bits.Tie as tie
 

@@ -1,7 +1,7 @@
 -- `table_listing::line::put_line`: its parts one after the other. Assumes nothing.
 use native.Mathlib.Omega.{arith}
 use Rattle.bitstream.specs.Bits.{wordsOf}
-use Rattle.table_listing.specs.Line.Laws.{put-parts}
+use Rattle.table_listing.proofs.line.Laws.{put-parts}
 use borrow.Author.Needs.{needs}
 use Rattle.table_listing.proofs.line.put_line.Statement.{statement}
 use Rattle.table_listing.proofs.line.put_line.Tie as tie

@@ -1,9 +1,9 @@
+-- `table_listing::line::put_name`: by the place. Assumes nothing.
 use native.Mathlib.Omega.{arith}
 use mir.Syntax.{w32}
 use mir.Facts.{toZ-ofZ}
--- `table_listing::line::put_name`: by the place. Assumes nothing.
 use Rattle.bitstream.specs.Bits.{wordsOf}
-use Rattle.table_listing.specs.Line.Laws.{name-raw, name-pixel, name-bias, name-entry}
+use Rattle.table_listing.proofs.line.Laws.{name-raw, name-pixel, name-bias, name-entry}
 use borrow.Author.Needs.{needs}
 use Rattle.table_listing.proofs.line.put_name.Statement.{statement}
 use Rattle.table_listing.proofs.line.put_name.Tie as tie

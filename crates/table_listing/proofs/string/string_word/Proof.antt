@@ -1,6 +1,6 @@
 -- `table_listing::string::string_word`: inside the table and past it. Assumes nothing.
 use Prim.Native.Nat.{_+_}
-use Rattle.table_listing.specs.Strings.{word-none}
+use Rattle.table_listing.proofs.string.Laws.{word-none}
 use borrow.Author.Needs.{needs}
 use Rattle.table_listing.proofs.string.string_word.Statement.{statement}
 use Rattle.table_listing.proofs.string.string_word.Tie as tie

@@ -2,7 +2,7 @@
 use mathlib.Core.Path.{ap, _∙_}
 use Prim.Native.Nat.{_+_}
 use Rattle.bitstream.specs.Bits.{wordsOf}
-use Rattle.table_listing.specs.Strings.{way-word-ended, way-word-on}
+use Rattle.table_listing.proofs.string.Laws.{way-word-ended, way-word-on}
 use borrow.Author.Needs.{needs}
 use Rattle.table_listing.proofs.string.way_of.Statement.{statement}
 use Rattle.table_listing.proofs.string.way_of.Tie as tie

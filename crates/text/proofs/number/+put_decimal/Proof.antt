@@ -1,11 +1,13 @@
 -- The proof of the cycle of calls {put_decimal}. The measure is the number, of which a tenth goes on. Assumes nothing.
+mod Laws
 use Prim.Native.Nat.{ℕ, _+_, _/_, _<_}
 use native.Mathlib.Omega.{arith}
 use borrow.Author.Needs.{needs}
 use borrow.Fn.Kinds.{In, Out}
 use borrow.Fn.PlainCycle.{Measures, is, falls, and}
 use lib.ListN.{length-set}
-use Rattle.text.specs.Text.Laws.{length-decimal, put-digit, put-digits}
+use Rattle.text.specs.Text.Laws.{length-decimal}
+use Laws.{put-digit, put-digits}
 use Rattle.text.proofs.number.put_decimal.Reads as put-decimal
 use Rattle.text.proofs.number.put_decimal.Kinds as put-decimal-kinds
 use Rattle.text.proofs.number.+put_decimal.Lts-put_decimal as put-decimal-lts

@@ -1,5 +1,5 @@
 -- `text::number::magnitude`: by the sign. Assumes nothing.
-use Rattle.text.specs.Text.Signed.{less-fits, less-natural, magnitude-fits, magnitude-negative, positive-natural}
+use Rattle.text.proofs.number.Laws.{less-fits, less-natural, magnitude-fits, magnitude-negative, positive-natural}
 use borrow.Author.Needs.{needs}
 use Rattle.text.proofs.number.magnitude.Statement.{statement}
 use Rattle.text.proofs.number.magnitude.Tie as tie

@@ -2,7 +2,7 @@
 use native.Mathlib.Omega.{arith}
 use mathlib.Core.Path.{_∙_}
 use lib.ListN.{length-set}
-use Rattle.text.specs.Text.Signed.{put-negative, put-positive}
+use Rattle.text.proofs.number.Laws.{put-negative, put-positive}
 use borrow.Author.Needs.{needs}
 use Rattle.text.proofs.number.put_integer.Statement.{statement}
 use Rattle.text.proofs.number.put_integer.Tie as tie

@@ -1,7 +1,8 @@
 -- `text::put::put_bytes` meets its contract: the bytes are copied to their place. Assumes nothing.
+mod Laws
 use mathlib.Core.Path.{refl}
 use borrow.Author.Needs.{needs}
-use Rattle.text.specs.Put.Laws.{put-part}
+use Laws.{put-part}
 use Rattle.text.proofs.put.put_bytes.Statement.{statement}
 use Rattle.text.proofs.put.put_bytes.Tie as tie
 

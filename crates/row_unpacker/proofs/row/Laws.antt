@@ -1,0 +1,184 @@
+-- A row read item by item: what is reached after some of them, and its laws. Assumes nothing.
+use Prim.Native.Nat.{ℕ, suc, _+_, _-_, _*_, _≤_, _<_}
+use native.Mathlib.Nat.{zero-add, add-zero, add-assoc, sub-zero}
+use native.Mathlib.Omega.{arith}
+use mathlib.Core.Path.{_≡_, refl, sym, ap, _∙_, subst⁻¹}
+use mathlib.Core.List.{List, [], _∷_, _++_, append-assoc, append-nil}
+use lib.ListN.{length, take, drop}
+use lib.Seq.{drop-drop}
+use Rattle.bitstream.specs.Bits.{digits, flat, cut, bytesOf}
+use Rattle.bitstream.specs.Bits.Laws.{length-cut, length-digits, cut-append}
+use Rattle.bitstream.specs.Memory.{overwritten}
+use Rattle.bitstream.specs.Memory.Laws.{take-overwritten, length-overwritten}
+use Rattle.row_format.specs.Table.{codewords, longest, maxItemBits}
+use Rattle.row_format.specs.Table.Laws.{getD-codewords, length-codewordAt, longest-most}
+use Rattle.row_format.specs.Row.{State, fresh, pixelOf, after, pixelsOf}
+use Rattle.row_format.specs.Row as row
+use Rattle.row_format.specs.Reading.{bitsOfReading, Reading, item, fault, Run, done, stop, prepend, follow, readBy, readItem}
+use Rattle.row_format.specs.Theorems.Bounds.{readItem-uses}
+use Rattle.row_item.specs.declared.Item.{Item}
+use Rattle.row_item.specs.declared.Progress.{Progress}
+use Rattle.row_item.specs.Coded.{coded, progress, Followed, stateOf}
+use Rattle.row_item.specs.Coded.Laws.{stateOf-progress}
+use Rattle.row_unpacker.specs.Item.{answered}
+use Rattle.row_unpacker.specs.Row.{Reached, whole, halted, reached, RowIs}
+use Rattle.row_unpacker.specs.declared.item.Read.{Read}
+use Rattle.row_unpacker.specs.declared.item.Read.the-variants.{Got, Refused}
+use Rattle.row_unpacker.specs.declared.row.RowRead.the-variants as row-read
+
+-- what a reading reaches after bytes and bits that came before
+abbrev pub on : List ℕ → ℕ → Reached → Reached
+on b at (whole c u) = whole (b ++ c) (at + u)
+on b at (halted e p) = halted e (at + p)
+
+-- after i of n items, by any way g of reading one, from the stream r to memory of a size: the next item is at `at`, and the
+-- whole reading is what stands in memory and then what is read from there
+pub record Partly
+    (g : State → List ℕ → Reading) (n : ℕ) (r : List ℕ) (size : ℕ) (out : List ℕ) (at : ℕ) (p : Progress) (i : ℕ) : Type 0 where
+  pub within : i ≤ n
+  pub kept : length out ≡ size
+  pub place : at ≤ 43 * i
+  pub state : p ≡ progress (stateOf p)
+  pub so-far : reached n fresh (readBy g fresh n r)
+      ≡ on (take (2 * i) out) at (reached (n - i) (stateOf p) (readBy g (stateOf p) (n - i) (drop at r)))
+
+-- the bytes of one pixel more
+bytes-cons : (n p : ℕ) (ps : List ℕ) → bytesOf (2 * suc n) (flat 16 (p ∷ ps)) ≡ bytesOf 2 (digits 16 p) ++ bytesOf (2 * n) (flat 16 ps)
+unfolding flat
+bytes-cons n p ps =
+    let e : 2 * suc n ≡ 2 + 2 * n = omega arith in
+    ap (λ (k : ℕ). bytesOf k (digits 16 p ++ flat 16 ps)) e ∙ cut-append 8 2 (2 * n) (digits 16 p) (flat 16 ps) (length-digits 16 p)
+
+-- ---- one item more
+reached-prepend : (n : ℕ) (s : State) (i : row.Item) (u : ℕ) (x : Run)
+    → reached (suc n) s (prepend i u x) ≡ on (bytesOf 2 (digits 16 (pixelOf s i))) u (reached n (after s i) x)
+unfolding pixelsOf
+reached-prepend n s i u (done is v) = ap (λ (b : List ℕ). whole b (u + v)) (bytes-cons n (pixelOf s i) (pixelsOf (after s i) is))
+reached-prepend n s i u (stop e at v) = refl
+
+on-none : (x : Reached) → x ≡ on [] 0 x
+on-none (whole b u) = rw (zero-add u)
+on-none (halted e p) = rw (zero-add p)
+
+on-on : (b c : List ℕ) (at u : ℕ) (x : Reached) → on b at (on c u x) ≡ on (b ++ c) (at + u) x
+on-on b c at u (whole d v) = rw (append-assoc b c d, add-assoc at u v)
+on-on b c at u (halted e p) = rw (add-assoc at u p)
+
+-- ---- no item has more than 43 bits, under any table
+pub maxItemBits-any : (t : List ℕ) → maxItemBits t ≤ 43
+unfolding maxItemBits
+maxItemBits-any t =
+    let each : longest (codewords t) ≤ 43 =
+    longest-most (codewords t) 43 (λ j h. rw (getD-codewords t j, length-codewordAt t j) (omega arith)) in
+    omega arith
+
+pub readItem-most : (t : List ℕ) (s : State) (r : List ℕ) → bitsOfReading (readItem t s r) ≤ 43
+readItem-most t s r = omega (arith, readItem-uses t s r, maxItemBits-any t)
+
+-- ---- the loop, by any way of reading an item of at most 43 bits
+module _
+    (g : State → List ℕ → Reading) (most : (s : State) (r : List ℕ) → bitsOfReading (g s r) ≤ 43)
+    (n : ℕ) (r : List ℕ) (size : ℕ) (room : 2 * n ≤ size) where
+  pub partly-none : (out : List ℕ) (p : Progress) → length out ≡ size → p ≡ progress fresh → Partly g n r size out 0 p 0
+  partly-none out p kept e =
+      let s : stateOf p ≡ fresh = ap stateOf e in
+      record {
+        within = omega arith;
+        kept = kept;
+        place = omega arith;
+        state = e ∙ ap progress (sym s);
+        so-far = rw (s, sub-zero n) (on-none (reached n fresh (readBy g fresh n r)));
+      }
+
+  ended : (b : List ℕ) (at : ℕ) (s : State) (rest : List ℕ) → on b at (reached 0 s (readBy g s 0 rest)) ≡ whole b at
+  unfolding readBy pixelsOf flat cut
+  ended b at s rest = rw (append-nil b, add-zero at)
+
+  module _ (out : List ℕ) (at : ℕ) (p : Progress) (i : ℕ) (q : Partly g n r size out at p i) where
+    from : ℕ → Run → Reached
+    from k y = on (take (2 * i) out) at (reached k (stateOf p) y)
+
+    -- all items were read
+    pub partly-all : n ≤ i → RowIs n out (row-read.Done at) (reached n fresh (readBy g fresh n r))
+    unfolding from
+    partly-all h =
+        let none : n - i ≡ 0 = omega arith in
+        let same : i ≡ n = omega (arith, q .within) in
+        let e : reached n fresh (readBy g fresh n r) ≡ whole (take (2 * n) out) at =
+        q .so-far
+        ∙ ap (λ (k : ℕ). from k (readBy g (stateOf p) k (drop at r))) none
+        ∙ ended (take (2 * i) out) at (stateOf p) (drop at r)
+        ∙ ap (λ (k : ℕ). whole (take (2 * k) out) at) same in
+        subst⁻¹ (RowIs n out (row-read.Done at)) e (refl, refl)
+
+    module _ (h : i < n) (x : Read) (is : x ≡ answered (stateOf p) at (g (stateOf p) (drop at r))) where
+      rest-of : row.Item → ℕ → Run
+      rest-of j u = readBy g (after (stateOf p) j) (n - (i + 1)) (drop u (drop at r))
+
+      -- the reading from here on, by the next item
+      by-next : (y : Reading) → g (stateOf p) (drop at r) ≡ y
+          → reached n fresh (readBy g fresh n r) ≡ from (suc (n - (i + 1))) (follow y rest-of)
+      unfolding readBy from rest-of
+      by-next y e =
+          let left : n - i ≡ suc (n - (i + 1)) = omega arith in
+          q .so-far
+          ∙ ap (λ (k : ℕ). from k (readBy g (stateOf p) k (drop at r))) left
+          ∙ ap (λ (z : Reading). from (suc (n - (i + 1))) (follow z rest-of)) e
+
+      -- the next item is refused
+      pub partly-stop : (number place : ℕ) (out′ : List ℕ) → x ≡ Refused number place
+          → RowIs n out′ (row-read.Refused number place) (reached n fresh (readBy g fresh n r))
+      unfolding from
+      partly-stop number place out′ d = go (g (stateOf p) (drop at r)) refl
+        where
+          go : (y : Reading) → g (stateOf p) (drop at r) ≡ y
+              → RowIs n out′ (row-read.Refused number place) (reached n fresh (readBy g fresh n r))
+          go (item j u) e =
+              let other : Refused number place ≡ answered (stateOf p) at (item j u) = sym d ∙ is ∙ ap (answered (stateOf p) at) e in
+              absurd (let z : _≡_ {A = ℕ} 0 1 = cc in omega arith)
+          go (fault k u) e =
+              let same : Refused number place ≡ Refused k at = sym d ∙ is ∙ ap (answered (stateOf p) at) e in
+              subst⁻¹ (RowIs n out′ (row-read.Refused number place)) (by-next (fault k u) e) (cc (add-zero at))
+
+      -- the next item is there
+      pub partly-more : (what : Item) (pixel next : ℕ) (p′ : Progress) (out′ : List ℕ) → x ≡ Got what pixel next → Followed p what pixel p′
+          → out′ ≡ overwritten out (2 * i) (bytesOf 2 (digits 16 pixel)) → Partly g n r size out′ next p′ (i + 1)
+      unfolding from rest-of
+      partly-more what pixel next p′ out′ d f written =
+          subst⁻¹ (λ (l : List ℕ). Partly g n r size l next p′ (i + 1)) written
+          (go (g (stateOf p) (drop at r)) refl (most (stateOf p) (drop at r)))
+        where
+          two : length (bytesOf 2 (digits 16 pixel)) ≡ 2
+          two = length-cut 8 2 (digits 16 pixel)
+
+          front : take (2 * (i + 1)) (overwritten out (2 * i) (bytesOf 2 (digits 16 pixel)))
+              ≡ take (2 * i) out ++ bytesOf 2 (digits 16 pixel)
+          front =
+              let e : 2 * (i + 1) ≡ 2 * i + length (bytesOf 2 (digits 16 pixel)) = omega (arith, two) in
+              rw e (take-overwritten out (2 * i) (bytesOf 2 (digits 16 pixel)) (omega (arith, q .kept)))
+
+          go : (y : Reading) → g (stateOf p) (drop at r) ≡ y → bitsOfReading y ≤ 43
+              → Partly g n r size (overwritten out (2 * i) (bytesOf 2 (digits 16 pixel))) next p′ (i + 1)
+          go (item j u) e few =
+              let same : Got what pixel next ≡ Got (coded j) (pixelOf (stateOf p) j) (at + u) =
+              sym d ∙ is ∙ ap (answered (stateOf p) at) e in
+              let what-is : what ≡ coded j = cc in
+              let pixel-is : pixel ≡ pixelOf (stateOf p) j = cc in
+              let next-is : next ≡ at + u = cc in
+              let p-is : p′ ≡ progress (after (stateOf p) j) = f .next (stateOf p) j (q .state) what-is pixel-is in
+              let s-is : stateOf p′ ≡ after (stateOf p) j = ap stateOf p-is ∙ stateOf-progress (after (stateOf p) j) in
+              record {
+                within = omega arith;
+                kept = length-overwritten out (2 * i) (bytesOf 2 (digits 16 pixel)) (omega (arith, two, q .kept)) ∙ q .kept;
+                place = omega (arith, q .place);
+                state = p-is ∙ ap progress (sym s-is);
+                so-far =
+                    by-next (item j u) e
+                    ∙ ap (on (take (2 * i) out) at) (reached-prepend (n - (i + 1)) (stateOf p) j u (rest-of j u))
+                    ∙ on-on (take (2 * i) out) (bytesOf 2 (digits 16 (pixelOf (stateOf p) j))) at u
+                    (reached (n - (i + 1)) (after (stateOf p) j) (rest-of j u))
+                    ∙ rw (front, ← pixel-is, drop-drop u at r, s-is, next-is);
+              }
+          go (fault k u) e few =
+              let other : Got what pixel next ≡ Refused k at = sym d ∙ is ∙ ap (answered (stateOf p) at) e in
+              absurd (let z : _≡_ {A = ℕ} 0 1 = cc in omega arith)

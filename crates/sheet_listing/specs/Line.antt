@@ -6,7 +6,6 @@ use lib.ListN.{drop}
 use Rattle.bitstream.specs.Bits.{wordsOf}
 use Rattle.row_format.specs.Table.{tableId, lowLimit, tableSize, maxItemBits}
 use Rattle.sheet_format.specs.declared.RecordRead.{RecordRead}
-use Rattle.sheet_format.specs.Record.{Kind, tableRecord, packedRecord, plainRecord, lineRecord, unknown, kindOf}
 use Rattle.sheet_format.specs.Sheet.{SheetRecord}
 use Rattle.text.specs.Lines.{tableLine, packedLine, plainLine, contourLine, doneLine, refusedAtLine}
 pub mod Laws
@@ -15,16 +14,17 @@ pub mod Laws
 abbrev pub tableText : List ℕ → List ℕ
 tableText t = tableLine (tableId t) (lowLimit t) (tableSize t) (maxItemBits t)
 
--- the line of a record that was answered so and has the body b
-unfoldable pub lineFor : Kind → RecordRead → List ℕ → List ℕ
-lineFor tableRecord a b = tableText (wordsOf b)
-lineFor packedRecord a b = packedLine (a .row) (a .count) (a .bits) (a .words)
-lineFor plainRecord a b = plainLine (a .row) (a .count)
-lineFor lineRecord a b = contourLine (a .count)
-lineFor unknown a b = []
+-- the line of a record of a kind that was answered so and has the body b
+unfoldable pub lineFor : ℕ → RecordRead → List ℕ → List ℕ
+lineFor zero a b = []
+lineFor (suc zero) a b = tableText (wordsOf b)
+lineFor (suc (suc zero)) a b = packedLine (a .row) (a .count) (a .bits) (a .words)
+lineFor (suc (suc (suc zero))) a b = plainLine (a .row) (a .count)
+lineFor (suc (suc (suc (suc zero)))) a b = contourLine (a .count)
+lineFor (suc (suc (suc (suc (suc k))))) a b = []
 
 abbrev pub answerLine : RecordRead → List ℕ → List ℕ
-answerLine a b = lineFor (kindOf (a .kind)) a b
+answerLine a b = lineFor (a .kind) a b
 
 -- the line of a record; its body stands after four bytes of length and two of kind
 abbrev pub recordLine : SheetRecord → List ℕ

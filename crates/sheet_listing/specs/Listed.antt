@@ -1,15 +1,17 @@
--- What the calls that give out lines answer, the memory lent for them included. tb is the bytes of the sheet's table, r the
+-- What the calls that give out lines answer, the memory lent for them included. c is what the sheet holds so far, r the
 -- sheet's bytes from a record's place on, m the memory lent, as it was. Definitions only; their laws are in Listed/Laws.antt.
 -- Assumes nothing.
-use Prim.Native.Nat.{ℕ, zero, suc}
-use mathlib.Core.List.{List, _++_}
-use lib.ListN.{length, drop}
+use Prim.Native.Nat.{ℕ}
+use mathlib.Core.List.{List}
+use lib.ListN.{length}
 use lib.Dec.{ltb}
-use Rattle.answer.specs.Outcome.{Outcome, wrote, _orElse_, refuseIf, unless}
+use Rattle.answer.specs.declared.Answer.{Answer}
+use Rattle.answer.specs.Outcome.{Outcome, outcome, writes, refused, wrote, _orElse_, refuseIf, unless}
 use Rattle.sheet_format.specs.declared.SheetState.{SheetState}
 use Rattle.sheet_format.specs.declared.RecordRead.{RecordRead}
+use Rattle.sheet_format.specs.Context.{Context, stateOf}
 use Rattle.sheet_format.specs.Reading.{refusedRecord, recordJudged}
-use Rattle.sheet_format.specs.Sheet.Laws.{recordHere}
+use Rattle.sheet_format.specs.Sheet.{recordHere}
 use Rattle.sheet_listing.specs.declared.Listed.{Listed}
 use Rattle.sheet_listing.specs.Line.{recordLine}
 pub mod Laws
@@ -19,27 +21,22 @@ abbrev pub noRoom : List ℕ → List ℕ → ℕ
 noRoom l m = refuseIf (ltb (length m) (length l)) 5
 
 -- a line at the front of the memory
-unfoldable pub lineGiven : List ℕ → List ℕ → Outcome
-lineGiven l m = unless (noRoom l m) m (wrote (length l) l m)
+unfoldable pub lineGiven : List ℕ → List ℕ → Outcome Answer
+lineGiven l m = unless (noRoom l m) (λ e. refused e m) (wrote (length l) l m)
 
 -- ---- a record judged, and its line at the front of the memory
-pub record ListedOutcome : Type 0 where
-  pub answer : Listed
-  pub memory : List ℕ
-
-abbrev pub left : Listed → List ℕ → ListedOutcome
-left r m = record { answer = r; memory = m }
+abbrev pub notListed : SheetState → ℕ → Listed
+notListed st e = record { read = refusedRecord st e; count = 0 }
 
 -- by the number that it is refused with, the record's or 5, and what was judged
-abbrev pub listedUnless : ℕ → SheetState → RecordRead → List ℕ → List ℕ → ListedOutcome
-listedUnless zero st a l m = left (record { read = a; count = length l }) (l ++ drop (length l) m)
-listedUnless (suc e) st a l m = left (record { read = refusedRecord (suc e) st; count = 0 }) m
+abbrev pub listedUnless : ℕ → SheetState → RecordRead → List ℕ → List ℕ → Outcome Listed
+listedUnless e st a l m = unless e (λ k. outcome (notListed st k) m) (writes (record { read = a; count = length l }) l m)
 
 -- an accepted record with the line l
-abbrev pub lineListed : List ℕ → RecordRead → SheetState → List ℕ → ListedOutcome
+abbrev pub lineListed : List ℕ → RecordRead → SheetState → List ℕ → Outcome Listed
 lineListed l a st m = listedUnless (noRoom l m) st a l m
 
-unfoldable pub recordListed : List ℕ → List ℕ → SheetState → List ℕ → ListedOutcome
-recordListed tb r st m =
-    let l : List ℕ = recordLine (recordHere tb r st) in
-    listedUnless (recordJudged tb r st .number orElse noRoom l m) st (recordJudged tb r st) l m
+unfoldable pub recordListed : Context → List ℕ → List ℕ → Outcome Listed
+recordListed c r m =
+    let l : List ℕ = recordLine (recordHere c r) in
+    listedUnless (recordJudged c r .number orElse noRoom l m) (stateOf c) (recordJudged c r) l m

@@ -17,9 +17,10 @@ ghost use lib.ListN.{length};
 ghost use Rattle.answer.specs.Outcome.{outcome};
 ghost use Rattle.row_format.specs.Table.{tableNumber};
 ghost use Rattle.sheet_format.specs.Reading.{recordJudged};
-ghost use Rattle.sheet_format.specs.Sheet.Laws.{recordHere};
+ghost use Rattle.sheet_format.specs.Context.{contextOf};
+ghost use Rattle.sheet_format.specs.Sheet.{recordHere};
 ghost use Rattle.sheet_listing.specs.Line.{answerLine, recordLine, lastLine};
-ghost use Rattle.sheet_listing.specs.Listed.{lineGiven, left, lineListed, recordListed};
+ghost use Rattle.sheet_listing.specs.Listed.{lineGiven, lineListed, recordListed};
 
 // What listing a record answers: what judging it answers, and the bytes of its line. A refusal, 5 among them, has no line.
 pub struct Listed {
@@ -30,8 +31,8 @@ pub struct Listed {
 // The record at the front of `sheet` is judged, and its line put at the front of `out`; 5 where it does not fit. `table` is
 // the bytes of the sheet's table, `state` what the sheet holds so far. A line has at most 128 bytes.
 pub fn list_record(table: &[u8], sheet: &[u8], state: SheetState, out: &mut [u8]) -> Listed
-    ensures listed { λ r. ⌜ left r (now (out .exit)) ≡ recordListed (now (table .entry)) (now (sheet .entry)) state (now (out .entry)) ⌝ }
-    ensures most { λ r. ⌜ (recordJudged (now (table .entry)) (now (sheet .entry)) state .number ≡ 0 → length (recordLine (recordHere (now (table .entry)) (now (sheet .entry)) state)) ≤ 128) ⌝ }
+    ensures listed { λ r. ⌜ outcome r (now (out .exit)) ≡ recordListed (contextOf (now (table .entry)) state) (now (sheet .entry)) (now (out .entry)) ⌝ }
+    ensures most { λ r. ⌜ (recordJudged (contextOf (now (table .entry)) state) (now (sheet .entry)) .number ≡ 0 → length (recordLine (recordHere (contextOf (now (table .entry)) state) (now (sheet .entry)))) ≤ 128) ⌝ }
 {
     let read = judge_record(table, sheet, state);
     let number = read.number;
@@ -46,7 +47,7 @@ pub fn list_record(table: &[u8], sheet: &[u8], state: SheetState, out: &mut [u8]
 // The same of a record that is accepted.
 fn list_accepted(read: RecordRead, body: &[u8], state: SheetState, out: &mut [u8]) -> Listed
     requires { ⌜ (read .kind ≡ 1 → tableNumber (now body) ≡ 0) ⌝ }
-    ensures listed { λ r. ⌜ left r (now (out .exit)) ≡ lineListed (answerLine read (now (body .entry))) read state (now (out .entry)) ⌝ }
+    ensures listed { λ r. ⌜ outcome r (now (out .exit)) ≡ lineListed (answerLine read (now (body .entry))) read state (now (out .entry)) ⌝ }
     ensures most { λ r. ⌜ length (answerLine read (now (body .entry))) ≤ 128 ⌝ }
 {
     let mut text = [0u8; 128];

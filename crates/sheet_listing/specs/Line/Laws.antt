@@ -1,7 +1,7 @@
 -- The laws of the lister's lines. Assumes nothing.
 use Prim.Native.Nat.{ℕ, zero, suc, _/_, _≤_}
 use native.Mathlib.Omega.{arith}
-use mathlib.Core.Path.{_≡_, refl}
+use mathlib.Core.Path.{_≡_, refl, sym}
 use mathlib.Core.List.{List, []}
 use lib.ListN.{length}
 use Rattle.bitstream.specs.Bits.{wordsOf}
@@ -11,7 +11,6 @@ use Rattle.row_format.specs.Calls.{checked}
 use Rattle.code_table.specs.Check.{WholeTable}
 use Rattle.code_table.specs.Check.Laws.{whole-table-words}
 use Rattle.sheet_format.specs.declared.RecordRead.{RecordRead}
-use Rattle.sheet_format.specs.Record.{unknown, kindOf}
 use Rattle.text.specs.Lines.{packedLine, plainLine, contourLine, doneLine, refusedAtLine}
 use Rattle.sheet_listing.specs.Line.{tableText, lineFor, answerLine, lastLine}
 
@@ -27,13 +26,15 @@ module _ (b : List ℕ) (ok : tableNumber b ≡ 0) where
   checked-most = rw ok
 
 -- ---- the line by the record's kind
-kindOf-other : (k : ℕ) → (k ≡ 1 → ⊥) → (k ≡ 2 → ⊥) → (k ≡ 3 → ⊥) → (k ≡ 4 → ⊥) → kindOf k ≡ unknown
-kindOf-other zero n1 n2 n3 n4 = refl
-kindOf-other (suc zero) n1 n2 n3 n4 = absurd (n1 refl)
-kindOf-other (suc (suc zero)) n1 n2 n3 n4 = absurd (n2 refl)
-kindOf-other (suc (suc (suc zero))) n1 n2 n3 n4 = absurd (n3 refl)
-kindOf-other (suc (suc (suc (suc zero)))) n1 n2 n3 n4 = absurd (n4 refl)
-kindOf-other (suc (suc (suc (suc (suc k))))) n1 n2 n3 n4 = refl
+lineFor-other : (k : ℕ) (a : RecordRead) (b : List ℕ) → (k ≡ 1 → ⊥) → (k ≡ 2 → ⊥) → (k ≡ 3 → ⊥) → (k ≡ 4 → ⊥)
+    → lineFor k a b ≡ []
+unfolding lineFor
+lineFor-other zero a b n1 n2 n3 n4 = refl
+lineFor-other (suc zero) a b n1 n2 n3 n4 = absurd (n1 refl)
+lineFor-other (suc (suc zero)) a b n1 n2 n3 n4 = absurd (n2 refl)
+lineFor-other (suc (suc (suc zero))) a b n1 n2 n3 n4 = absurd (n3 refl)
+lineFor-other (suc (suc (suc (suc zero)))) a b n1 n2 n3 n4 = absurd (n4 refl)
+lineFor-other (suc (suc (suc (suc (suc k))))) a b n1 n2 n3 n4 = refl
 
 module _ (a : RecordRead) (b : List ℕ) where
   pub line-table : a .kind ≡ 1 → tableText (wordsOf b) ≡ answerLine a b
@@ -53,8 +54,7 @@ module _ (a : RecordRead) (b : List ℕ) where
   line-contour e = rw e
 
   pub line-other : (a .kind ≡ 1 → ⊥) → (a .kind ≡ 2 → ⊥) → (a .kind ≡ 3 → ⊥) → (a .kind ≡ 4 → ⊥) → [] ≡ answerLine a b
-  unfolding lineFor
-  line-other n1 n2 n3 n4 = rw (kindOf-other (a .kind) n1 n2 n3 n4)
+  line-other n1 n2 n3 n4 = sym (lineFor-other (a .kind) a b n1 n2 n3 n4)
 
 -- ---- the last line
 pub last-done : (index rows : ℕ) → doneLine rows ≡ lastLine 0 index rows

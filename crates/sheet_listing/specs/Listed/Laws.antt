@@ -13,19 +13,21 @@ use Rattle.row_format.specs.Lists.Laws.{by-test, drop-take}
 use Rattle.row_format.specs.Table.{tableNumber}
 use Rattle.sheet_format.specs.declared.SheetState.{SheetState}
 use Rattle.sheet_format.specs.declared.RecordRead.{RecordRead}
+use Rattle.sheet_format.specs.Context.{stateOf, contextOf}
+use Rattle.sheet_format.specs.Context.Laws.{stateOf-contextOf}
 use Rattle.sheet_format.specs.Reading.{refusedRecord, recordJudged}
-use Rattle.sheet_format.specs.Sheet.Laws.{recordHere}
+use Rattle.sheet_format.specs.Sheet.{recordHere}
 use Rattle.sheet_format.specs.Theorems.{record-length, kept-table, judged-refused-keeps}
 use Rattle.text.specs.Put.{Put}
 use Rattle.sheet_listing.specs.declared.Listed.{Listed}
 use Rattle.sheet_listing.specs.Line.{answerLine, recordLine}
-use Rattle.sheet_listing.specs.Listed.{ListedOutcome, noRoom, lineGiven, left, listedUnless, lineListed, recordListed}
+use Rattle.sheet_listing.specs.Listed.{noRoom, lineGiven, listedUnless, lineListed, recordListed}
 
-refused-any : (a : RecordRead) (st : SheetState) (l m : List ℕ) → (a .number ≡ 0 → ⊥) → a ≡ refusedRecord (a .number) st
-    → left (record { read = a; count = 0 }) m ≡ listedUnless (a .number orElse noRoom l m) st a l m
+refused-any : (a : RecordRead) (st : SheetState) (l m : List ℕ) → (a .number ≡ 0 → ⊥) → a ≡ refusedRecord st (a .number)
+    → outcome (record { read = a; count = 0 }) m ≡ listedUnless (a .number orElse noRoom l m) st a l m
 refused-any a st l m h e = go (a .number) refl
   where
-    go : (n : ℕ) → a .number ≡ n → left (record { read = a; count = 0 }) m ≡ listedUnless (n orElse noRoom l m) st a l m
+    go : (n : ℕ) → a .number ≡ n → outcome (record { read = a; count = 0 }) m ≡ listedUnless (n orElse noRoom l m) st a l m
     go zero z = absurd (h z)
     go (suc n) z = rw (e, z)
 
@@ -46,41 +48,42 @@ module _ (l m : List ℕ) where
   pub given-count : {g : Answer} {m′ : List ℕ} → outcome g m′ ≡ lineGiven l m → g .count ≤ length m
   unfolding lineGiven
   given-count {g} {m′} e = by-test (ltb (length m) (length l))
-      (λ t. omega (arith, ap (λ (o : Outcome). o .answer .count) (rw t at e)))
-      (λ t. omega (arith, ap (λ (o : Outcome). o .answer .count) (rw t at e), ltb-false (length m) (length l) t))
+      (λ t. omega (arith, ap (λ (o : Outcome Answer). o .answer .count) (rw t at e)))
+      (λ t. omega (arith, ap (λ (o : Outcome Answer). o .answer .count) (rw t at e), ltb-false (length m) (length l) t))
 
 -- what was given of a line, as what was listed
 module _ (l : List ℕ) (a : RecordRead) (st : SheetState) (m : List ℕ) {g : Answer} {m′ : List ℕ} (given : outcome g m′ ≡ lineGiven l m) where
-  pub listed-line : g .number ≡ 0 → left (record { read = a; count = g .count }) m′ ≡ lineListed l a st m
+  pub listed-line : g .number ≡ 0 → outcome (record { read = a; count = g .count }) m′ ≡ lineListed l a st m
   unfolding lineGiven
   listed-line e = by-test (ltb (length m) (length l))
-      (λ t. let n : g .number ≡ 5 = ap (λ (o : Outcome). o .answer .number) (rw t at given) in absurd (omega arith))
+      (λ t. let n : g .number ≡ 5 = ap (λ (o : Outcome Answer). o .answer .number) (rw t at given) in absurd (omega arith))
       (λ t. let same = rw t at given in
-      rw t (λ i. left (record { read = a; count = same i .answer .count }) (same i .memory)))
+      rw t (λ i. outcome (record { read = a; count = same i .answer .count }) (same i .memory)))
 
-  pub listed-full : (g .number ≡ 0 → ⊥) → left (record { read = refusedRecord (g .number) st; count = g .count }) m′ ≡ lineListed l a st m
+  pub listed-full : (g .number ≡ 0 → ⊥) → outcome (record { read = refusedRecord st (g .number); count = g .count }) m′ ≡ lineListed l a st m
   unfolding lineGiven
   listed-full h = by-test (ltb (length m) (length l))
       (λ t. let same = rw t at given in
-      rw t (λ i. left (record { read = refusedRecord (same i .answer .number) st; count = same i .answer .count }) (same i .memory)))
-      (λ t. absurd (h (ap (λ (o : Outcome). o .answer .number) (rw t at given))))
+      rw t (λ i. outcome (record { read = refusedRecord st (same i .answer .number); count = same i .answer .count }) (same i .memory)))
+      (λ t. absurd (h (ap (λ (o : Outcome Answer). o .answer .number) (rw t at given))))
 
 -- ---- a record
 
-module _ (tb r : List ℕ) (st : SheetState) (m : List ℕ) (a : RecordRead) (judged : a ≡ recordJudged tb r st) where
-  pub listed-refused : (a .number ≡ 0 → ⊥) → left (record { read = a; count = 0 }) m ≡ recordListed tb r st m
+module _ (tb r : List ℕ) (st : SheetState) (m : List ℕ) (a : RecordRead) (judged : a ≡ recordJudged (contextOf tb st) r) where
+  pub listed-refused : (a .number ≡ 0 → ⊥) → outcome (record { read = a; count = 0 }) m ≡ recordListed (contextOf tb st) r m
   unfolding recordListed
   listed-refused h =
-      let still : recordJudged tb r st .number ≡ 0 → ⊥ = λ e. h (ap (λ (x : RecordRead). x .number) judged ∙ e) in
+      let still : recordJudged (contextOf tb st) r .number ≡ 0 → ⊥ = λ e. h (ap (λ (x : RecordRead). x .number) judged ∙ e) in
       rw judged
-      (refused-any (recordJudged tb r st) st (recordLine (recordHere tb r st)) m still (judged-refused-keeps tb r st still))
+      (refused-any (recordJudged (contextOf tb st) r) (stateOf (contextOf tb st)) (recordLine (recordHere (contextOf tb st) r)) m still
+      (judged-refused-keeps (contextOf tb st) r still))
 
   module _ (ok : a .number ≡ 0) where
-    same-number : recordJudged tb r st .number ≡ 0
+    same-number : recordJudged (contextOf tb st) r .number ≡ 0
     same-number = sym (ap (λ (x : RecordRead). x .number) judged) ∙ ok
 
     size : (6 ≤ a .length) × (a .length ≤ 32778) × (a .length ≤ length r)
-    size = rw judged (record-length tb r st same-number)
+    size = rw judged (record-length (contextOf tb st) r same-number)
 
     pub body-start : 6 ≤ a .length
     body-start = size .0
@@ -89,28 +92,28 @@ module _ (tb r : List ℕ) (st : SheetState) (m : List ℕ) (a : RecordRead) (ju
     body-there = size .2
 
     pub body-table : a .kind ≡ 1 → tableNumber (take (a .length - 6) (drop 6 r)) ≡ 0
-    body-table e = rw (← drop-take 6 (a .length) r, judged) (kept-table tb r st same-number (sym (ap (λ (x : RecordRead). x .kind) judged) ∙ e))
+    body-table e = rw (← drop-take 6 (a .length) r, judged) (kept-table (contextOf tb st) r same-number (sym (ap (λ (x : RecordRead). x .kind) judged) ∙ e))
 
     -- the line of the answer is the record's
-    pub line-is : answerLine a (take (a .length - 6) (drop 6 r)) ≡ recordLine (recordHere tb r st)
+    pub line-is : answerLine a (take (a .length - 6) (drop 6 r)) ≡ recordLine (recordHere (contextOf tb st) r)
     line-is = rw (← drop-take 6 (a .length) r, judged)
 
-    pub listed-accepted : lineListed (answerLine a (take (a .length - 6) (drop 6 r))) a st m ≡ recordListed tb r st m
+    pub listed-accepted : lineListed (answerLine a (take (a .length - 6) (drop 6 r))) a st m ≡ recordListed (contextOf tb st) r m
     unfolding recordListed
-    listed-accepted = rw (← drop-take 6 (a .length) r, judged, same-number)
+    listed-accepted = rw (← drop-take 6 (a .length) r, judged, same-number, stateOf-contextOf tb st)
 
 -- ---- what a caller learns of a listed record
 unless-fits : (n : ℕ) (st : SheetState) (a : RecordRead) (l m : List ℕ) → n ≡ 0 → length l ≤ length m
-    → listedUnless (n orElse noRoom l m) st a l m ≡ left (record { read = a; count = length l }) (l ++ drop (length l) m)
+    → listedUnless (n orElse noRoom l m) st a l m ≡ outcome (record { read = a; count = length l }) (l ++ drop (length l) m)
 unless-fits n st a l m ok fits = rw (ok, le-ltb (length m) (length l) fits)
 
 module _ (tb r : List ℕ) (st : SheetState) (m : List ℕ) where
   -- where its line fits, an accepted record is listed
-  pub recordListed-fits : recordJudged tb r st .number ≡ 0 → length (recordLine (recordHere tb r st)) ≤ length m
-      → recordListed tb r st m
-      ≡ (let l = recordLine (recordHere tb r st) in left (record { read = recordJudged tb r st; count = length l }) (l ++ drop (length l) m))
+  pub recordListed-fits : recordJudged (contextOf tb st) r .number ≡ 0 → length (recordLine (recordHere (contextOf tb st) r)) ≤ length m
+      → recordListed (contextOf tb st) r m
+      ≡ (let l = recordLine (recordHere (contextOf tb st) r) in outcome (record { read = recordJudged (contextOf tb st) r; count = length l }) (l ++ drop (length l) m))
   unfolding recordListed
-  recordListed-fits = unless-fits (recordJudged tb r st .number) st (recordJudged tb r st) (recordLine (recordHere tb r st)) m
+  recordListed-fits = unless-fits (recordJudged (contextOf tb st) r .number) (stateOf (contextOf tb st)) (recordJudged (contextOf tb st) r) (recordLine (recordHere (contextOf tb st) r)) m
 
 room-there : (n : ℕ) (l m : List ℕ) → n orElse noRoom l m ≡ 0 → length l ≤ length m
 room-there zero l m e = by-test (ltb (length m) (length l))
@@ -129,22 +132,22 @@ unless-read zero st a l m z = refl
 unless-read (suc e) st a l m z = absurd (omega arith)
 
 module _ (tb r : List ℕ) (st : SheetState) (m : List ℕ) where
-  count-within : recordListed tb r st m .answer .count ≤ length m
+  count-within : recordListed (contextOf tb st) r m .answer .count ≤ length m
   unfolding recordListed
   count-within =
-      let l : List ℕ = recordLine (recordHere tb r st) in
-      unless-count (recordJudged tb r st .number orElse noRoom l m) st (recordJudged tb r st) l m
-      (room-there (recordJudged tb r st .number) l m)
+      let l : List ℕ = recordLine (recordHere (contextOf tb st) r) in
+      unless-count (recordJudged (contextOf tb st) r .number orElse noRoom l m) (stateOf (contextOf tb st)) (recordJudged (contextOf tb st) r) l m
+      (room-there (recordJudged (contextOf tb st) r .number) l m)
 
-  read-is : recordListed tb r st m .answer .read .number ≡ 0 → recordListed tb r st m .answer .read ≡ recordJudged tb r st
+  read-is : recordListed (contextOf tb st) r m .answer .read .number ≡ 0 → recordListed (contextOf tb st) r m .answer .read ≡ recordJudged (contextOf tb st) r
   unfolding recordListed
   read-is =
-      let l : List ℕ = recordLine (recordHere tb r st) in
-      unless-read (recordJudged tb r st .number orElse noRoom l m) st (recordJudged tb r st) l m
+      let l : List ℕ = recordLine (recordHere (contextOf tb st) r) in
+      unless-read (recordJudged (contextOf tb st) r .number orElse noRoom l m) (stateOf (contextOf tb st)) (recordJudged (contextOf tb st) r) l m
 
-  module _ {x : Listed} {m′ : List ℕ} (e : left x m′ ≡ recordListed tb r st m) where
-    same-answer : x ≡ recordListed tb r st m .answer
-    same-answer = ap (λ (o : ListedOutcome). o .answer) e
+  module _ {x : Listed} {m′ : List ℕ} (e : outcome x m′ ≡ recordListed (contextOf tb st) r m) where
+    same-answer : x ≡ recordListed (contextOf tb st) r m .answer
+    same-answer = ap (λ (o : Outcome Listed). o .answer) e
 
     -- the line is within the memory lent
     pub listed-count : x .count ≤ length m
@@ -154,6 +157,6 @@ module _ (tb r : List ℕ) (st : SheetState) (m : List ℕ) where
     pub listed-length : x .read .number ≡ 0
         → (6 ≤ x .read .length) × (x .read .length ≤ 32778) × (x .read .length ≤ length r)
     listed-length ok =
-        let is : x .read ≡ recordJudged tb r st = ap (λ (y : Listed). y .read) same-answer
+        let is : x .read ≡ recordJudged (contextOf tb st) r = ap (λ (y : Listed). y .read) same-answer
         ∙ read-is (ap (λ (y : Listed). y .read .number) (sym same-answer) ∙ ok) in
-        rw is (record-length tb r st (ap (λ (a : RecordRead). a .number) (sym is) ∙ ok))
+        rw is (record-length (contextOf tb st) r (ap (λ (a : RecordRead). a .number) (sym is) ∙ ok))

@@ -7,12 +7,15 @@ use mathlib.Core.Bool.{true, false}
 use mathlib.Core.List.{List, _++_}
 use lib.ListN.{length, take}
 use Rattle.sheet_format.specs.declared.RecordRead.{RecordRead}
-use Rattle.sheet_format.specs.Record.{kindOf, bodyOf}
-use Rattle.sheet_format.specs.Reading.{tableAfter, recordJudged}
-use Rattle.sheet_format.specs.Sheet.Laws.{recordHere}
+use Rattle.sheet_format.specs.Context.{Context, contextOf}
+use Rattle.sheet_format.specs.Kind.{tableKept}
+use Rattle.sheet_format.specs.Record.{bodyOf}
+use Rattle.sheet_format.specs.Reading.{recordJudged}
+use Rattle.sheet_format.specs.Sheet.{recordHere}
 use Rattle.sheet_listing.specs.declared.Listed.{Listed}
 use Rattle.sheet_listing.specs.Line.{recordLine}
 use Rattle.sheet_listing.specs.Listing.{rowsOf}
+use Rattle.sheet_listing.specs.Turns.{holdsOf}
 use Rattle.list_sheet.specs.declared.turn.Progress.{Progress}
 use Rattle.list_sheet.specs.declared.turn.Turn.{Turn}
 pub mod Laws
@@ -24,12 +27,16 @@ keptTable p table = take (p .kept) table
 abbrev pub pending : Progress → List ℕ → List ℕ
 pending p block = take (p .filled) block
 
--- the record r under what is carried
+-- what the sheet holds, by what is carried
+abbrev pub heldBy : Progress → List ℕ → Context
+heldBy p table = contextOf (keptTable p table) (p .state)
+
+-- the record r under it
 abbrev pub judgedAt : Progress → List ℕ → List ℕ → RecordRead
-judgedAt p table r = recordJudged (keptTable p table) r (p .state)
+judgedAt p table r = recordJudged (heldBy p table) r
 
 abbrev pub lineAt : Progress → List ℕ → List ℕ → List ℕ
-lineAt p table r = recordLine (recordHere (keptTable p table) r (p .state))
+lineAt p table r = recordLine (recordHere (heldBy p table) r)
 
 -- r was judged, and its line put into the block
 pub record Put (r : List ℕ) (p : Progress) (table block : List ℕ) (x : Listed) (block′ : List ℕ) : Type 0 where
@@ -41,9 +48,9 @@ pub record Put (r : List ℕ) (p : Progress) (table block : List ℕ) (x : Liste
 -- after an accepted record
 pub record Advanced (r : List ℕ) (p : Progress) (table block : List ℕ) (p′ : Progress) (table′ block′ : List ℕ) : Type 0 where
   pub state : p′ .state ≡ judgedAt p table r .state
-  pub kept : keptTable p′ table′ ≡ tableAfter (kindOf (judgedAt p table r .kind)) (keptTable p table) (bodyOf r)
+  pub kept : keptTable p′ table′ ≡ tableKept (holdsOf (judgedAt p table r)) (keptTable p table) (bodyOf r)
   pub text : pending p′ block′ ≡ pending p block ++ lineAt p table r
-  pub rows : p′ .rows ≡ p .rows + rowsOf (kindOf (judgedAt p table r .kind))
+  pub rows : p′ .rows ≡ p .rows + rowsOf (holdsOf (judgedAt p table r))
 
 -- at a refused one: there is a last line, with the record's number, and all is as it was
 pub record Stopped (r : List ℕ) (p : Progress) (table block : List ℕ) (t : Turn) (block′ : List ℕ) : Type 0 where

@@ -3,6 +3,8 @@ use crate::input::fill;
 use crate::output::make_room;
 use sheet_format::RecordRead;
 use sheet_format::SheetState;
+use sheet_format::kind::is_row;
+use sheet_format::kind::is_table;
 use sheet_listing::Listed;
 use sheet_listing::list_record;
 use text::put::put_bytes;
@@ -11,8 +13,9 @@ ghost use mathlib.Core.Bool.{true, cond};
 ghost use Prim.Native.Nat.{_+_, _-_, _≤_, _<_};
 ghost use lib.ListN.{length, take, drop};
 ghost use lib.Dec.{eqb};
-ghost use Rattle.sheet_format.specs.Record.{kindOf};
-ghost use Rattle.sheet_format.specs.Reading.{newSheet, tableAfter};
+ghost use Rattle.sheet_format.specs.Context.{newSheet, stateOf};
+ghost use Rattle.sheet_format.specs.Kind.{tableKept};
+ghost use Rattle.sheet_format.specs.Kinds.{kindOf};
 ghost use Rattle.sheet_listing.specs.Listing.{rowsOf};
 ghost use Rattle.list_sheet.specs.Sound.{Sound};
 ghost use Rattle.list_sheet.specs.Step.{Put, Turned};
@@ -41,7 +44,7 @@ pub struct Turn {
 }
 
 pub fn begin() -> Progress
-    ensures { λ r. ⌜ r ≡ record { state = newSheet; kept = 0; filled = 0; rows = 0 } ⌝ }
+    ensures { λ r. ⌜ r ≡ record { state = stateOf newSheet; kept = 0; filled = 0; rows = 0 } ⌝ }
 {
     Progress {
         state: SheetState {
@@ -159,25 +162,18 @@ fn keep_table(read: RecordRead, bytes: &[u8], table: &mut [u8], kept: usize) -> 
     requires { ⌜ kept ≤ length (now table) ⌝ }
     requires { ⌜ (6 ≤ read .length) × (read .length ≤ 32778) × (read .length ≤ length (now bytes)) ⌝ }
     ensures within { λ r. ⌜ r ≤ length (now (table .entry)) ⌝ }
-    ensures table { λ r. ⌜ take r (now (table .exit)) ≡ tableAfter (kindOf (read .kind)) (take kept (now (table .entry))) (take (read .length - 6) (drop 6 (now (bytes .entry)))) ⌝ }
+    ensures table { λ r. ⌜ take r (now (table .exit)) ≡ tableKept (kindOf (read .kind) .holds) (take kept (now (table .entry))) (take (read .length - 6) (drop 6 (now (bytes .entry)))) ⌝ }
 {
-    if read.kind != 1 {
-        return kept;
+    if is_table(read.kind) {
+        let end = read.length as usize;
+        return put_bytes(table, 0, &bytes[6..end]);
     }
-    let end = read.length as usize;
-    put_bytes(table, 0, &bytes[6..end])
+    kept
 }
 
-// Kinds 2 and 3 are rows.
 fn rows_after(kind: u32, rows: u64) -> u64
     requires { ⌜ rows < 18446744073709551615 ⌝ }
-    ensures { λ r. ⌜ r ≡ rows + rowsOf (kindOf kind) ⌝ }
+    ensures { λ r. ⌜ r ≡ rows + rowsOf (kindOf kind .holds) ⌝ }
 {
-    if kind == 2 {
-        return rows + 1;
-    }
-    if kind == 3 {
-        return rows + 1;
-    }
-    rows
+    if is_row(kind) { rows + 1 } else { rows }
 }

@@ -1,5 +1,5 @@
 -- The laws of a turn: the line that is put, the table that is kept, the rows that are counted. Assumes nothing.
-use Prim.Native.Nat.{ℕ, zero, suc, _+_, _-_, _≤_}
+use Prim.Native.Nat.{ℕ, _+_, _-_, _≤_}
 use native.Mathlib.Omega.{arith}
 use mathlib.Core.Path.{_≡_, refl, sym, ap, _∙_}
 use mathlib.Core.Bool.{true, false}
@@ -12,19 +12,19 @@ use borrow.Rule.Slice.PartMut.{put-same}
 use Rattle.bitstream.specs.Memory.Part.{partFrom, withPart, part-is, part-back}
 use Rattle.answer.specs.declared.Answer.{Answer}
 use Rattle.answer.specs.Outcome.{Outcome, outcome, wrote}
-use Rattle.row_format.specs.Lists.Laws.{by-test}
+use Rattle.row_format.specs.Lists.Laws.{by-test, true-false}
 use Rattle.sheet_format.specs.declared.RecordRead.{RecordRead}
-use Rattle.sheet_format.specs.Record.{Kind, tableRecord, packedRecord, plainRecord, lineRecord, unknown, kindOf}
-use Rattle.sheet_format.specs.Reading.{tableAfter}
-use Rattle.sheet_format.specs.Sheet.Laws.{judged-body}
+use Rattle.sheet_format.specs.Kind.{Holds, aTable, aRow, aLine, nothing, isTable, isRow, tableKept}
+use Rattle.sheet_format.specs.Reading.Laws.{judged-body}
 use Rattle.sheet_format.specs.Theorems.{record-length}
 use Rattle.sheet_listing.specs.declared.Listed.{Listed}
-use Rattle.sheet_listing.specs.Listed.{lineGiven, ListedOutcome, left, recordListed}
+use Rattle.sheet_listing.specs.Listed.{lineGiven, recordListed}
 use Rattle.sheet_listing.specs.Listed.Laws.{listed-refused, recordListed-fits}
 use Rattle.sheet_listing.specs.Listing.{rowsOf}
+use Rattle.sheet_listing.specs.Turns.{holdsOf}
 use Rattle.list_sheet.specs.declared.turn.Progress.{Progress}
 use Rattle.list_sheet.specs.declared.turn.Turn.{Turn}
-use Rattle.list_sheet.specs.Step.{keptTable, pending, judgedAt, lineAt, Put, Turned}
+use Rattle.list_sheet.specs.Step.{keptTable, pending, heldBy, judgedAt, lineAt, Put, Turned}
 
 -- ---- the line
 -- b put at a place, behind what stands there
@@ -36,7 +36,7 @@ behind at m b rest h =
 
 -- y came back for the rest of the block
 module _ (r : List ℕ) (p : Progress) (table block : List ℕ) (room : p .filled + 128 ≤ length block)
-    {x : Listed} {y : List ℕ} (listed : left x y ≡ recordListed (keptTable p table) r (p .state) (partFrom (p .filled) block))
+    {x : Listed} {y : List ℕ} (listed : outcome x y ≡ recordListed (heldBy p table) r (partFrom (p .filled) block))
     (most : judgedAt p table r .number ≡ 0 → length (lineAt p table r) ≤ 128) where
   m : List ℕ
   m = partFrom (p .filled) block
@@ -46,11 +46,11 @@ module _ (r : List ℕ) (p : Progress) (table block : List ℕ) (room : p .fille
   length-m = ap length (part-is (p .filled) block) ∙ length-drop (p .filled) block
 
   as-fits : judgedAt p table r .number ≡ 0
-      → left x y ≡ left (record { read = judgedAt p table r; count = length (lineAt p table r) }) (lineAt p table r ++ drop (length (lineAt p table r)) m)
+      → outcome x y ≡ outcome (record { read = judgedAt p table r; count = length (lineAt p table r) }) (lineAt p table r ++ drop (length (lineAt p table r)) m)
   unfolding m
   as-fits ok = listed ∙ recordListed-fits (keptTable p table) r (p .state) m ok (omega (arith, most ok, length-m))
 
-  as-refused : (judgedAt p table r .number ≡ 0 → ⊥) → left x y ≡ left (record { read = judgedAt p table r; count = 0 }) m
+  as-refused : (judgedAt p table r .number ≡ 0 → ⊥) → outcome x y ≡ outcome (record { read = judgedAt p table r; count = 0 }) m
   unfolding m
   as-refused wrong = listed ∙ sym (listed-refused (keptTable p table) r (p .state) m (judgedAt p table r) refl wrong)
 
@@ -63,15 +63,15 @@ module _ (r : List ℕ) (p : Progress) (table block : List ℕ) (room : p .fille
       record {
         read =
             by-test (eqb number 0)
-            (λ e. ap (λ (o : ListedOutcome). o .answer .read) (as-fits (eqb-true number 0 e)))
-            (λ e. ap (λ (o : ListedOutcome). o .answer .read) (as-refused (eqb-false number 0 e)));
+            (λ e. ap (λ (o : Outcome Listed). o .answer .read) (as-fits (eqb-true number 0 e)))
+            (λ e. ap (λ (o : Outcome Listed). o .answer .read) (as-refused (eqb-false number 0 e)));
         line = λ ok.
-            let count : x .count ≡ length line = ap (λ (o : ListedOutcome). o .answer .count) (as-fits ok) in
-            let memory : y ≡ line ++ drop (length line) m = ap (λ (o : ListedOutcome). o .memory) (as-fits ok) in (
+            let count : x .count ≡ length line = ap (λ (o : Outcome Listed). o .answer .count) (as-fits ok) in
+            let memory : y ≡ line ++ drop (length line) m = ap (λ (o : Outcome Listed). o .memory) (as-fits ok) in (
               omega (arith, most ok),
               rw (part-back (p .filled) block y, memory, count) (behind (p .filled) block line (drop (length line) m) (omega arith)),
             );
-        nothing = λ wrong. ap (withPart (p .filled) block) (ap (λ (o : ListedOutcome). o .memory) (as-refused wrong)) ∙ put-same (p .filled) (length block - p .filled) block;
+        nothing = λ wrong. ap (withPart (p .filled) block) (ap (λ (o : Outcome Listed). o .memory) (as-refused wrong)) ∙ put-same (p .filled) (length block - p .filled) block;
       }
 
 -- ---- the last line
@@ -84,34 +84,40 @@ put-last p block l room {a} {y} given most =
     let m = partFrom (p .filled) block in
     let size : length m ≡ length block - p .filled = ap length (part-is (p .filled) block) ∙ length-drop (p .filled) block in
     let fits : outcome a y ≡ wrote (length l) l m = rw (le-ltb (length m) (length l) (omega (arith, size))) at given in
-    let count : a .count ≡ length l = ap (λ (o : Outcome). o .answer .count) fits in
-    let memory : y ≡ l ++ drop (length l) m = ap (λ (o : Outcome). o .memory) fits in
+    let count : a .count ≡ length l = ap (λ (o : Outcome Answer). o .answer .count) fits in
+    let memory : y ≡ l ++ drop (length l) m = ap (λ (o : Outcome Answer). o .memory) fits in
     (omega arith, rw (part-back (p .filled) block y, memory, count) (behind (p .filled) block l (drop (length l) m) (omega arith)))
 
--- ---- the table
-pub table-kept : (k : ℕ) (tb b : List ℕ) → (k ≡ 1 → ⊥) → tableAfter (kindOf k) tb b ≡ tb
-table-kept zero tb b other = refl
-table-kept (suc zero) tb b other = absurd (other refl)
-table-kept (suc (suc zero)) tb b other = refl
-table-kept (suc (suc (suc zero))) tb b other = refl
-table-kept (suc (suc (suc (suc zero)))) tb b other = refl
-table-kept (suc (suc (suc (suc (suc k))))) tb b other = refl
+-- ---- the table and the rows, by what the record holds
+pub table-kept : (s : Holds) (tb b : List ℕ) → isTable s ≡ false → tableKept s tb b ≡ tb
+table-kept aTable tb b other = true-false refl other
+table-kept aRow tb b other = refl
+table-kept aLine tb b other = refl
+table-kept nothing tb b other = refl
 
--- ---- the rows
-pub rows-other : (k : ℕ) → (k ≡ 2 → ⊥) → (k ≡ 3 → ⊥) → rowsOf (kindOf k) ≡ 0
-rows-other zero packed plain = refl
-rows-other (suc zero) packed plain = refl
-rows-other (suc (suc zero)) packed plain = absurd (packed refl)
-rows-other (suc (suc (suc zero))) packed plain = absurd (plain refl)
-rows-other (suc (suc (suc (suc zero)))) packed plain = refl
-rows-other (suc (suc (suc (suc (suc k))))) packed plain = refl
+pub table-new : (s : Holds) (tb b : List ℕ) → isTable s ≡ true → tableKept s tb b ≡ b
+table-new aTable tb b is = refl
+table-new aRow tb b is = true-false is refl
+table-new aLine tb b is = true-false is refl
+table-new nothing tb b is = true-false is refl
 
-pub rowsOf-most : (k : Kind) → rowsOf k ≤ 1
-rowsOf-most tableRecord = omega arith
-rowsOf-most packedRecord = omega arith
-rowsOf-most plainRecord = omega arith
-rowsOf-most lineRecord = omega arith
-rowsOf-most unknown = omega arith
+pub rows-one : (s : Holds) → isRow s ≡ true → rowsOf s ≡ 1
+rows-one aTable is = true-false is refl
+rows-one aRow is = refl
+rows-one aLine is = true-false is refl
+rows-one nothing is = true-false is refl
+
+pub rows-none : (s : Holds) → isRow s ≡ false → rowsOf s ≡ 0
+rows-none aTable other = refl
+rows-none aRow other = true-false refl other
+rows-none aLine other = refl
+rows-none nothing other = refl
+
+pub rowsOf-most : (s : Holds) → rowsOf s ≤ 1
+rowsOf-most aTable = omega arith
+rowsOf-most aRow = omega arith
+rowsOf-most aLine = omega arith
+rowsOf-most nothing = omega arith
 
 -- ---- the whole turn
 module _ {r : List ℕ} {p : Progress} {table block : List ℕ} {x : Listed} {block′ : List ℕ} (put : Put r p table block x block′) where
@@ -132,14 +138,14 @@ module _ {r : List ℕ} {p : Progress} {table block : List ℕ} {x : Listed} {bl
     fine = sym same-number ∙ ok
 
     pub read-length : (6 ≤ x .read .length) × (x .read .length ≤ 32778) × (x .read .length ≤ length r)
-    read-length = rw (put .read) (record-length (keptTable p table) r (p .state) fine)
+    read-length = rw (put .read) (record-length (heldBy p table) r fine)
 
     pub line-within : p .filled + x .count ≤ length block
     line-within = put .line fine .0
 
     pub turned-accepted : {kept rows : ℕ} {table′ : List ℕ}
-        → take kept table′ ≡ tableAfter (kindOf (x .read .kind)) (keptTable p table) (take (x .read .length - 6) (drop 6 r))
-        → rows ≡ p .rows + rowsOf (kindOf (x .read .kind))
+        → take kept table′ ≡ tableKept (holdsOf (x .read)) (keptTable p table) (take (x .read .length - 6) (drop 6 r))
+        → rows ≡ p .rows + rowsOf (holdsOf (x .read))
         → Turned r p table block
         (record { ended = false; failed = false; number = 0; next = record { state = x .read .state; kept = kept; filled = p .filled + x .count; rows = rows } })
         table′ block′
@@ -149,7 +155,7 @@ module _ {r : List ℕ} {p : Progress} {table block : List ℕ} {x : Listed} {bl
             refl,
             record {
               state = ap (λ (a : RecordRead). a .state) (put .read);
-              kept = (rw (put .read, judged-body (keptTable p table) r (p .state) fine) at is-kept);
+              kept = (rw (put .read, judged-body (heldBy p table) r fine) at is-kept);
               text = put .line fine .1;
               rows = (rw (put .read) at is-rows);
             },

@@ -39,8 +39,8 @@ pub row-fields : (code row pixels : ℕ) (w : List ℕ)
 unfolding rowFields
 row-fields code row pixels w =
     let size : 6 + length (twoBytes row ++ (twoBytes pixels ++ w)) ≡ 10 + length w =
-    rw (length-append (twoBytes row) (twoBytes pixels ++ w), length-append (twoBytes pixels) w, length-twoBytes row, length-twoBytes pixels)
-    (omega arith) in
+    rw (length-append (twoBytes row) (twoBytes pixels ++ w), length-append (twoBytes pixels) w)
+    (omega (arith, length-twoBytes row, length-twoBytes pixels)) in
     record-fields code (twoBytes row ++ (twoBytes pixels ++ w)) ∙ rw size (simp append-assoc)
 
 pub line-fields : (code numbers : ℕ) (w : List ℕ)

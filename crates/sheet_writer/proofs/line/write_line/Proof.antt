@@ -26,6 +26,7 @@ passed : (c : tie.Else1) (x : Context) (h : Heading) → stateOf x ≡ entry c .
     → judged lineKind h x (entry c .args .content .now) ≡ 0
 passed c x h is = sym (c .before .line-number .ensures x h is) ∙ c .if1 .left
 
+-- by any one sheet that the state is kept of
 few : (c : tie.Else1) → length (entry c .args .content .now) / 4 ≤ 4096
 few c =
     let st = entry c .args .state in

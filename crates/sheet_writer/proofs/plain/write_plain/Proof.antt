@@ -29,6 +29,7 @@ passed : (c : tie.Else1) (x : Context) → stateOf x ≡ entry c .args .state
     → judged plainKind (heading (entry c)) x (entry c .args .content .now) ≡ 0
 passed c x is = sym (c .before .plain-number .ensures x is) ∙ c .if1 .left
 
+-- by any one sheet that the state is kept of
 few : (c : tie.Else1) → length (entry c .args .content .now) / 2 ≤ 4096
 few c =
     let st = entry c .args .state in

@@ -25,6 +25,7 @@ passed : (c : tie.Else1) (x : Context) (h : Heading) → stateOf x ≡ entry c .
     → judged tableKind h x (entry c .args .content .now) ≡ 0
 passed c x h is = sym (c .before .table-number .ensures x h is) ∙ c .if1 .left
 
+-- by any one sheet that the state is kept of
 most : (c : tie.Else1) → length (entry c .args .content .now) ≤ 32772
 most c =
     let st = entry c .args .state in

@@ -1,7 +1,7 @@
 -- The bytes in front of a record's content. Definitions only. Assumes nothing.
 use Prim.Native.Nat.{ℕ, _-_}
 use mathlib.Core.List.{List, _++_}
-use Rattle.sheet_format.specs.Writing.{twoBytes, fourBytes}
+use Rattle.sheet_format.specs.Fields.{twoBytes, fourBytes}
 pub mod Laws
 
 -- of every record, n bytes long with its length field

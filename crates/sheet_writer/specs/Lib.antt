@@ -1,11 +1,3 @@
-pub mod Outcome
+pub mod Judged
 pub mod Fields
-pub mod Frame
-pub mod Place
-pub mod Table
-pub mod Packed
-pub mod Plain
-pub mod Number
 pub mod Numbers
-pub mod Line
-pub mod Record

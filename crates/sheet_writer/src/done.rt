@@ -2,10 +2,11 @@
 use sheet_format::RecordWritten;
 use sheet_format::SheetState;
 ghost use mathlib.Core.Path.{_≡_};
+ghost use Rattle.sheet_format.specs.Writing.{notWritten};
 
 // Nothing is counted, and the sheet holds what it held.
 pub fn refused(number: u32, state: SheetState) -> RecordWritten
-    ensures { λ r. ⌜ r ≡ record { number = number; count = 0; state = state } ⌝ }
+    ensures { λ r. ⌜ r ≡ notWritten state number ⌝ }
 {
     RecordWritten {
         number,

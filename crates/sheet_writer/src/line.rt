@@ -6,17 +6,20 @@ use crate::numbers::line_bytes;
 use crate::numbers::put_numbers;
 use sheet_format::RecordWritten;
 use sheet_format::SheetState;
+use sheet_format::place::line_place;
 ghost use mathlib.Core.Path.{_≡_};
-ghost use mathlib.Core.List.{[]};
-ghost use Rattle.sheet_format.specs.Record.{lineRecord};
+ghost use Rattle.answer.specs.Outcome.{outcome};
+ghost use Rattle.sheet_format.specs.Context.{Heading, Context, stateOf};
+ghost use Rattle.sheet_format.specs.Kind.ContourLine.{lineKind};
 ghost use Rattle.sheet_format.specs.Writing.{recordWritten};
-ghost use Rattle.sheet_writer.specs.Outcome.{outcome, judged};
+ghost use Rattle.sheet_writer.specs.Judged.{judged};
 
 // Length 4, kind 2 and count 2.
 const FIELD_BYTES: usize = 8;
 
 pub fn write_line(content: &[u8], state: SheetState, out: &mut [u8]) -> RecordWritten
-    ensures { λ r. ⌜ outcome r (now (out .exit)) ≡ recordWritten 4 0 [] (now (content .entry)) state (now (out .entry)) ⌝ }
+    ensures { λ r. ⌜ ((c : Context) (h : Heading) → stateOf c ≡ state
+        → outcome r (now (out .exit)) ≡ recordWritten 4 h c (now (content .entry)) (now (out .entry))) ⌝ }
 {
     let number = line_number(content, state);
     if number != 0 {
@@ -34,10 +37,11 @@ pub fn write_line(content: &[u8], state: SheetState, out: &mut [u8]) -> RecordWr
 
 // The refusals before the one for room: 16 and 11.
 fn line_number(content: &[u8], state: SheetState) -> u32
-    ensures { λ r. ⌜ r ≡ judged lineRecord 0 [] (now (content .entry)) state ⌝ }
+    ensures { λ r. ⌜ ((c : Context) (h : Heading) → stateOf c ≡ state → r ≡ judged lineKind h c (now (content .entry))) ⌝ }
 {
-    if state.tables == 0 {
-        return 16;
+    let place = line_place(state);
+    if place != 0 {
+        return place;
     }
     if 4096 < content.len() / 4 {
         return 11;

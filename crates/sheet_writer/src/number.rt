@@ -1,13 +1,13 @@
 // One number of a line: given as four little-endian bytes in two's complement, written as a signed adaptive number.
 use adaptive::write_signed;
 use bitstream::number::read_u32;
+use sheet_format::word::signed_of;
 ghost use mathlib.Core.Path.{_≡_};
 ghost use Prim.Native.Nat.{_/_, _<_};
 ghost use lib.IntN.{pos};
 ghost use lib.ListN.{length, getD};
 ghost use Rattle.adaptive.specs.Number.{signed, shortest};
-ghost use Rattle.sheet_format.specs.Line.{signedOf};
-ghost use Rattle.sheet_format.specs.Writing.{givenNumbers};
+ghost use Rattle.sheet_format.specs.Kind.ContourLine.{givenNumbers};
 
 // Number i of the content.
 pub fn number_at(content: &[u8], i: usize) -> i32
@@ -15,17 +15,6 @@ pub fn number_at(content: &[u8], i: usize) -> i32
     ensures { λ r. ⌜ r ≡ getD (givenNumbers (now (content .entry))) i (pos 0) ⌝ }
 {
     signed_of(read_u32(content, 4 * i))
-}
-
-// The value of 32 bits in two's complement.
-fn signed_of(word: u32) -> i32
-    ensures { λ r. ⌜ r ≡ signedOf word ⌝ }
-{
-    if word < 2147483648 {
-        word as i32
-    } else {
-        (word as i64 - 4294967296) as i32
-    }
 }
 
 // The bytes that a number takes in a record, found by writing it: none takes more than five.

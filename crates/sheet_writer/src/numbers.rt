@@ -7,7 +7,7 @@ ghost use mathlib.Core.Path.{_≡_};
 ghost use Prim.Native.Nat.{_/_, _≤_};
 ghost use lib.ListN.{length};
 ghost use Rattle.sheet_format.specs.Line.{lineBytes};
-ghost use Rattle.sheet_format.specs.Writing.{givenNumbers};
+ghost use Rattle.sheet_format.specs.Kind.ContourLine.{givenNumbers};
 ghost use Rattle.sheet_writer.specs.Numbers.{numbersWritten};
 
 pub fn line_bytes(content: &[u8]) -> usize

@@ -2,15 +2,16 @@
 use crate::done::refused;
 use crate::done::written;
 use crate::fields::put_row_fields;
-use crate::place::after_row;
-use crate::place::row_place;
 use row_packer::pack::pack;
 use sheet_format::RecordWritten;
 use sheet_format::SheetState;
+use sheet_format::place::after_row;
+use sheet_format::place::row_place;
 ghost use mathlib.Core.Path.{_≡_};
 ghost use Prim.Native.Nat.{min};
+ghost use Rattle.answer.specs.Outcome.{outcome};
+ghost use Rattle.sheet_format.specs.Context.{contextOf};
 ghost use Rattle.sheet_format.specs.Writing.{recordWritten};
-ghost use Rattle.sheet_writer.specs.Outcome.{outcome};
 
 // Length 4, kind 2, row number 2 and pixel count 2.
 const FIELD_BYTES: usize = 10;
@@ -22,10 +23,10 @@ pub fn write_packed(
     state: SheetState,
     out: &mut [u8],
 ) -> RecordWritten
-    ensures { λ r. ⌜ outcome r (now (out .exit))
-        ≡ recordWritten 2 row (now (table .entry)) (now (content .entry)) state (now (out .entry)) ⌝ }
+    ensures { λ r. ⌜ outcome r (now (out .exit)) ≡ recordWritten 2 (record { row = row })
+        (contextOf (now (table .entry)) state) (now (content .entry)) (now (out .entry)) ⌝ }
 {
-    let place = row_place(row, state);
+    let place = row_place(row as u32, state);
     if place != 0 {
         return refused(place, state);
     }
@@ -43,7 +44,7 @@ pub fn write_packed(
     let words = ((packed.count + 31) / 32) as usize;
     let record_bytes = FIELD_BYTES + 4 * words;
     put_row_fields(2, row, pixels as u32, record_bytes as u32, out);
-    written(record_bytes as u32, after_row(row, state))
+    written(record_bytes as u32, after_row(row as u32, state))
 }
 
 fn lesser(a: usize, b: usize) -> usize

@@ -2,23 +2,25 @@
 use crate::done::refused;
 use crate::done::written;
 use crate::fields::put_row_fields;
-use crate::place::after_row;
-use crate::place::row_place;
 use bytes::copy;
 use row_pixels::any_above;
 use sheet_format::RecordWritten;
 use sheet_format::SheetState;
+use sheet_format::place::after_row;
+use sheet_format::place::row_place;
 ghost use mathlib.Core.Path.{_≡_};
-ghost use mathlib.Core.List.{[]};
-ghost use Rattle.sheet_format.specs.Record.{plainRecord};
+ghost use Rattle.answer.specs.Outcome.{outcome};
+ghost use Rattle.sheet_format.specs.Context.{Context, stateOf};
+ghost use Rattle.sheet_format.specs.Kind.PlainRow.{plainKind};
 ghost use Rattle.sheet_format.specs.Writing.{recordWritten};
-ghost use Rattle.sheet_writer.specs.Outcome.{outcome, judged};
+ghost use Rattle.sheet_writer.specs.Judged.{judged};
 
 // Length 4, kind 2, row number 2 and pixel count 2.
 const FIELD_BYTES: usize = 10;
 
 pub fn write_plain(row: u16, content: &[u8], state: SheetState, out: &mut [u8]) -> RecordWritten
-    ensures { λ r. ⌜ outcome r (now (out .exit)) ≡ recordWritten 3 row [] (now (content .entry)) state (now (out .entry)) ⌝ }
+    ensures { λ r. ⌜ ((c : Context) → stateOf c ≡ state → outcome r (now (out .exit))
+        ≡ recordWritten 3 (record { row = row }) c (now (content .entry)) (now (out .entry))) ⌝ }
 {
     let number = plain_number(row, content, state);
     if number != 0 {
@@ -33,14 +35,14 @@ pub fn write_plain(row: u16, content: &[u8], state: SheetState, out: &mut [u8]) 
     }
     copy(&content[..end], &mut out[FIELD_BYTES..]);
     put_row_fields(3, row, pixels as u32, record_bytes as u32, out);
-    written(record_bytes as u32, after_row(row, state))
+    written(record_bytes as u32, after_row(row as u32, state))
 }
 
 // The refusals before the one for room: 16, 11, 4.
 fn plain_number(row: u16, content: &[u8], state: SheetState) -> u32
-    ensures { λ r. ⌜ r ≡ judged plainRecord row [] (now (content .entry)) state ⌝ }
+    ensures { λ r. ⌜ ((c : Context) → stateOf c ≡ state → r ≡ judged plainKind (record { row = row }) c (now (content .entry))) ⌝ }
 {
-    let place = row_place(row, state);
+    let place = row_place(row as u32, state);
     if place != 0 {
         return place;
     }

@@ -7,8 +7,9 @@ use crate::table::write_table;
 use sheet_format::RecordWritten;
 use sheet_format::SheetState;
 ghost use mathlib.Core.Path.{_≡_};
+ghost use Rattle.answer.specs.Outcome.{outcome};
+ghost use Rattle.sheet_format.specs.Context.{contextOf};
 ghost use Rattle.sheet_format.specs.Writing.{recordWritten};
-ghost use Rattle.sheet_writer.specs.Outcome.{outcome};
 
 // Writes a record to the front of `out`, and answers its bytes and the state of the sheet after it. The content is a
 // table's bytes (kind 1), pixels of two bytes (kinds 2 and 3) or numbers of four bytes (kind 4); `row` is a row's number,
@@ -22,8 +23,8 @@ pub fn write_record(
     state: SheetState,
     out: &mut [u8],
 ) -> RecordWritten
-    ensures { λ r. ⌜ outcome r (now (out .exit))
-        ≡ recordWritten kind row (now (table .entry)) (now (content .entry)) state (now (out .entry)) ⌝ }
+    ensures { λ r. ⌜ outcome r (now (out .exit)) ≡ recordWritten kind (record { row = row })
+        (contextOf (now (table .entry)) state) (now (content .entry)) (now (out .entry)) ⌝ }
 {
     match kind {
         1 => write_table(content, state, out),

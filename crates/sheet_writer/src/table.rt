@@ -6,17 +6,21 @@ use bytes::copy;
 use row_packer::pack::pack;
 use sheet_format::RecordWritten;
 use sheet_format::SheetState;
+use sheet_format::place::after_table;
+use sheet_format::place::table_place;
 ghost use mathlib.Core.Path.{_≡_};
-ghost use mathlib.Core.List.{[]};
-ghost use Rattle.sheet_format.specs.Record.{tableRecord};
+ghost use Rattle.answer.specs.Outcome.{outcome};
+ghost use Rattle.sheet_format.specs.Context.{Heading, Context, stateOf};
+ghost use Rattle.sheet_format.specs.Kind.Table.{tableKind};
 ghost use Rattle.sheet_format.specs.Writing.{recordWritten};
-ghost use Rattle.sheet_writer.specs.Outcome.{outcome, judged};
+ghost use Rattle.sheet_writer.specs.Judged.{judged};
 
 // Length 4 and kind 2.
 const FIELD_BYTES: usize = 6;
 
 pub fn write_table(content: &[u8], state: SheetState, out: &mut [u8]) -> RecordWritten
-    ensures { λ r. ⌜ outcome r (now (out .exit)) ≡ recordWritten 1 0 [] (now (content .entry)) state (now (out .entry)) ⌝ }
+    ensures { λ r. ⌜ ((c : Context) (h : Heading) → stateOf c ≡ state
+        → outcome r (now (out .exit)) ≡ recordWritten 1 h c (now (content .entry)) (now (out .entry))) ⌝ }
 {
     let number = table_number(content, state);
     if number != 0 {
@@ -28,19 +32,16 @@ pub fn write_table(content: &[u8], state: SheetState, out: &mut [u8]) -> RecordW
     }
     copy(content, &mut out[FIELD_BYTES..]);
     put_record_fields(1, record_bytes as u32, out);
-    let next = SheetState {
-        tables: 1,
-        least: state.least,
-    };
-    written(record_bytes as u32, next)
+    written(record_bytes as u32, after_table(state))
 }
 
 // The refusals before the one for room: 16, and 1 to 3.
 fn table_number(content: &[u8], state: SheetState) -> u32
-    ensures { λ r. ⌜ r ≡ judged tableRecord 0 [] (now (content .entry)) state ⌝ }
+    ensures { λ r. ⌜ ((c : Context) (h : Heading) → stateOf c ≡ state → r ≡ judged tableKind h c (now (content .entry))) ⌝ }
 {
-    if state.tables != 0 {
-        return 16;
+    let place = table_place(state);
+    if place != 0 {
+        return place;
     }
     // A packing of no pixels is refused exactly as its table is. The check is asked for in this way so that its copy of the
     // strings has one place on the stack, below packing, and none in the frame of the record call.

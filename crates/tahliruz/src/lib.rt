@@ -16,10 +16,9 @@ ghost use Rattle.code_table.specs.Plain.{plainLent};
 ghost use Rattle.row_reader.specs.Step.{startPlace, itemRead};
 ghost use Rattle.tahliruz.specs.Items.{placeOf, flatPlace, itemAnswer};
 ghost use Rattle.adaptive.specs.Calls.{signedRead, unsignedRead, signedWritten, unsignedWritten};
+ghost use Rattle.sheet_format.specs.Context.{contextOf};
 ghost use Rattle.sheet_format.specs.Reading.{recordJudged, recordRead};
 ghost use Rattle.sheet_format.specs.Writing.{recordWritten};
-ghost use Rattle.sheet_reader.specs.Leaves.{readOutcome};
-ghost use Rattle.sheet_writer.specs.Outcome.{outcome as recordOutcome};
 
 #[no_mangle]
 pub extern "C" fn tahliruz_check(table: &[u8]) -> Answer
@@ -118,7 +117,7 @@ pub extern "C" fn tahliruz_write_unsigned(value: u32, out: &mut [u8]) -> Answer
 
 #[no_mangle]
 pub extern "C" fn tahliruz_judge_record(table: &[u8], sheet: &[u8], state: SheetState) -> RecordRead
-    ensures { λ r. ⌜ r ≡ recordJudged (now (table .entry)) (now (sheet .entry)) state ⌝ }
+    ensures { λ r. ⌜ r ≡ recordJudged (contextOf (now (table .entry)) state) (now (sheet .entry)) ⌝ }
 {
     sheet_reader::judge_record(table, sheet, state)
 }
@@ -130,7 +129,7 @@ pub extern "C" fn tahliruz_read_record(
     state: SheetState,
     content: &mut [u8],
 ) -> RecordRead
-    ensures { λ r. ⌜ readOutcome r (now (content .exit)) ≡ recordRead (now (table .entry)) (now (sheet .entry)) state (now (content .entry)) ⌝ }
+    ensures { λ r. ⌜ outcome r (now (content .exit)) ≡ recordRead (contextOf (now (table .entry)) state) (now (sheet .entry)) (now (content .entry)) ⌝ }
 {
     sheet_reader::read_record(table, sheet, state, content)
 }
@@ -144,7 +143,7 @@ pub extern "C" fn tahliruz_write_record(
     state: SheetState,
     out: &mut [u8],
 ) -> RecordWritten
-    ensures { λ r. ⌜ recordOutcome r (now (out .exit)) ≡ recordWritten kind row (now (table .entry)) (now (content .entry)) state (now (out .entry)) ⌝ }
+    ensures { λ r. ⌜ outcome r (now (out .exit)) ≡ recordWritten kind (record { row = row }) (contextOf (now (table .entry)) state) (now (content .entry)) (now (out .entry)) ⌝ }
 {
     sheet_writer::write_record(kind, row, content, table, state, out)
 }

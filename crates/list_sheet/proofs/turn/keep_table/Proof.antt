@@ -1,17 +1,16 @@
 -- `list_sheet::turn::keep_table` meets its contract: a table is put to the front of the memory, and else what was kept stays.
 -- Assumes nothing.
 use native.Mathlib.Omega.{arith}
-use mathlib.Core.Path.{sym}
+use mathlib.Core.Path.{sym, _∙_}
 use borrow.Author.Needs.{needs}
 use Rattle.text.specs.Put.Laws.{put-front}
-use Rattle.list_sheet.specs.Step.Laws.{table-kept}
+use Rattle.sheet_format.specs.Kinds.{kindOf}
+use Rattle.list_sheet.specs.Step.Laws.{table-kept, table-new}
 use Rattle.list_sheet.proofs.turn.keep_table.Statement.{statement}
 use Rattle.list_sheet.proofs.turn.keep_table.Tie as tie
 
-returns : tie.Need-returns
-returns c =
-    let start = c .before .before .before .before in
-    (start .pre .1 .0, sym (table-kept (start .args .read .kind) _ _ (c .if1 .taken)))
+is-table-requires : tie.Need-is-table-requires
+is-table-requires c κs = search needs
 
 cast-end : tie.Need-cast-end
 cast-end c = search needs
@@ -31,12 +30,33 @@ put-bytes-requires c κs = search needs
 same-length : tie.Need-same-length
 same-length c = search needs
 
+returns : tie.Need-returns
+returns c =
+    let put = c .before .before in
+    let at-if1 = put .before .before .before .before in
+    let at-test = at-if1 .before in
+    let start = at-test .before .before .before in
+    let holds = kindOf (start .args .read .kind) .holds in
+    let is-new = table-new holds _ _ (sym (at-test .is-table .ensures) ∙ at-if1 .if1 .taken) in
+    (omega (arith, put .put-bytes .ensures .next, start .pre), put-front (put .put-bytes .ensures) ∙ sym is-new)
+
 returns-2 : tie.Need-returns-2
 returns-2 c =
-    let put = c .before .before in
-    let table = put .before .before .before .before in
-    let start = table .before .before .before .before in
-    (omega (arith, put .put-bytes .ensures .next, start .pre), rw (table .if1 .left) (put-front (put .put-bytes .ensures)))
+    let at-test = c .before in
+    let start = at-test .before .before .before in
+    let holds = kindOf (start .args .read .kind) .holds in
+    (start .pre .1 .0, sym (table-kept holds _ _ (sym (at-test .is-table .ensures) ∙ c .if1 .left)))
 
 pub keep-table-spec : {M : Type 1} → statement M
-keep-table-spec = tie.close (tie.spec returns cast-end sub-put-bytes part-put-bytes-start part-put-bytes-end put-bytes-requires same-length returns-2)
+keep-table-spec =
+    tie.close
+    (tie.spec
+    is-table-requires
+    cast-end
+    sub-put-bytes
+    part-put-bytes-start
+    part-put-bytes-end
+    put-bytes-requires
+    same-length
+    returns
+    returns-2)

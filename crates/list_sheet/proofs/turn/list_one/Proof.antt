@@ -4,7 +4,7 @@ use native.Mathlib.Omega.{arith}
 use mathlib.Core.Path.{refl}
 use borrow.Author.Needs.{needs}
 use Rattle.row_format.specs.Lists.Laws.{true-false}
-use Rattle.sheet_format.specs.Record.{kindOf}
+use Rattle.sheet_listing.specs.Turns.{holdsOf}
 use Rattle.list_sheet.specs.Step.Laws.{rowsOf-most, turned-refused, read-length, line-within, turned-accepted}
 use Rattle.list_sheet.proofs.turn.list_one.Statement.{statement}
 use Rattle.list_sheet.proofs.turn.list_one.Tie as tie
@@ -69,7 +69,7 @@ returns-2 c =
       record {
         kept = omega (arith, kept .keep-table .ensures .0, kept .keep-table .kept);
         filled = omega (arith, line-within put ok, line .put-line .kept .1 .1 .0);
-        rows = omega (arith, rows, rowsOf-most (kindOf (line .put-line .result .read .kind)));
+        rows = omega (arith, rows, rowsOf-most (holdsOf (line .put-line .result .read)));
       },
       ((λ e. true-false e refl), turned-accepted put ok (kept .keep-table .ensures .1) rows),
     )

@@ -17,7 +17,7 @@ use Rattle.sheet_format.specs.Context.{Heading, Context}
 use Rattle.sheet_format.specs.Kind.Lawful.{Back, Lawful}
 use Rattle.sheet_format.specs.Kind.Table.{tablePlace, tableOwn, tableKind}
 
-table-most : (x : List ℕ) → tableNumber x ≡ 0 → length x ≤ 32772
+pub table-most : (x : List ℕ) → tableNumber x ≡ 0 → length x ≤ 32772
 table-most x ok =
     let a = accepted (wordsOf x) (tableNumber-verdict x ok) in
     let words = sym (length-cut 32 (length x / 4) (bitsOf x)) ∙ a .words in

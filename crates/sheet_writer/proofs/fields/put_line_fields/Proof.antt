@@ -1,6 +1,6 @@
 -- `sheet_writer::fields::put_line_fields` meets its contract: a record's fields, and one more behind them. Assumes nothing.
 use borrow.Author.Needs.{needs}
-use Rattle.sheet_writer.specs.Fields.Laws.{put-line-done}
+use Rattle.sheet_writer.proofs.fields.Laws.{put-line-done}
 use Rattle.sheet_writer.proofs.fields.put_line_fields.Statement.{statement}
 use Rattle.sheet_writer.proofs.fields.put_line_fields.Tie as tie
 

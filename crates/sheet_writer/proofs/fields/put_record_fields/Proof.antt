@@ -1,6 +1,6 @@
 -- `sheet_writer::fields::put_record_fields` meets its contract: two fields, one behind the other. Assumes nothing.
 use borrow.Author.Needs.{needs}
-use Rattle.sheet_writer.specs.Fields.Laws.{put-record-done}
+use Rattle.sheet_writer.proofs.fields.Laws.{put-record-done}
 use Rattle.sheet_writer.proofs.fields.put_record_fields.Statement.{statement}
 use Rattle.sheet_writer.proofs.fields.put_record_fields.Tie as tie
 

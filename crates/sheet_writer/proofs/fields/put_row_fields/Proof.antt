@@ -1,6 +1,6 @@
 -- `sheet_writer::fields::put_row_fields` meets its contract: a record's fields, and two more behind them. Assumes nothing.
 use borrow.Author.Needs.{needs}
-use Rattle.sheet_writer.specs.Fields.Laws.{put-row-done}
+use Rattle.sheet_writer.proofs.fields.Laws.{put-row-done}
 use Rattle.sheet_writer.proofs.fields.put_row_fields.Statement.{statement}
 use Rattle.sheet_writer.proofs.fields.put_row_fields.Tie as tie
 

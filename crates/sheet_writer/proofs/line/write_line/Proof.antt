@@ -7,12 +7,14 @@ use mathlib.Core.Path.{_≡_, _∙_, sym}
 use lib.ListN.{length, length-drop}
 use borrow.Author.Needs.{needs}
 use Rattle.bitstream.specs.Memory.Part.{part-is}
-use Rattle.sheet_format.specs.Record.{lineRecord}
+use Rattle.answer.specs.Outcome.Laws.{orElse-zero-right}
+use Rattle.sheet_format.specs.Context.{Heading, noHeading, Context, stateOf, contextOf}
+use Rattle.sheet_format.specs.Context.Laws.{stateOf-contextOf}
 use Rattle.sheet_format.specs.Line.{lineBytes}
-use Rattle.sheet_format.specs.Writing.{givenNumbers}
-use Rattle.sheet_writer.specs.Outcome.{judged}
-use Rattle.sheet_writer.specs.Line.{line-frame, line-few, line-most}
-use Rattle.sheet_writer.specs.Frame.Laws.{frame-refused, frame-full, frame-passed, frame-done}
+use Rattle.sheet_format.specs.Kind.ContourLine.{givenNumbers, linePlace, lineKind}
+use Rattle.sheet_writer.specs.Judged.{judged}
+use Rattle.sheet_writer.proofs.Frame.{frame-refused, frame-full, frame-passed, frame-done}
+use Rattle.sheet_writer.proofs.line.Laws.{line-frame, line-few, line-most}
 use Rattle.sheet_writer.proofs.line.write_line.Statement.{statement}
 use Rattle.sheet_writer.proofs.line.write_line.Tie as tie
 
@@ -20,11 +22,17 @@ use Rattle.sheet_writer.proofs.line.write_line.Tie as tie
 abbrev entry : tie.Else1 → tie.Start
 entry c = c .before .before .before .before
 
-passed : (c : tie.Else1) → judged lineRecord 0 [] (entry c .args .content .now) (entry c .args .state) ≡ 0
-passed c = sym (c .before .line-number .ensures) ∙ c .if1 .left
+passed : (c : tie.Else1) (x : Context) (h : Heading) → stateOf x ≡ entry c .args .state
+    → judged lineKind h x (entry c .args .content .now) ≡ 0
+passed c x h is = sym (c .before .line-number .ensures x h is) ∙ c .if1 .left
 
+-- by any one sheet that the state is kept of
 few : (c : tie.Else1) → length (entry c .args .content .now) / 4 ≤ 4096
-few c = line-few (entry c .args .content .now) (entry c .args .state) (passed c)
+few c =
+    let st = entry c .args .state in
+    let x = contextOf [] st in
+    line-few noHeading x (entry c .args .content .now)
+    (orElse-zero-right (linePlace x noHeading) _ (passed c x noHeading (stateOf-contextOf [] st)))
 
 most : (c : tie.After-line-bytes) → c .line-bytes .result ≤ 20480
 most c = omega (arith, c .line-bytes .ensures, line-most (entry (c .before) .args .content .now) (few (c .before)))
@@ -36,12 +44,11 @@ refused-requires : tie.Need-refused-requires
 refused-requires c κs = search needs
 
 returns : tie.Need-returns
-returns c =
+returns c = λ x h is.
     let at-line-number = c .before .before in
-    let at-start = at-line-number .before .before .before in
-    let a = at-start .args in
-    frame-refused (line-frame (a .content .now)) (a .state) (a .out .now) (c .refused .result)
-    (at-line-number .line-number .result) (at-line-number .line-number .ensures) (c .before .if1 .taken) (c .refused .ensures)
+    let a = at-line-number .before .before .before .args in
+    frame-refused (line-frame h x (a .content .now)) (a .out .now) is (at-line-number .line-number .result)
+    (at-line-number .line-number .ensures x h is) (c .before .if1 .taken) (c .refused .ensures)
 
 line-bytes-requires : tie.Need-line-bytes-requires
 line-bytes-requires c κs = few c
@@ -53,11 +60,11 @@ refused-requires-2 : tie.Need-refused-requires-2
 refused-requires-2 c κs = search needs
 
 returns-2 : tie.Need-returns-2
-returns-2 c =
+returns-2 c = λ x h is.
     let at-line-bytes = c .before .before in
     let at-if1 = at-line-bytes .before in
     let a = entry at-if1 .args in
-    frame-full (line-frame (a .content .now)) (a .state) (a .out .now) (c .refused2 .result) (passed at-if1)
+    frame-full (line-frame h x (a .content .now)) (a .out .now) is (passed at-if1 x h is)
     (omega (arith, at-line-bytes .line-bytes .ensures, c .before .if2 .taken)) (c .refused2 .ensures)
 
 sub-put-numbers : tie.Need-sub-put-numbers
@@ -87,7 +94,10 @@ put-line-fields-requires : tie.Need-put-line-fields-requires
 put-line-fields-requires c κs = search needs
 
 cast-written : tie.Need-cast-written
-cast-written c = omega (arith, most (c .before .before .before .before .before .before .before .before .before))
+cast-written c =
+    let at-put-line-fields = c .before .before in
+    let at-put-numbers = at-put-line-fields .before .before .before .before in
+    omega (arith, most (at-put-numbers .before .before .before))
 
 written-requires : tie.Need-written-requires
 written-requires c κs = search needs
@@ -96,19 +106,18 @@ same-length : tie.Need-same-length
 same-length c = search needs
 
 returns-3 : tie.Need-returns-3
-returns-3 c =
+returns-3 c = λ x h is.
     let at-put-line-fields = c .before .before .before in
     let at-put-numbers = at-put-line-fields .before .before .before .before in
     let at-if2 = at-put-numbers .before .before in
     let at-line-bytes = at-if2 .before in
     let at-if1 = at-line-bytes .before in
     let a = entry at-if1 .args in
-    let frame = line-frame (a .content .now) in
+    let frame = line-frame h x (a .content .now) in
     let m = a .out .now in
     let fits : 8 + length (lineBytes (givenNumbers (a .content .now))) ≤ length m =
     omega (arith, at-line-bytes .line-bytes .ensures, at-if2 .if2 .left) in
-    let number = frame-passed frame (a .state) m (c .written .result) (passed at-if1) fits in
-    frame-done frame (a .state) m (c .written .result) number (omega arith)
+    frame-done frame m (frame-passed frame m (passed at-if1 x h is) fits) (omega arith) (sym is)
     (rw (← at-line-bytes .line-bytes .ensures) (c .written .ensures)) (at-put-numbers .put-numbers .last .1 .0)
     (at-put-line-fields .put-line-fields .last .1 .1 .1 .0) (at-put-numbers .put-numbers .ensures)
     (rw (at-line-bytes .line-bytes .ensures) at (at-put-line-fields .put-line-fields .ensures))

@@ -1,7 +1,7 @@
 -- `sheet_writer::number::number_at` meets its contract: the word is read, and then its value taken. Assumes nothing.
 use mathlib.Core.Path.{_∙_}
 use borrow.Author.Needs.{needs}
-use Rattle.sheet_writer.specs.Number.Laws.{held, given-at}
+use Rattle.sheet_writer.proofs.number.Laws.{held, given-at}
 use Rattle.sheet_writer.proofs.number.number_at.Statement.{statement}
 use Rattle.sheet_writer.proofs.number.number_at.Tie as tie
 

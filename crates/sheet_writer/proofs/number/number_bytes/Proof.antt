@@ -2,7 +2,7 @@
 use borrow.Author.Needs.{needs}
 use Rattle.adaptive.specs.Number.{signed}
 use Rattle.adaptive.specs.Number.Read.{shortest-count}
-use Rattle.sheet_writer.specs.Number.Laws.{wrote-number}
+use Rattle.sheet_writer.proofs.number.Laws.{wrote-number}
 use Rattle.sheet_writer.proofs.number.number_bytes.Statement.{statement}
 use Rattle.sheet_writer.proofs.number.number_bytes.Tie as tie
 

@@ -6,10 +6,9 @@ use mathlib.Core.Path.{_∙_, ap}
 use lib.ListN.{length}
 use borrow.Author.Needs.{needs}
 use Rattle.adaptive.specs.Number.{signed, shortest}
-use Rattle.sheet_format.specs.Writing.{givenNumbers}
-use Rattle.sheet_writer.specs.Numbers.{Reached}
-use Rattle.sheet_writer.specs.Number.Laws.{held, length-given}
-use Rattle.sheet_writer.specs.Numbers.Laws.{reached-none, reached-more, reached-most, reached-all}
+use Rattle.sheet_format.specs.Kind.ContourLine.{givenNumbers}
+use Rattle.sheet_writer.proofs.number.Laws.{held, length-given}
+use Rattle.sheet_writer.proofs.numbers.Laws.{Reached, reached-none, reached-more, reached-most, reached-all}
 use Rattle.sheet_writer.proofs.numbers.line_bytes.Statement.{statement}
 use Rattle.sheet_writer.proofs.numbers.line_bytes.Tie as tie
 

@@ -1,13 +1,13 @@
 -- `sheet_writer::numbers::put_numbers` meets its contract: the loop's invariant is that the first i numbers stand at the
 -- front, `at` bytes, and what follows is as it was; the measure is the numbers left. Assumes nothing.
+mod Turn
 use Prim.Native.Nat.{_<_, _-_, _/_}
 use native.Mathlib.Omega.{arith}
 use lib.ListN.{length}
 use borrow.Author.Needs.{needs}
-use Rattle.sheet_format.specs.Writing.{givenNumbers}
-use Rattle.sheet_writer.specs.Numbers.{Putting}
-use Rattle.sheet_writer.specs.Number.Laws.{length-given, wrote-number}
-use Rattle.sheet_writer.specs.Numbers.Laws.{putting-none, putting-room, putting-more, putting-all}
+use Turn.{Putting, putting-none, putting-room, putting-more, putting-all}
+use Rattle.sheet_format.specs.Kind.ContourLine.{givenNumbers}
+use Rattle.sheet_writer.proofs.number.Laws.{length-given, wrote-number}
 use Rattle.sheet_writer.proofs.numbers.put_numbers.Statement.{statement}
 use Rattle.sheet_writer.proofs.numbers.put_numbers.Tie as tie
 

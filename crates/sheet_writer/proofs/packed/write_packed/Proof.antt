@@ -1,31 +1,58 @@
 -- `sheet_writer::packed::write_packed` meets its contract: refused by its place, by packing or because the fields have no
 -- room, or the words behind the fields. Assumes nothing.
+use Prim.Native.Nat.{ℕ}
 use native.Mathlib.Omega.{arith}
-use mathlib.Core.Path.{_∙_, sym}
+use mathlib.Core.List.{List}
+use mathlib.Core.Path.{_≡_, _∙_, sym, ap}
 use borrow.Author.Needs.{needs}
-use Rattle.sheet_format.specs.Record.{packedRecord}
-use Rattle.sheet_writer.specs.Packed.{Ran}
-use Rattle.sheet_writer.specs.Outcome.Laws.{judged-placed}
-use Rattle.sheet_writer.specs.Frame.Laws.{frame-refused}
-use Rattle.sheet_writer.specs.Packed.Laws.{packed-frame, pack-refused, pack-short, pack-few, pack-most, pack-done}
+use Rattle.bitstream.specs.Memory.Part.{partFrom}
+use Rattle.answer.specs.Outcome.Laws.{given-first}
+use Rattle.row_format.specs.Calls.{packed}
+use Rattle.sheet_format.specs.Context.{Heading, Context, stateOf, contextOf}
+use Rattle.sheet_format.specs.Context.Laws.{stateOf-contextOf}
+use Rattle.sheet_format.specs.Kind.Row.{rowPlace}
+use Rattle.sheet_writer.proofs.Frame.{frame-refused}
+use Rattle.sheet_writer.proofs.packed.Laws.{Ran, table-lent, packed-frame, pack-refused, pack-short, pack-few, pack-most, pack-done}
 use Rattle.sheet_writer.proofs.packed.write_packed.Statement.{statement}
 use Rattle.sheet_writer.proofs.packed.write_packed.Tie as tie
 
+abbrev heading : tie.Start → Heading
+heading c = record { row = c .args .row }
+
+abbrev context : tie.Start → Context
+context c = contextOf (c .args .table .now) (c .args .state)
+
+state-is : (c : tie.Start) → stateOf (context c) ≡ c .args .state
+state-is c = stateOf-contextOf (c .args .table .now) (c .args .state)
+
+-- where the row is in its place
+abbrev entry : tie.Else1 → tie.Start
+entry c = c .before .before .before .before .before
+
+placed : (c : tie.Else1) → rowPlace (context (entry c)) (heading (entry c)) ≡ 0
+placed c = sym (c .before .row-place .ensures (context (entry c)) (state-is (entry c))) ∙ c .if1 .left
+
+-- what holds when packing has run
 abbrev Ran-at : tie.After-pack → Type 0
 Ran-at c =
     let at-lesser = c .before .before in
-    let a = at-lesser .before .before .before .before .before .before .args in
-    Ran (a .row) (a .table .now) (a .content .now) (a .state) (a .out .now) (at-lesser .lesser .result)
-    (c .pack .result) (c .pack .last .1 .1 .0)
+    let at-start = entry (at-lesser .before) in
+    Ran (heading at-start) (context at-start) (at-start .args .content .now) (at-start .args .out .now)
+    (at-lesser .lesser .result) (c .pack .result) (c .pack .last .1 .1 .0)
 
--- what holds when packing has run
 ran : (c : tie.After-pack) → Ran-at c
 ran c =
-    let at-if1 = c .before .before .before in
+    let at-lesser = c .before .before in
+    let at-if1 = at-lesser .before in
+    let at-start = entry at-if1 in
+    let a = at-start .args in
     record {
-      placed = sym (at-if1 .before .row-place .ensures) ∙ at-if1 .if1 .left;
-      place = c .before .before .lesser .ensures;
-      packs = c .pack .ensures;
+      placed = placed at-if1;
+      place = at-lesser .lesser .ensures;
+      packs =
+          c .pack .ensures
+          ∙ ap (λ (t : List ℕ). packed t (a .content .now) (partFrom (at-lesser .lesser .result) (a .out .now)))
+          (sym (table-lent (a .table .now) (a .state) (heading at-start) (placed at-if1)));
     }
 
 row-place-requires : tie.Need-row-place-requires
@@ -40,11 +67,9 @@ returns c =
     let at-start = at-row-place .before .before .before .before in
     let a = at-start .args in
     let place = at-row-place .row-place in
-    let number =
-    judged-placed packedRecord (a .row) (a .table .now) (a .content .now) (a .state) (place .result) (place .ensures)
-    (c .before .if1 .taken) in
-    frame-refused (packed-frame (a .row) (a .table .now) (a .content .now)) (a .state) (a .out .now) (c .refused .result)
-    (place .result) number (c .before .if1 .taken) (c .refused .ensures)
+    let is = state-is at-start in
+    frame-refused (packed-frame (heading at-start) (context at-start) (a .content .now)) (a .out .now) is (place .result)
+    (given-first _ _ (place .ensures (context at-start) is) (c .before .if1 .taken)) (c .before .if1 .taken) (c .refused .ensures)
 
 lesser-requires : tie.Need-lesser-requires
 lesser-requires c κs = search needs
@@ -70,7 +95,8 @@ same-length c = search needs
 returns-2 : tie.Need-returns-2
 returns-2 c =
     let at-pack = c .before .before .before .before .before in
-    pack-refused (ran at-pack) (c .before .if2 .taken) (c .refused2 .result) (c .refused2 .ensures)
+    let is = state-is (entry (at-pack .before .before .before)) in
+    pack-refused (ran at-pack) is (c .before .if2 .taken) (c .refused2 .ensures)
 
 refused-requires-3 : tie.Need-refused-requires-3
 refused-requires-3 c κs = search needs
@@ -82,7 +108,8 @@ returns-3 : tie.Need-returns-3
 returns-3 c =
     let at-if2 = c .before .before in
     let at-pack = at-if2 .before .before .before .before in
-    pack-short (ran at-pack) (at-if2 .if2 .left) (c .before .if3 .taken) (c .refused3 .result) (c .refused3 .ensures)
+    let is = state-is (entry (at-pack .before .before .before)) in
+    pack-short (ran at-pack) (at-if2 .if2 .left) is (c .before .if3 .taken) (c .refused3 .ensures)
 
 add-words : tie.Need-add-words
 add-words c = omega (arith, pack-most (ran (c .before .before .before .before .before .before)) (c .before .before .if2 .left))
@@ -132,9 +159,10 @@ returns-4 c =
     let at-if3 = at-put-row-fields .before .before .before in
     let at-if2 = at-if3 .before in
     let at-pack = at-if2 .before .before .before .before in
-    pack-done (ran at-pack) (at-if2 .if2 .left) (at-if3 .if3 .left) (c .written .result)
-    (rw (← c .before .after-row .ensures) (c .written .ensures)) (at-put-row-fields .put-row-fields .last .1 .1 .1 .1 .0)
-    (at-put-row-fields .put-row-fields .ensures)
+    let at-start = entry (at-pack .before .before .before) in
+    let after = c .before .after-row .ensures (context at-start) (at-start .args .content .now) (state-is at-start) in
+    pack-done (ran at-pack) (at-if2 .if2 .left) (at-if3 .if3 .left) after (c .written .ensures)
+    (at-put-row-fields .put-row-fields .last .1 .1 .1 .1 .0) (at-put-row-fields .put-row-fields .ensures)
 
 pub write-packed-spec : {M : Type 1} → statement M
 write-packed-spec =

@@ -1,10 +1,34 @@
 -- `sheet_writer::record::write_record` meets its contract: each kind by its own function, and any other number refused.
 -- Assumes nothing.
-use mathlib.Core.Path.{_∙_}
+use Prim.Native.Nat.{ℕ}
+use native.Mathlib.Decide.{decLt}
+use native.Mathlib.Omega.{arith}
+use mathlib.Core.Logic.{by-cases}
+use mathlib.Core.Path.{_≡_, ap}
 use borrow.Author.Needs.{needs}
-use Rattle.sheet_writer.specs.Record.{table-only, plain-only, line-only, refused-kind}
+use Rattle.sheet_format.specs.Context.{Heading, Context, stateOf, contextOf}
+use Rattle.sheet_format.specs.Context.Laws.{stateOf-contextOf}
+use Rattle.sheet_format.specs.Kind.{unknown}
+use Rattle.sheet_format.specs.Kinds.{kindOf}
+use Rattle.sheet_format.specs.Kinds.Laws.{kindOf-unknown}
+use Rattle.sheet_format.specs.Writing.{writeNumber}
+use Rattle.sheet_writer.proofs.Frame.{refused-number}
 use Rattle.sheet_writer.proofs.record.write_record.Statement.{statement}
 use Rattle.sheet_writer.proofs.record.write_record.Tie as tie
+
+abbrev heading : tie.Start → Heading
+heading c = record { row = c .args .row }
+
+abbrev context : tie.Start → Context
+context c = contextOf (c .args .table .now) (c .args .state)
+
+state-is : (c : tie.Start) → stateOf (context c) ≡ c .args .state
+state-is c = stateOf-contextOf (c .args .table .now) (c .args .state)
+
+-- a number that is no kind's
+no-kind : (code : ℕ) → (code ≡ 1 → ⊥) → (code ≡ 2 → ⊥) → (code ≡ 3 → ⊥) → (code ≡ 4 → ⊥) → kindOf code ≡ unknown
+no-kind code not-table not-packed not-plain not-line =
+    by-cases (decLt 4 code) (kindOf-unknown code) (λ h. let none : code ≡ 0 = omega arith in ap kindOf none)
 
 write-table-requires : tie.Need-write-table-requires
 write-table-requires c κs = search needs
@@ -29,9 +53,7 @@ returns c =
     let at-write-table = c .before .before in
     let at-match = at-write-table .before .before in
     let at-start = at-match .before .before .before .before in
-    let a = at-start .args in
-    rw (at-match .match .keys1)
-    (at-write-table .write-table .ensures ∙ table-only (a .row) (a .table .now) (a .content .now) (a .state) (a .out .now))
+    rw (at-match .match .keys1) (at-write-table .write-table .ensures (context at-start) (heading at-start) (state-is at-start))
 
 same-length-2 : tie.Need-same-length-2
 same-length-2 c = search needs
@@ -47,9 +69,7 @@ returns-3 c =
     let at-write-plain = c .before .before in
     let at-match = at-write-plain .before .before in
     let at-start = at-match .before .before .before .before in
-    let a = at-start .args in
-    rw (at-match .match .keys3)
-    (at-write-plain .write-plain .ensures ∙ plain-only (a .row) (a .table .now) (a .content .now) (a .state) (a .out .now))
+    rw (at-match .match .keys3) (at-write-plain .write-plain .ensures (context at-start) (state-is at-start))
 
 same-length-4 : tie.Need-same-length-4
 same-length-4 c = search needs
@@ -59,17 +79,17 @@ returns-4 c =
     let at-write-line = c .before .before in
     let at-match = at-write-line .before .before in
     let at-start = at-match .before .before .before .before in
-    let a = at-start .args in
-    rw (at-match .match .keys4)
-    (at-write-line .write-line .ensures ∙ line-only (a .row) (a .table .now) (a .content .now) (a .state) (a .out .now))
+    rw (at-match .match .keys4) (at-write-line .write-line .ensures (context at-start) (heading at-start) (state-is at-start))
 
 returns-5 : tie.Need-returns-5
+unfolding writeNumber
 returns-5 c =
     let at-start = c .before .before .before .before .before in
     let a = at-start .args in
     let none = c .before .match .rest in
-    refused-kind (a .row) (a .table .now) (a .content .now) (a .state) (a .out .now) (a .kind) (none .0 .0 .0 .1) (none .0 .0 .1)
-    (none .0 .1) (none .1) (c .refused .result) (c .refused .ensures)
+    let is = no-kind (a .kind) (none .0 .0 .0 .1) (none .0 .0 .1) (none .0 .1) (none .1) in
+    refused-number (a .kind) (heading at-start) (context at-start) (a .content .now) (a .out .now) (state-is at-start) 15
+    (rw is) (λ e. omega arith) (c .refused .ensures)
 
 pub write-record-spec : {M : Type 1} → statement M
 write-record-spec =

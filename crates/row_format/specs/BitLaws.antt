@@ -8,8 +8,8 @@ use lib.ListN.{length, take, drop, replicate, length-append}
 use lib.Seq.{take-append-add, take-take, length-take-le}
 use lib.Dec.{eqb}
 use borrow.Author.Tests.{eq-eqb, eqb-true}
-use Rattle.bitstream.specs.Bits.{flat, cut, bitsOf, bytesOf, stream, wordsFor, begins}
-use Rattle.bitstream.specs.Bits.Laws.{Below, pad, pad-all, length-cut, length-flat, flat-append, flat-take, flat-cut, cut-flat}
+use Rattle.bitstream.specs.Bits.{flat, cut, bitsOf, bytesOf, stream, wordsFor, begins, Below, pad}
+use Rattle.bitstream.specs.Bits.Laws.{pad-all, length-cut, length-flat, flat-append, flat-take, flat-cut, cut-flat}
 use Rattle.row_format.specs.Lists.Laws.{true-false, and-true-left, and-true-right}
 
 -- ---- pad

@@ -11,8 +11,7 @@ use lib.ListN.{length, take, drop, getD}
 use lib.IntN.{pos, negsuc, _-ℤ_}
 use lib.Signed.{_≤ℤ_}
 use lib.Dec.{ltb, eqb}
-use Rattle.bitstream.specs.Bits.{begins, wordsOf, halvesOf, stream, wordsFor}
-use Rattle.bitstream.specs.Bits.Laws.{Below}
+use Rattle.bitstream.specs.Bits.{begins, wordsOf, halvesOf, stream, wordsFor, Below}
 use Rattle.answer.specs.Outcome.{answerOf, refusal, wrote, lent, Kept, Within}
 use Rattle.row_format.specs.Lists.{any}
 use Rattle.row_format.specs.Table.{lowLimit, tableSize, codewordAt, escapeLength, signed, entryDifference, hasDifference, clash, verdict, tableNumber, Apart, Accepted, maxItemBits}

@@ -1,8 +1,9 @@
 -- Document 01, "A sheet": a kind of record, as its rules. b is a record's body, x the content that the record writer is given.
 -- The kinds stand one by one in Kind/. Assumes nothing.
-use Prim.Native.Nat.{ℕ, _+_}
+use Prim.Native.Nat.{ℕ, _+_, _*_}
 use mathlib.Core.Bool.{Bool, true, false}
 use mathlib.Core.List.{List, [], _∷_, _++_}
+use lib.ListN.{take}
 use Rattle.answer.specs.Outcome.{Lent}
 use Rattle.sheet_format.specs.Context.{Heading, noHeading, Context}
 pub mod Table
@@ -98,3 +99,7 @@ headingKept aTable h = noHeading
 headingKept aRow h = h
 headingKept aLine h = noHeading
 headingKept nothing h = noHeading
+
+-- the content that was given, but for an incomplete pixel or number at its end
+abbrev pub contentGiven : Kind → List ℕ → List ℕ
+contentGiven k x = take (k .each * k .givenCount x) x

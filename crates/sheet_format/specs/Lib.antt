@@ -7,5 +7,6 @@ pub mod Record
 pub mod Reading
 pub mod Writing
 pub mod Sheet
+pub mod Given
 pub mod Theorems
 pub mod Cases

@@ -2,7 +2,7 @@
 -- sheet's bytes from the record's place on, b the record's body, c what the sheet holds so far, m the memory lent, as it was.
 -- Definitions only. Assumes nothing.
 use Prim.Native.Nat.{ℕ, _+_, _*_}
-use mathlib.Core.List.{List}
+use mathlib.Core.List.{List, [], _∷_}
 use lib.ListN.{length}
 use Rattle.bitstream.specs.Bits.{wordsFor}
 use Rattle.answer.specs.Outcome.{Outcome, outcome, writes, unless, nothing, lent}
@@ -48,6 +48,10 @@ unfoldable pub contextAfter : Context → List ℕ → Context
 contextAfter c r = afterBody (kindOf (kindField r)) (bodyOf r) c
 
 -- ---- the calls
+-- the numbers that judging a record may answer; reading it may also answer 5
+abbrev pub judgedNumbers : List ℕ
+judgedNumbers = 0 ∷ 14 ∷ 15 ∷ 16 ∷ 1 ∷ 2 ∷ 3 ∷ 11 ∷ 6 ∷ 7 ∷ 8 ∷ 9 ∷ 10 ∷ 4 ∷ 12 ∷ 13 ∷ []
+
 -- "Every refusal returns 0 for all counts and values"; the state is as given
 abbrev pub refusedRecord : SheetState → ℕ → RecordRead
 refusedRecord st e = record { number = e; kind = 0; row = 0; count = 0; bits = 0; words = 0; length = 0; state = st }

@@ -1,6 +1,7 @@
 -- Document 01, "A sheet is records one after another": the records of a whole sheet up to its end or to the first that is
 -- refused, and what they store. Definitions only. Assumes nothing.
 use Prim.Native.Nat.{ℕ, zero, suc}
+use mathlib.Core.Path.{_≡_}
 use mathlib.Core.List.{List, [], _∷_, map}
 use mathlib.Core.Bool.{cond}
 use lib.ListN.{length, take, drop}
@@ -47,6 +48,13 @@ recordHere c r =
       content = recordContent c r;
       bytes = take (recordJudged c r .length) r;
     }
+
+-- x is a record that was accepted at its place, where the sheet held so much
+pub record ReadFrom (x : SheetRecord) : Type 0 where
+  pub context : Context
+  pub place : List ℕ
+  pub accepted : recordJudged context place .number ≡ 0
+  pub here : x ≡ recordHere context place
 
 -- the bytes after it
 abbrev pub restNext : Context → List ℕ → List ℕ

@@ -3,32 +3,28 @@
 -- the memory lent for writing, as it was. The calls are given tb, the bytes of the sheet's table, and st, a state of two
 -- numbers: contextOf tb st is what these say of c. Assumes nothing.
 use Prim.Native.Nat.{ℕ, _+_, _≤_, _<_}
-use mathlib.Core.Path.{_≡_, refl}
+use mathlib.Core.Path.{_≡_}
 use mathlib.Core.Bool.{true}
 use mathlib.Core.List.{List, [], _∷_, _++_, List·Memᴰ}
 use mathlib.Core.Logic.{_↔_}
 use lib.ListN.{length, take, drop, getD}
-use lib.Dec.{ltb, eqb}
-use Rattle.bitstream.specs.Bits.{halvesOf}
-use Rattle.bitstream.specs.Bits.Laws.{Below}
-use Rattle.answer.specs.Outcome.{writes, nothing, lent, Kept, Within}
-use Rattle.answer.specs.Outcome.Laws.{refuseIf-in}
+use lib.Dec.{eqb}
+use Rattle.bitstream.specs.Bits.{halvesOf, Below}
+use Rattle.answer.specs.Outcome.{writes, Kept, Within}
 use Rattle.row_format.specs.Lists.{any}
 use Rattle.row_format.specs.Table.{tableNumber}
 use Rattle.sheet_format.specs.declared.SheetState.{SheetState}
 use Rattle.sheet_format.specs.Context.{Heading, Context, newSheet, stateOf, contextOf}
 use Rattle.sheet_format.specs.Context.Laws.{stateOf-contextOf}
-use Rattle.sheet_format.specs.Kind.{aRow, tableKept}
-use Rattle.sheet_format.specs.Kind.Lawful.{contentGiven}
+use Rattle.sheet_format.specs.Kind.{aRow, tableKept, contentGiven}
 use Rattle.sheet_format.specs.Kinds.{kindOf}
 use Rattle.sheet_format.specs.Record.{lengthField, kindField, bodyOf, lengthNumber, recordSpan}
-use Rattle.sheet_format.specs.Reading.{answerBytes, contextAfter, recordContent, refusedRecord, recordJudged, recordRead}
-use Rattle.sheet_format.specs.Reading.Laws.{judged-length, recordJudged-number, recordRead-number}
-use Rattle.sheet_format.specs.Writing.{notWritten, recordFor, recordWritten}
-use Rattle.sheet_format.specs.Writing.Laws.{Writable, recordWritten-number}
-use Rattle.sheet_format.specs.Sheet.{SheetRecord, endsWith, putFirst, recordHere, restNext, records, sheetRead, recordHolds, storedRows, present, heightsOf, recordKinds, rowNumbers}
+use Rattle.sheet_format.specs.Reading.{answerBytes, contextAfter, recordContent, judgedNumbers, refusedRecord, recordJudged, recordRead}
+use Rattle.sheet_format.specs.Reading.Laws.{judged-length}
+use Rattle.sheet_format.specs.Writing.{notWritten, recordFor, recordWritten, Writable}
+use Rattle.sheet_format.specs.Sheet.{SheetRecord, ReadFrom, endsWith, putFirst, recordHere, restNext, records, sheetRead, recordHolds, storedRows, present, heightsOf, recordKinds, rowNumbers}
 use Rattle.sheet_format.specs.Sheet.Laws.{records-end, records-refused, records-more}
-use Given.{recordGiven, Write, AllDone, sheetBytes, sheetGiven}
+use Rattle.sheet_format.specs.Given.{recordGiven, Write, AllDone, sheetBytes, sheetGiven}
 use Written.{read-written, judged-written, table-written, length-written, granted-written, full-written}
 use Memory.{recordJudged-refused, recordRead-kept, recordWritten-kept, recordWritten-within}
 use Locality.{record-alike, span-alike}
@@ -36,10 +32,9 @@ use Room.{recordRead-judged, recordRead-granted, recordRead-full, recordRead-wit
 use Rising.{sheetRead-rising}
 use TableFirst.{table-accepted, sheetRead-table-first}
 use Sheets.{sheetRead-written}
-use Numbers.{recordNumber-in, writeNumber-in}
+use Numbers.{recordJudged-numbers, recordRead-numbers, recordWritten-numbers}
 use State.{contextAfter-kept}
-use Stored.{ReadFrom, stored-heights, stored-read, sheetRead-read}
-pub mod Given
+use Stored.{stored-heights, stored-read, sheetRead-read}
 pub mod ReadBack
 pub mod Written
 pub mod Memory
@@ -179,32 +174,15 @@ module _ (code : ℕ) (h : Heading) (c : Context) (x m : List ℕ) (ok : Writabl
 
 -- ---- demand 1
 -- "each call .. answers with a number from document 01", and its order lists which; judging never gives 5
-abbrev pub judgedNumbers : List ℕ
-judgedNumbers = 0 ∷ 14 ∷ 15 ∷ 16 ∷ 1 ∷ 2 ∷ 3 ∷ 11 ∷ 6 ∷ 7 ∷ 8 ∷ 9 ∷ 10 ∷ 4 ∷ 12 ∷ 13 ∷ []
-
 pub judged-numbers : (c : Context) (r : List ℕ) → any (eqb (recordJudged c r .number)) judgedNumbers ≡ true
-unfolding any
-judged-numbers c r =
-    let known : ℕ → Type 0 = λ e. any (eqb e) judgedNumbers ≡ true in
-    rw (recordJudged-number c r) (recordNumber-in known
-    (record { p0 = refl; p1 = refl; p2 = refl; p3 = refl; p4 = refl; p6 = refl; p7 = refl; p8 = refl; p9 = refl; p10 = refl; p11 = refl; p12 = refl; p13 = refl; p14 = refl })
-    refl refl nothing (λ n. refl) c r)
+judged-numbers = recordJudged-numbers
 
 pub read-numbers : (c : Context) (r m : List ℕ) → any (eqb (recordRead c r m .answer .number)) (5 ∷ judgedNumbers) ≡ true
-unfolding any
-read-numbers c r m =
-    let known : ℕ → Type 0 = λ e. any (eqb e) (5 ∷ judgedNumbers) ≡ true in
-    rw (recordRead-number c r m) (recordNumber-in known
-    (record { p0 = refl; p1 = refl; p2 = refl; p3 = refl; p4 = refl; p6 = refl; p7 = refl; p8 = refl; p9 = refl; p10 = refl; p11 = refl; p12 = refl; p13 = refl; p14 = refl })
-    refl refl (lent (length m)) (λ n. refuseIf-in known (ltb (length m) n) 5 refl refl) c r)
+read-numbers = recordRead-numbers
 
 pub written-numbers : (code : ℕ) (h : Heading) (c : Context) (x m : List ℕ)
     → any (eqb (recordWritten code h c x m .answer .number)) (0 ∷ 15 ∷ 16 ∷ 1 ∷ 2 ∷ 3 ∷ 11 ∷ 4 ∷ 5 ∷ []) ≡ true
-unfolding any
-written-numbers code h c x m =
-    let known : ℕ → Type 0 = λ e. any (eqb e) (0 ∷ 15 ∷ 16 ∷ 1 ∷ 2 ∷ 3 ∷ 11 ∷ 4 ∷ 5 ∷ []) ≡ true in
-    rw (recordWritten-number code h c x m)
-    (writeNumber-in known (record { p0 = refl; p1 = refl; p2 = refl; p3 = refl; p4 = refl; p11 = refl }) refl refl refl code h c x (length m))
+written-numbers = recordWritten-numbers
 
 -- "A refused call gives its number, zero for every count and value, and leaves the lent memory as found"; the state as given
 pub judged-refused-keeps : (c : Context) (r : List ℕ) → (recordJudged c r .number ≡ 0 → ⊥)

@@ -2,6 +2,7 @@
 -- the sheet holds so far": what it answers, the memory lent for the record included. x is the content, h the heading and c
 -- what the sheet holds so far. Definitions only. Assumes nothing.
 use Prim.Native.Nat.{ℕ, _+_}
+use mathlib.Core.Path.{_≡_}
 use mathlib.Core.List.{List, _++_}
 use lib.ListN.{length}
 use lib.Dec.{ltb}
@@ -29,6 +30,12 @@ writeNumber code h c x roomBytes =
     orElse kindOf code .place c h
     orElse kindOf code .given h c x
     orElse refuseIf (ltb roomBytes (length (recordFor code h c x))) 5
+
+-- what is asked before room
+pub record Writable (code : ℕ) (h : Heading) (c : Context) (x : List ℕ) : Type 0 where
+  pub writable : kindOf code .writable ≡ 0
+  pub place : kindOf code .place c h ≡ 0
+  pub given : kindOf code .given h c x ≡ 0
 
 -- ---- the call
 -- a refusal has 0 for the count, and the state as given

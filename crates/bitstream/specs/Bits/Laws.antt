@@ -9,8 +9,7 @@ use lib.Seq.{take-nil, drop-nil, take-append-add, drop-append-add, take-at, drop
 use lib.Arith.{digits-lt, digits-div, mod-mul}
 use lib.Bits.{block-half, block-odd}
 use lib.Pow.{shr-shr, pow-pos, pow-add, pow-mono}
-use Rattle.bitstream.specs.Bits.{digits, numOf, flat, cut}
-pub use Rattle.bitstream.specs.Bits.{Below, pad}
+use Rattle.bitstream.specs.Bits.{digits, numOf, flat, cut, Below, pad}
 
 pub below-nil : {k : ℕ} → 0 < k → Below k []
 below-nil h = record { below = λ i. h }

@@ -8,8 +8,8 @@ use lib.ListN.{length, take}
 use lib.Seq.{take-at}
 use lib.Dec.{ltb}
 use borrow.Author.Tests.{ltb-false}
-use Rattle.bitstream.specs.Bits.{flat, bytesOf, wordsOf, halvesOf, stream}
-use Rattle.bitstream.specs.Bits.Laws.{Below, below-nil, below-cons, below-flat, length-cut}
+use Rattle.bitstream.specs.Bits.{flat, bytesOf, wordsOf, halvesOf, stream, Below}
+use Rattle.bitstream.specs.Bits.Laws.{below-nil, below-cons, below-flat, length-cut}
 use Rattle.answer.specs.Outcome.{wrote, unless, Lent, lent, roomNumber}
 use Rattle.row_format.specs.Lists.{any}
 use Rattle.row_format.specs.Lists.Laws.{by-test, any-false-head, any-false-tail}

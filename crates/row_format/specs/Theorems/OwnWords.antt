@@ -10,8 +10,8 @@ use lib.ListN.{length, take, drop, replicate, length-drop, length-append}
 use lib.Seq.{length-take-le, take-append-add}
 use lib.Dec.{eqb}
 use borrow.Author.Tests.{eqb-false}
-use Rattle.bitstream.specs.Bits.{flat, bitsOf, bytesOf, wordsOf, stream, wordsFor}
-use Rattle.bitstream.specs.Bits.Laws.{Below, below-head, below-tail, below-take, below-drop, below-flat, below-cut, length-cut}
+use Rattle.bitstream.specs.Bits.{flat, bitsOf, bytesOf, wordsOf, stream, wordsFor, Below}
+use Rattle.bitstream.specs.Bits.Laws.{below-head, below-tail, below-take, below-drop, below-flat, below-cut, length-cut}
 use Rattle.row_format.specs.Lists.{any}
 use Rattle.row_format.specs.Lists.Laws.{any-false-head, any-false-tail}
 use Rattle.row_format.specs.BitLaws.{bitsOf-inj, bitsOf-bytesOf, stream-take, length-stream}

@@ -8,8 +8,7 @@ use lib.ListN.{length, take, drop, replicate, length-append}
 use lib.Seq.{drop-append-seam}
 use lib.Dec.{ltb}
 use borrow.Author.Tests.{ltb-false}
-use Rattle.bitstream.specs.Bits.{wordsOf, halvesOf, stream, wordsFor}
-use Rattle.bitstream.specs.Bits.Laws.{Below}
+use Rattle.bitstream.specs.Bits.{wordsOf, halvesOf, stream, wordsFor, Below}
 use Rattle.answer.specs.Outcome.{wrote, Lent, lent}
 use Rattle.row_format.specs.Lists.{any}
 use Rattle.row_format.specs.Lists.Laws.{any-false-head, any-false-tail}

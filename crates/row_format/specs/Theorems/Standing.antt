@@ -7,8 +7,8 @@ use mathlib.Core.List.{List, _++_, append-assoc}
 use lib.ListN.{length, take, drop, length-append, length-drop, take-append-drop}
 use lib.Seq.{drop-drop, length-take-le}
 use lib.Dec.{ltb}
-use Rattle.bitstream.specs.Bits.{digits, numOf, begins}
-use Rattle.bitstream.specs.Bits.Laws.{Below, below-take, below-drop, length-digits, digits-numOf}
+use Rattle.bitstream.specs.Bits.{digits, numOf, begins, Below}
+use Rattle.bitstream.specs.Bits.Laws.{below-take, below-drop, length-digits, digits-numOf}
 use Rattle.row_format.specs.Lists.{any}
 use Rattle.row_format.specs.BitLaws.{begins-drop}
 use Rattle.row_format.specs.Table.{entryDifference, codewords, codewordAt, Accepted}

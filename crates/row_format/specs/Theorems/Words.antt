@@ -8,8 +8,8 @@ use mathlib.Core.List.{List, [], _∷_, _++_}
 use lib.ListN.{length, take, getD, replicate, length-replicate}
 use lib.Seq.{drop-append-seam, take-at, take-all, length-take-le}
 use lib.Dec.{eqb}
-use Rattle.bitstream.specs.Bits.{digits, flat, bitsOf, bytesOf, halvesOf, wordsFor}
-use Rattle.bitstream.specs.Bits.Laws.{Below, below-nil, below-append, below-take, below-digits, below-flat, length-flat, length-cut, flat-take, flat-cut}
+use Rattle.bitstream.specs.Bits.{digits, flat, bitsOf, bytesOf, halvesOf, wordsFor, Below}
+use Rattle.bitstream.specs.Bits.Laws.{below-nil, below-append, below-take, below-digits, below-flat, length-flat, length-cut, flat-take, flat-cut}
 use Rattle.row_format.specs.Lists.{any}
 use Rattle.row_format.specs.BitLaws.{pad-within, cut-flat-all}
 use Rattle.row_format.specs.Table.{lowLimit, codeword, codewordAt}

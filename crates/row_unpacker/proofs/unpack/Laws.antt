@@ -11,8 +11,8 @@ use borrow.Author.Tests.{ne-eqb, lt-ltb, le-ltb}
 use Rattle.answer.specs.declared.Answer.{Answer}
 use Rattle.answer.specs.Outcome.{Outcome, answerOf, outcome, refused, lent}
 use Rattle.answer.specs.Outcome.Laws.{unless-first}
-use Rattle.bitstream.specs.Bits.{numOf, flat, wordsOf, stream, wordsFor}
-use Rattle.bitstream.specs.Bits.Laws.{Below, below-head, below-tail, below-take, length-cut}
+use Rattle.bitstream.specs.Bits.{numOf, flat, wordsOf, stream, wordsFor, Below}
+use Rattle.bitstream.specs.Bits.Laws.{below-head, below-tail, below-take, length-cut}
 use Rattle.row_format.specs.Lists.{any}
 use Rattle.row_format.specs.Table.{tableNumber}
 use Rattle.row_format.specs.Row.{fresh, pixelsOf}

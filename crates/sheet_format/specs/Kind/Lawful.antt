@@ -2,12 +2,12 @@
 use Prim.Native.Nat.{ℕ, _*_, _≤_, _<_}
 use mathlib.Core.Path.{_≡_}
 use mathlib.Core.List.{List}
-use lib.ListN.{length, take}
-use Rattle.bitstream.specs.Bits.Laws.{Below}
+use lib.ListN.{length}
+use Rattle.bitstream.specs.Bits.{Below}
 use Rattle.answer.specs.Outcome.{_orElse_, Lent, lent, roomNumber}
 use Rattle.answer.specs.Outcome as answers
 use Rattle.sheet_format.specs.Context.{Heading, Context}
-use Rattle.sheet_format.specs.Kind.{Kind, aTable, aRow, afterRecord, headingKept}
+use Rattle.sheet_format.specs.Kind.{Kind, aTable, aRow, afterRecord, headingKept, contentGiven}
 
 -- the numbers that document 01 lists for a record's body and for what the writer is given
 pub record Listed (P : ℕ → Type 0) : Type 0 where
@@ -26,6 +26,25 @@ pub record Listed (P : ℕ → Type 0) : Type 0 where
   pub p13 : P 13
   pub p14 : P 14
 
+-- what holds of such numbers, and whatever follows from it
+pub listed-in : {P Q : ℕ → Type 0} → ((e : ℕ) → P e → Q e) → Listed P → Listed Q
+listed-in f l = record {
+  p0 = f 0 (l .p0);
+  p1 = f 1 (l .p1);
+  p2 = f 2 (l .p2);
+  p3 = f 3 (l .p3);
+  p4 = f 4 (l .p4);
+  p6 = f 6 (l .p6);
+  p7 = f 7 (l .p7);
+  p8 = f 8 (l .p8);
+  p9 = f 9 (l .p9);
+  p10 = f 10 (l .p10);
+  p11 = f 11 (l .p11);
+  p12 = f 12 (l .p12);
+  p13 = f 13 (l .p13);
+  p14 = f 14 (l .p14);
+}
+
 pub record ListedGiven (P : ℕ → Type 0) : Type 0 where
   pub p0 : P 0
   pub p1 : P 1
@@ -33,10 +52,6 @@ pub record ListedGiven (P : ℕ → Type 0) : Type 0 where
   pub p3 : P 3
   pub p4 : P 4
   pub p11 : P 11
-
--- the content that was given, but for an incomplete pixel or number at its end
-abbrev pub contentGiven : Kind → List ℕ → List ℕ
-contentGiven k x = take (k .each * k .givenCount x) x
 
 -- what reading the body b finds, where it was written for the heading h and the content x
 pub record Back (k : Kind) (h : Heading) (c : Context) (x b : List ℕ) : Type 0 where

@@ -12,8 +12,8 @@ use lib.Seq.{drop-append-seam, length-take-le}
 use lib.IntN.{ℤ, pos, negsuc}
 use lib.Signed.{mag}
 use borrow.Author.Tests.{lt-ltb, le-ltb, le-leb}
-use Rattle.bitstream.specs.Bits.{flat, bitsOf, bytesOf, wordsOf}
-use Rattle.bitstream.specs.Bits.Laws.{Below, below-head, below-tail, below-take, below-flat, length-flat, length-cut, flat-take, flat-cut}
+use Rattle.bitstream.specs.Bits.{flat, bitsOf, bytesOf, wordsOf, Below}
+use Rattle.bitstream.specs.Bits.Laws.{below-head, below-tail, below-take, below-flat, length-flat, length-cut, flat-take, flat-cut}
 use Rattle.row_format.specs.BitLaws.{pad-within, cut-flat-all}
 use Rattle.adaptive.specs.Number.{Reading, accepted, rejected, signed, readAs, shortest}
 use Rattle.adaptive.specs.Number.Lawful.{signed-lawful, signed-range}

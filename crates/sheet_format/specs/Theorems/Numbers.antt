@@ -1,17 +1,24 @@
 -- The record calls answer a number from document 01, and only those that it lists for the call. Each law is over any property
 -- P that these numbers have. Assumes nothing.
 use Prim.Native.Nat.{ℕ, _+_}
-use mathlib.Core.List.{List}
+use mathlib.Core.Path.{_≡_, refl}
+use mathlib.Core.Bool.{true}
+use mathlib.Core.List.{List, [], _∷_}
 use lib.ListN.{length}
-use lib.Dec.{ltb}
-use Rattle.answer.specs.Outcome.{refuseIf, Lent, roomNumber}
+use lib.Dec.{ltb, eqb}
+use Rattle.answer.specs.Outcome.{refuseIf, Lent, nothing, lent, roomNumber}
 use Rattle.answer.specs.Outcome.Laws.{refuseIf-in, orElse-in}
+use Rattle.row_format.specs.Lists.{any}
+use Rattle.row_format.specs.Lists.Laws.{by-test}
 use Rattle.sheet_format.specs.Context.{Heading, Context}
-use Rattle.sheet_format.specs.Kind.Lawful.{Listed, ListedGiven}
+use Rattle.sheet_format.specs.Kind.Lawful.{Listed, ListedGiven, listed-in}
 use Rattle.sheet_format.specs.Kinds.{kindOf}
 use Rattle.sheet_format.specs.Kinds.Laws.{lawful}
 use Rattle.sheet_format.specs.Record.{lengthField, kindField, bodyOf, lengthNumber, contentNumber, recordNumber}
-use Rattle.sheet_format.specs.Writing.{recordFor, writeNumber}
+use Rattle.sheet_format.specs.Reading.{judgedNumbers, recordJudged, recordRead}
+use Rattle.sheet_format.specs.Reading.Laws.{recordJudged-number, recordRead-number}
+use Rattle.sheet_format.specs.Writing.{recordFor, writeNumber, recordWritten}
+use Rattle.sheet_format.specs.Writing.Laws.{recordWritten-number}
 
 module _ (P : ℕ → Type 0) where
   lengthNumber-in : P 0 → P 14 → (r : List ℕ) → P (lengthNumber r)
@@ -22,7 +29,7 @@ module _ (P : ℕ → Type 0) where
       (orElse-in P (refuseIf (ltb 32774 (lengthField r)) 14) _ (refuseIf-in P (ltb 32774 (lengthField r)) 14 p0 p14)
       (refuseIf-in P (ltb (length r) (4 + lengthField r)) 14 p0 p14)))
 
-  pub recordNumber-in : Listed P → P 15 → P 16 → (m : Lent) → ((n : ℕ) → P (roomNumber m n)) → (c : Context) (r : List ℕ)
+  recordNumber-in : Listed P → P 15 → P 16 → (m : Lent) → ((n : ℕ) → P (roomNumber m n)) → (c : Context) (r : List ℕ)
       → P (recordNumber m c r)
   unfolding recordNumber contentNumber
   recordNumber-in l p15 p16 m room c r =
@@ -35,7 +42,7 @@ module _ (P : ℕ → Type 0) where
       (orElse-in P (k .place c (k .heading b)) _ (L .place-in P (l .p0) p16 c (k .heading b))
       (L .own-in P l m room c b))))
 
-  pub writeNumber-in : ListedGiven P → P 15 → P 16 → P 5 → (code : ℕ) (h : Heading) (c : Context) (x : List ℕ) (roomBytes : ℕ)
+  writeNumber-in : ListedGiven P → P 15 → P 16 → P 5 → (code : ℕ) (h : Heading) (c : Context) (x : List ℕ) (roomBytes : ℕ)
       → P (writeNumber code h c x roomBytes)
   unfolding writeNumber
   writeNumber-in l p15 p16 p5 code h c x roomBytes =
@@ -45,3 +52,53 @@ module _ (P : ℕ → Type 0) where
       (orElse-in P (k .place c h) _ (L .place-in P (l .p0) p16 c h)
       (orElse-in P (k .given h c x) _ (L .given-in P l h c x)
       (refuseIf-in P (ltb roomBytes (length (recordFor code h c x))) 5 (l .p0) p5)))
+
+-- ---- the calls' own: that a number is among those listed is computed
+abbrev Among : List ℕ → ℕ → Type 0
+Among ns e = any (eqb e) ns ≡ true
+
+judged-listed : Listed (Among judgedNumbers)
+unfolding any
+judged-listed = record {
+  p0 = refl;
+  p1 = refl;
+  p2 = refl;
+  p3 = refl;
+  p4 = refl;
+  p6 = refl;
+  p7 = refl;
+  p8 = refl;
+  p9 = refl;
+  p10 = refl;
+  p11 = refl;
+  p12 = refl;
+  p13 = refl;
+  p14 = refl;
+}
+
+among-later : (n : ℕ) (ns : List ℕ) (e : ℕ) → Among ns e → Among (n ∷ ns) e
+unfolding any
+among-later n ns e h = by-test (eqb e n) (λ t. rw t) (λ t. rw t h)
+
+pub recordJudged-numbers : (c : Context) (r : List ℕ) → Among judgedNumbers (recordJudged c r .number)
+unfolding any
+recordJudged-numbers c r =
+    rw (recordJudged-number c r) (recordNumber-in (Among judgedNumbers) judged-listed refl refl nothing (λ n. refl) c r)
+
+-- with memory lent it is 5, or what judging may answer
+pub recordRead-numbers : (c : Context) (r m : List ℕ) → Among (5 ∷ judgedNumbers) (recordRead c r m .answer .number)
+unfolding any
+recordRead-numbers c r m =
+    let P : ℕ → Type 0 = Among (5 ∷ judgedNumbers) in
+    let later : (e : ℕ) → Among judgedNumbers e → P e = among-later 5 judgedNumbers in
+    rw (recordRead-number c r m)
+    (recordNumber-in P (listed-in later judged-listed) refl refl (lent (length m))
+    (λ n. refuseIf-in P (ltb (length m) n) 5 refl refl) c r)
+
+pub recordWritten-numbers : (code : ℕ) (h : Heading) (c : Context) (x m : List ℕ)
+    → Among (0 ∷ 15 ∷ 16 ∷ 1 ∷ 2 ∷ 3 ∷ 11 ∷ 4 ∷ 5 ∷ []) (recordWritten code h c x m .answer .number)
+unfolding any
+recordWritten-numbers code h c x m =
+    let P : ℕ → Type 0 = Among (0 ∷ 15 ∷ 16 ∷ 1 ∷ 2 ∷ 3 ∷ 11 ∷ 4 ∷ 5 ∷ []) in
+    let given : ListedGiven P = record { p0 = refl; p1 = refl; p2 = refl; p3 = refl; p4 = refl; p11 = refl } in
+    rw (recordWritten-number code h c x m) (writeNumber-in P given refl refl refl code h c x (length m))

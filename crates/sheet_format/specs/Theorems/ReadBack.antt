@@ -5,21 +5,21 @@ use mathlib.Core.Path.{_≡_, refl, ap, _∙_}
 use mathlib.Core.List.{List, _++_}
 use lib.ListN.{length}
 use lib.Seq.{length-take-le}
-use Rattle.bitstream.specs.Bits.Laws.{Below}
+use Rattle.bitstream.specs.Bits.{Below}
 use Rattle.answer.specs.Outcome.{writes, Lent, nothing, lent, roomNumber}
 use Rattle.answer.specs.Outcome.Laws.{lessNumber-none}
 use Rattle.sheet_format.specs.Context.{Heading, Context, stateOf}
-use Rattle.sheet_format.specs.Kind.{Kind, afterRecord}
-use Rattle.sheet_format.specs.Kind.Lawful.{contentGiven, Back}
+use Rattle.sheet_format.specs.Kind.{Kind, afterRecord, contentGiven}
+use Rattle.sheet_format.specs.Kind.Lawful.{Back}
 use Rattle.sheet_format.specs.Kinds.{kindOf}
 use Rattle.sheet_format.specs.Kinds.Laws.{lawful, kindOf-known}
 use Rattle.sheet_format.specs.Record.{recordNumber}
 use Rattle.sheet_format.specs.Record.Laws.{contentNumber-passed}
 use Rattle.sheet_format.specs.Reading.{recordHeld, recordContent, contextAfter, recordJudged, recordRead}
 use Rattle.sheet_format.specs.Reading.Laws.{recordContent-of, contextAfter-of}
-use Rattle.sheet_format.specs.Writing.{recordFor, recordDone}
-use Rattle.sheet_format.specs.Writing.Laws.{Fields, fields-recordBytes, length-recordBytes, Writable}
-use Rattle.sheet_format.specs.Theorems.Given.{recordGiven}
+use Rattle.sheet_format.specs.Writing.{recordFor, recordDone, Writable}
+use Rattle.sheet_format.specs.Writing.Laws.{Fields, fields-recordBytes, length-recordBytes}
+use Rattle.sheet_format.specs.Given.{recordGiven}
 
 module _ (code : ℕ) (h : Heading) (c : Context) (x : List ℕ) (small : h .row < 65536) (bytes : Below 256 x)
     (w : Writable code h c x) (rest : List ℕ) where

@@ -11,11 +11,11 @@ use Rattle.sheet_format.specs.declared.RecordWritten.{RecordWritten}
 use Rattle.sheet_format.specs.Context.{Context, newSheet}
 use Rattle.sheet_format.specs.Kinds.{kindOf}
 use Rattle.sheet_format.specs.Reading.{contextAfter, recordContent, recordJudged}
-use Rattle.sheet_format.specs.Writing.{writeNumber, recordFor, recordDone}
-use Rattle.sheet_format.specs.Writing.Laws.{length-recordBytes, Writable, writable, recordWritten-number, recordWritten-done, recordWritten-front}
+use Rattle.sheet_format.specs.Writing.{writeNumber, recordFor, recordDone, Writable}
+use Rattle.sheet_format.specs.Writing.Laws.{length-recordBytes, writable, recordWritten-number, recordWritten-done, recordWritten-front}
 use Rattle.sheet_format.specs.Sheet.{SheetRead, putFirst, recordHere, restNext, records, sheetRead}
 use Rattle.sheet_format.specs.Sheet.Laws.{records-end, records-more}
-use Rattle.sheet_format.specs.Theorems.Given.{recordGiven, givenBy, Write, writtenBy, contextWritten, bytesWritten, Done, AllDone, sheetBytes, sheetGiven}
+use Rattle.sheet_format.specs.Given.{recordGiven, givenBy, Write, writtenBy, contextWritten, bytesWritten, Done, AllDone, sheetBytes, sheetGiven}
 use Rattle.sheet_format.specs.Theorems.ReadBack.{recordJudged-back, recordContent-back, contextAfter-back}
 
 -- the same of bytes that are not written out as a first byte and the rest

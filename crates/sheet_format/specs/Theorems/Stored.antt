@@ -11,7 +11,7 @@ use Rattle.bitstream.specs.Bits.{halvesOf}
 use Rattle.sheet_format.specs.Context.{Context, newSheet}
 use Rattle.sheet_format.specs.Kind.{Holds, aTable, aRow, aLine, nothing}
 use Rattle.sheet_format.specs.Reading.{answerBytes, recordJudged, recordRead}
-use Rattle.sheet_format.specs.Sheet.{SheetRecord, recordHere, recordHolds, recordsFrom, sheetRead, StoredRow, rowOf, withRow, storedRows, Heights, present, heightsOf}
+use Rattle.sheet_format.specs.Sheet.{SheetRecord, ReadFrom, recordHere, recordHolds, recordsFrom, sheetRead, StoredRow, rowOf, withRow, storedRows, Heights, present, heightsOf}
 use Rattle.sheet_format.specs.Sheet.Laws.{recordsFrom-all}
 use Rattle.sheet_format.specs.Theorems.Rising.{Rising, sheetRead-rows}
 use Rattle.sheet_format.specs.Theorems.Room.{recordRead-granted}
@@ -62,13 +62,7 @@ stored-heights s x m row =
     let rows = storedRows (sheetRead s .records) in
     heightsOf-member 0 (rowOf x) rows (sheetRead-rows s) (storedRows-member x (sheetRead s .records) m row)
 
--- ---- a record of a sheet is one that was accepted at its place, where the sheet held so much
-pub record ReadFrom (x : SheetRecord) : Type 0 where
-  pub context : Context
-  pub place : List ℕ
-  pub accepted : recordJudged context place .number ≡ 0
-  pub here : x ≡ recordHere context place
-
+-- ---- a record of a sheet is one that was accepted at its place
 recordsFrom-read : (n : ℕ) (c : Context) (r : List ℕ) (x : SheetRecord) → List·Memᴰ x (recordsFrom n c r .records) → ReadFrom x
 recordsFrom-read =
     recordsFrom-all (λ c s. (x : SheetRecord) → List·Memᴰ x (s .records) → ReadFrom x)

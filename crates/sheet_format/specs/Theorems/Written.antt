@@ -4,19 +4,19 @@ use native.Mathlib.Omega.{arith}
 use mathlib.Core.Path.{_≡_, sym, ap, _∙_}
 use mathlib.Core.List.{List, [], _++_}
 use lib.ListN.{length, take, drop}
-use Rattle.bitstream.specs.Bits.Laws.{Below}
+use Rattle.bitstream.specs.Bits.{Below}
 use Rattle.answer.specs.Outcome.{Outcome, writes}
 use Rattle.answer.specs.Outcome.Laws.{lessNumber-none, lessNumber-given}
 use Rattle.sheet_format.specs.declared.RecordRead.{RecordRead}
 use Rattle.sheet_format.specs.declared.RecordWritten.{RecordWritten}
 use Rattle.sheet_format.specs.Context.{Heading, Context}
-use Rattle.sheet_format.specs.Kind.Lawful.{contentGiven}
+use Rattle.sheet_format.specs.Kind.{contentGiven}
 use Rattle.sheet_format.specs.Kinds.{kindOf}
 use Rattle.sheet_format.specs.Reading.{recordJudged, recordRead}
 use Rattle.sheet_format.specs.Reading.Laws.{judged-length}
-use Rattle.sheet_format.specs.Writing.{writeNumber, recordDone, recordFor, recordWritten}
-use Rattle.sheet_format.specs.Writing.Laws.{recordWritten-number, recordWritten-done, recordWritten-front, recordBytes-table, Writable, writable, writeNumber-writable}
-use Rattle.sheet_format.specs.Theorems.Given.{recordGiven}
+use Rattle.sheet_format.specs.Writing.{writeNumber, recordDone, recordFor, recordWritten, Writable}
+use Rattle.sheet_format.specs.Writing.Laws.{recordWritten-number, recordWritten-done, recordWritten-front, recordBytes-table, writable, writeNumber-writable}
+use Rattle.sheet_format.specs.Given.{recordGiven}
 use Rattle.sheet_format.specs.Theorems.ReadBack.{recordRead-back, recordJudged-back}
 
 module _ (code : ℕ) (h : Heading) (c : Context) (x m : List ℕ) (small : h .row < 65536) (bytes : Below 256 x)

@@ -15,7 +15,7 @@ use Rattle.sheet_format.specs.Fields.{twoBytes, fourBytes}
 use Rattle.sheet_format.specs.Fields.Laws.{numberOf-twoBytes, numberOf-fourBytes, length-twoBytes, length-fourBytes, take-twoBytes, drop-twoBytes}
 use Rattle.sheet_format.specs.Kinds.{kindOf}
 use Rattle.sheet_format.specs.Record.{lengthField, kindField, bodyOf, lengthNumber}
-use Rattle.sheet_format.specs.Writing.{recordBytes, recordFor, writeNumber, notWritten, recordDone, recordWritten}
+use Rattle.sheet_format.specs.Writing.{recordBytes, recordFor, writeNumber, Writable, notWritten, recordDone, recordWritten}
 
 pub length-recordBytes : (code : ℕ) (b : List ℕ) → length (recordBytes code b) ≡ 6 + length b
 unfolding recordBytes
@@ -90,11 +90,6 @@ recordBytes-table code h c x one =
     ∙ ap (λ (k : ℕ). kindOf k .body h c x) one
 
 -- ---- what a done write passed
-pub record Writable (code : ℕ) (h : Heading) (c : Context) (x : List ℕ) : Type 0 where
-  pub writable : kindOf code .writable ≡ 0
-  pub place : kindOf code .place c h ≡ 0
-  pub given : kindOf code .given h c x ≡ 0
-
 module _ (code : ℕ) (h : Heading) (c : Context) (x : List ℕ) where
   pub writable : (room : ℕ) → writeNumber code h c x room ≡ 0 → Writable code h c x
   unfolding writeNumber

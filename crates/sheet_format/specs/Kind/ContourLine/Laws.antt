@@ -8,8 +8,8 @@ use lib.ListN.{length, take, drop, length-append, length-map}
 use lib.Seq.{length-take-le}
 use lib.Dec.{ltb, leb}
 use lib.IntN.{ℤ}
-use Rattle.bitstream.specs.Bits.{flat, bitsOf, wordsOf}
-use Rattle.bitstream.specs.Bits.Laws.{Below, below-flat, below-cut, length-cut}
+use Rattle.bitstream.specs.Bits.{flat, bitsOf, wordsOf, Below}
+use Rattle.bitstream.specs.Bits.Laws.{below-flat, below-cut, length-cut}
 use Rattle.answer.specs.Outcome.{_orElse_, refuseIf, Lent, nothing, roomNumber}
 use Rattle.answer.specs.Outcome.Laws.{lessNumber-none, lessNumber-zero, refuseIf-in, orElse-in, orElse-none, orElse-zero-left, orElse-zero-right}
 use Rattle.row_format.specs.Lists.Laws.{by-test}

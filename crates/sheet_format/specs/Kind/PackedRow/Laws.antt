@@ -7,8 +7,8 @@ use mathlib.Core.Bool.{not, false}
 use mathlib.Core.List.{List, [], append-nil}
 use lib.ListN.{length, take}
 use lib.Dec.{ltb, eqb}
-use Rattle.bitstream.specs.Bits.{flat, wordsOf, stream, wordsFor}
-use Rattle.bitstream.specs.Bits.Laws.{Below, length-cut}
+use Rattle.bitstream.specs.Bits.{flat, wordsOf, stream, wordsFor, Below}
+use Rattle.bitstream.specs.Bits.Laws.{length-cut}
 use Rattle.answer.specs.Outcome.{_orElse_, unless, Lent, nothing, roomNumber}
 use Rattle.answer.specs.Outcome.Laws.{lessNumber-none, unequalNumber-none, refuseIf-zero, refuseIf-in, orElse-in, orElse-assoc, orElse-zero-left, orElse-zero-right}
 use Rattle.row_format.specs.Lists.{any}

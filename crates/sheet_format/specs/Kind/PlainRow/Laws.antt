@@ -6,8 +6,7 @@ use mathlib.Core.Bool.{not, false}
 use mathlib.Core.List.{List}
 use lib.ListN.{length, take}
 use lib.Dec.{ltb, eqb}
-use Rattle.bitstream.specs.Bits.{halvesOf}
-use Rattle.bitstream.specs.Bits.Laws.{Below}
+use Rattle.bitstream.specs.Bits.{halvesOf, Below}
 use Rattle.answer.specs.Outcome.{_orElse_, refuseIf, Lent, nothing, roomNumber}
 use Rattle.answer.specs.Outcome.Laws.{lessNumber-none, unequalNumber-none, unequalNumber-zero, refuseIf-zero, refuseIf-in, orElse-in, orElse-none, orElse-zero-left, orElse-zero-right}
 use Rattle.row_format.specs.Lists.{any}

@@ -7,8 +7,8 @@ use lib.ListN.{length, take, length-append}
 use lib.Seq.{drop-drop, length-take-le}
 use lib.Dec.{ltb, eqb}
 use borrow.Author.Tests.{eq-eqb}
-use Rattle.bitstream.specs.Bits.{bitsOf, halvesOf}
-use Rattle.bitstream.specs.Bits.Laws.{Below, below-flat, below-cut, length-cut}
+use Rattle.bitstream.specs.Bits.{bitsOf, halvesOf, Below}
+use Rattle.bitstream.specs.Bits.Laws.{below-flat, below-cut, length-cut}
 use Rattle.answer.specs.Outcome.{_orElse_, refuseIf}
 use Rattle.answer.specs.Outcome.Laws.{lessNumber-zero, orElse-zero-left, orElse-zero-right, refuseIf-in, orElse-in}
 use Rattle.row_format.specs.Theorems.Words.{bytesOf-halvesOf, halvesOf-bytesOf}

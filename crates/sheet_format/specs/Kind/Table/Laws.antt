@@ -6,8 +6,8 @@ use mathlib.Core.Bool.{not}
 use mathlib.Core.List.{List, []}
 use lib.ListN.{length}
 use lib.Dec.{eqb}
-use Rattle.bitstream.specs.Bits.{bitsOf, wordsOf}
-use Rattle.bitstream.specs.Bits.Laws.{Below, length-cut}
+use Rattle.bitstream.specs.Bits.{bitsOf, wordsOf, Below}
+use Rattle.bitstream.specs.Bits.Laws.{length-cut}
 use Rattle.answer.specs.Outcome.{_orElse_, Lent, roomNumber}
 use Rattle.answer.specs.Outcome.Laws.{unequalNumber-zero, unequalNumber-none, refuseIf-in, orElse-none, roomNumber-none}
 use Rattle.row_format.specs.Table.{tableNumber}

@@ -4,14 +4,12 @@ use Prim.Native.Nat.{ℕ, _<_}
 use mathlib.Core.Path.{_≡_}
 use mathlib.Core.List.{List, [], _∷_, _++_}
 use lib.ListN.{take}
-use Rattle.bitstream.specs.Bits.{wordsFor}
-use Rattle.bitstream.specs.Bits.Laws.{Below}
+use Rattle.bitstream.specs.Bits.{wordsFor, Below}
 use Rattle.answer.specs.Outcome.{Outcome}
 use Rattle.sheet_format.specs.declared.RecordRead.{RecordRead}
 use Rattle.sheet_format.specs.declared.RecordWritten.{RecordWritten}
 use Rattle.sheet_format.specs.Context.{Heading, Context}
-use Rattle.sheet_format.specs.Kind.{afterRecord, headingKept}
-use Rattle.sheet_format.specs.Kind.Lawful.{contentGiven}
+use Rattle.sheet_format.specs.Kind.{afterRecord, headingKept, contentGiven}
 use Rattle.sheet_format.specs.Kinds.{kindOf}
 use Rattle.sheet_format.specs.Writing.{recordWritten}
 use Rattle.sheet_format.specs.Sheet.{SheetRecord}

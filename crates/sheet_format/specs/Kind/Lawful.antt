@@ -9,7 +9,7 @@ use Rattle.answer.specs.Outcome as answers
 use Rattle.sheet_format.specs.Context.{Heading, Context}
 use Rattle.sheet_format.specs.Kind.{Kind, aTable, aRow, afterRecord, headingKept, contentGiven}
 
--- the numbers that document 01 lists for a record's body and for what the writer is given
+-- the numbers that document 01 lists for a record's kind and body, for its place, and for what the writer is given
 pub record Listed (P : ℕ → Type 0) : Type 0 where
   pub p0 : P 0
   pub p1 : P 1
@@ -25,6 +25,7 @@ pub record Listed (P : ℕ → Type 0) : Type 0 where
   pub p12 : P 12
   pub p13 : P 13
   pub p14 : P 14
+  pub p15 : P 15
 
 -- what holds of such numbers, and whatever follows from it
 pub listed-in : {P Q : ℕ → Type 0} → ((e : ℕ) → P e → Q e) → Listed P → Listed Q
@@ -43,7 +44,12 @@ listed-in f l = record {
   p12 = f 12 (l .p12);
   p13 = f 13 (l .p13);
   p14 = f 14 (l .p14);
+  p15 = f 15 (l .p15);
 }
+
+pub record ListedPlace (P : ℕ → Type 0) : Type 0 where
+  pub p0 : P 0
+  pub p16 : P 16
 
 pub record ListedGiven (P : ℕ → Type 0) : Type 0 where
   pub p0 : P 0
@@ -52,6 +58,7 @@ pub record ListedGiven (P : ℕ → Type 0) : Type 0 where
   pub p3 : P 3
   pub p4 : P 4
   pub p11 : P 11
+  pub p15 : P 15
 
 -- what reading the body b finds, where it was written for the heading h and the content x
 pub record Back (k : Kind) (h : Heading) (c : Context) (x b : List ℕ) : Type 0 where
@@ -80,10 +87,10 @@ pub record Lawful (k : Kind) : Type 1 where
       → length (c .tables) ≡ 0 → ⊥
   pub row-risen : k .holds ≡ aRow → (c : Context) (h : Heading) → k .place c h ≡ 0 → c .least ≤ h .row
   -- ---- numbers: what document 01 lists, and nothing else
-  pub readable-in : (P : ℕ → Type 0) → P 0 → P 15 → P (k .readable)
-  pub writable-in : (P : ℕ → Type 0) → P 0 → P 15 → P (k .writable)
-  pub fixed-in : (P : ℕ → Type 0) → P 0 → P 14 → (b : List ℕ) → P (k .fixed b)
-  pub place-in : (P : ℕ → Type 0) → P 0 → P 16 → (c : Context) (h : Heading) → P (k .place c h)
+  pub readable-in : (P : ℕ → Type 0) → Listed P → P (k .readable)
+  pub writable-in : (P : ℕ → Type 0) → ListedGiven P → P (k .writable)
+  pub fixed-in : (P : ℕ → Type 0) → Listed P → (b : List ℕ) → P (k .fixed b)
+  pub place-in : (P : ℕ → Type 0) → ListedPlace P → (c : Context) (h : Heading) → P (k .place c h)
   pub own-in : (P : ℕ → Type 0) → Listed P → (m : Lent) → ((n : ℕ) → P (roomNumber m n)) → (c : Context) (b : List ℕ)
       → P (k .own m c b)
   pub given-in : (P : ℕ → Type 0) → ListedGiven P → (h : Heading) (c : Context) (x : List ℕ) → P (k .given h c x)

@@ -25,10 +25,10 @@ unknown-lawful = record {
   table-placed = λ e c h place. absurd (let z : _≡_ {A = ℕ} 0 1 = cc in omega arith);
   table-before = λ other readable c h place none. absurd (omega arith);
   row-risen = λ e c h place. absurd (let z : _≡_ {A = ℕ} 0 1 = cc in omega arith);
-  readable-in = λ P p0 p15. p15;
-  writable-in = λ P p0 p15. p15;
-  fixed-in = λ P p0 p14 b. p0;
-  place-in = λ P p0 p16 c h. p0;
+  readable-in = λ P l. l .p15;
+  writable-in = λ P l. l .p15;
+  fixed-in = λ P l b. l .p0;
+  place-in = λ P l c h. l .p0;
   own-in = λ P l m room c b. l .p0;
   given-in = λ P l h c x. l .p0;
   readable-back = λ e. e;

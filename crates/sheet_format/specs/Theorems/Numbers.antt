@@ -11,7 +11,7 @@ use Rattle.answer.specs.Outcome.Laws.{refuseIf-in, orElse-in}
 use Rattle.row_format.specs.Lists.{any}
 use Rattle.row_format.specs.Lists.Laws.{by-test}
 use Rattle.sheet_format.specs.Context.{Heading, Context}
-use Rattle.sheet_format.specs.Kind.Lawful.{Listed, ListedGiven, listed-in}
+use Rattle.sheet_format.specs.Kind.Lawful.{Listed, ListedPlace, ListedGiven, listed-in}
 use Rattle.sheet_format.specs.Kinds.{kindOf}
 use Rattle.sheet_format.specs.Kinds.Laws.{lawful}
 use Rattle.sheet_format.specs.Record.{lengthField, kindField, bodyOf, lengthNumber, contentNumber, recordNumber}
@@ -29,27 +29,27 @@ module _ (P : ℕ → Type 0) where
       (orElse-in P (refuseIf (ltb 32774 (lengthField r)) 14) _ (refuseIf-in P (ltb 32774 (lengthField r)) 14 p0 p14)
       (refuseIf-in P (ltb (length r) (4 + lengthField r)) 14 p0 p14)))
 
-  recordNumber-in : Listed P → P 15 → P 16 → (m : Lent) → ((n : ℕ) → P (roomNumber m n)) → (c : Context) (r : List ℕ)
+  recordNumber-in : Listed P → ListedPlace P → (m : Lent) → ((n : ℕ) → P (roomNumber m n)) → (c : Context) (r : List ℕ)
       → P (recordNumber m c r)
   unfolding recordNumber contentNumber
-  recordNumber-in l p15 p16 m room c r =
+  recordNumber-in l place m room c r =
       let k = kindOf (kindField r) in
       let L = lawful (kindField r) in
       let b = bodyOf r in
       orElse-in P (lengthNumber r) _ (lengthNumber-in (l .p0) (l .p14) r)
-      (orElse-in P (k .readable) _ (L .readable-in P (l .p0) p15)
-      (orElse-in P (k .fixed b) _ (L .fixed-in P (l .p0) (l .p14) b)
-      (orElse-in P (k .place c (k .heading b)) _ (L .place-in P (l .p0) p16 c (k .heading b))
+      (orElse-in P (k .readable) _ (L .readable-in P l)
+      (orElse-in P (k .fixed b) _ (L .fixed-in P l b)
+      (orElse-in P (k .place c (k .heading b)) _ (L .place-in P place c (k .heading b))
       (L .own-in P l m room c b))))
 
-  writeNumber-in : ListedGiven P → P 15 → P 16 → P 5 → (code : ℕ) (h : Heading) (c : Context) (x : List ℕ) (roomBytes : ℕ)
+  writeNumber-in : ListedGiven P → ListedPlace P → P 5 → (code : ℕ) (h : Heading) (c : Context) (x : List ℕ) (roomBytes : ℕ)
       → P (writeNumber code h c x roomBytes)
   unfolding writeNumber
-  writeNumber-in l p15 p16 p5 code h c x roomBytes =
+  writeNumber-in l place p5 code h c x roomBytes =
       let k = kindOf code in
       let L = lawful code in
-      orElse-in P (k .writable) _ (L .writable-in P (l .p0) p15)
-      (orElse-in P (k .place c h) _ (L .place-in P (l .p0) p16 c h)
+      orElse-in P (k .writable) _ (L .writable-in P l)
+      (orElse-in P (k .place c h) _ (L .place-in P place c h)
       (orElse-in P (k .given h c x) _ (L .given-in P l h c x)
       (refuseIf-in P (ltb roomBytes (length (recordFor code h c x))) 5 (l .p0) p5)))
 
@@ -74,6 +74,7 @@ judged-listed = record {
   p12 = refl;
   p13 = refl;
   p14 = refl;
+  p15 = refl;
 }
 
 among-later : (n : ℕ) (ns : List ℕ) (e : ℕ) → Among ns e → Among (n ∷ ns) e
@@ -83,7 +84,7 @@ among-later n ns e h = by-test (eqb e n) (λ t. rw t) (λ t. rw t h)
 pub recordJudged-numbers : (c : Context) (r : List ℕ) → Among judgedNumbers (recordJudged c r .number)
 unfolding any
 recordJudged-numbers c r =
-    rw (recordJudged-number c r) (recordNumber-in (Among judgedNumbers) judged-listed refl refl nothing (λ n. refl) c r)
+    rw (recordJudged-number c r) (recordNumber-in (Among judgedNumbers) judged-listed (record { p0 = refl; p16 = refl }) nothing (λ n. refl) c r)
 
 -- with memory lent it is 5, or what judging may answer
 pub recordRead-numbers : (c : Context) (r m : List ℕ) → Among (5 ∷ judgedNumbers) (recordRead c r m .answer .number)
@@ -92,7 +93,7 @@ recordRead-numbers c r m =
     let P : ℕ → Type 0 = Among (5 ∷ judgedNumbers) in
     let later : (e : ℕ) → Among judgedNumbers e → P e = among-later 5 judgedNumbers in
     rw (recordRead-number c r m)
-    (recordNumber-in P (listed-in later judged-listed) refl refl (lent (length m))
+    (recordNumber-in P (listed-in later judged-listed) (record { p0 = refl; p16 = refl }) (lent (length m))
     (λ n. refuseIf-in P (ltb (length m) n) 5 refl refl) c r)
 
 pub recordWritten-numbers : (code : ℕ) (h : Heading) (c : Context) (x m : List ℕ)
@@ -100,5 +101,5 @@ pub recordWritten-numbers : (code : ℕ) (h : Heading) (c : Context) (x m : List
 unfolding any
 recordWritten-numbers code h c x m =
     let P : ℕ → Type 0 = Among (0 ∷ 15 ∷ 16 ∷ 1 ∷ 2 ∷ 3 ∷ 11 ∷ 4 ∷ 5 ∷ []) in
-    let given : ListedGiven P = record { p0 = refl; p1 = refl; p2 = refl; p3 = refl; p4 = refl; p11 = refl } in
-    rw (recordWritten-number code h c x m) (writeNumber-in P given refl refl refl code h c x (length m))
+    let given : ListedGiven P = record { p0 = refl; p1 = refl; p2 = refl; p3 = refl; p4 = refl; p11 = refl; p15 = refl } in
+    rw (recordWritten-number code h c x m) (writeNumber-in P given (record { p0 = refl; p16 = refl }) refl code h c x (length m))

@@ -175,10 +175,10 @@ line-lawful = record {
   table-placed = λ e c h place. absurd (let z : _≡_ {A = ℕ} 0 1 = cc in omega arith);
   table-before = λ other readable c h place. noTable-zero c place;
   row-risen = λ e c h place. absurd (let z : _≡_ {A = ℕ} 0 1 = cc in omega arith);
-  readable-in = λ P p0 p15. p0;
-  writable-in = λ P p0 p15. p0;
-  fixed-in = λ P p0 p14 b. refuseIf-in P (ltb (length b) 2) 14 p0 p14;
-  place-in = λ P p0 p16 c h. noTable-in P p0 p16 c;
+  readable-in = λ P l. l .p0;
+  writable-in = λ P l. l .p0;
+  fixed-in = λ P l b. refuseIf-in P (ltb (length b) 2) 14 (l .p0) (l .p14);
+  place-in = λ P l c h. noTable-in P (l .p0) (l .p16) c;
   own-in = lineOwn-in;
   given-in = λ P l h c x. refuseIf-in P (ltb 4096 (length (givenNumbers x))) 11 (l .p0) (l .p11);
   readable-back = λ e. refl;

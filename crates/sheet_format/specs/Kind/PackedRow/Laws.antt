@@ -167,10 +167,10 @@ module _ (P : ℕ → Type 0) where
       (orElse-in P (tooMany (length (givenPixels x))) _ (refuseIf-in P (ltb 4096 (length (givenPixels x))) 11 (l .p0) (l .p11))
       (refuseIf-in P (any (ltb 4095) (givenPixels x)) 4 (l .p0) (l .p4)))
 
-packedFixed-in : (P : ℕ → Type 0) → P 0 → P 14 → (b : List ℕ) → P (packedKind .fixed b)
-packedFixed-in P p0 p14 b =
-    orElse-in P (shorterThan 4 b) _ (refuseIf-in P (ltb (length b) 4) 14 p0 p14)
-    (refuseIf-in P (not (eqb (length b % 4) 0)) 14 p0 p14)
+packedFixed-in : (P : ℕ → Type 0) → Listed P → (b : List ℕ) → P (packedKind .fixed b)
+packedFixed-in P l b =
+    orElse-in P (shorterThan 4 b) _ (refuseIf-in P (ltb (length b) 4) 14 (l .p0) (l .p14))
+    (refuseIf-in P (not (eqb (length b % 4) 0)) 14 (l .p0) (l .p14))
 
 pub packed-lawful : Lawful packedKind
 packed-lawful = record {
@@ -183,10 +183,10 @@ packed-lawful = record {
   table-placed = λ e c h place. absurd (let z : _≡_ {A = ℕ} 0 1 = cc in omega arith);
   table-before = λ other readable c h place. rowPlace-table c h place;
   row-risen = λ e c h place. rowPlace-risen c h place;
-  readable-in = λ P p0 p15. p0;
-  writable-in = λ P p0 p15. p0;
+  readable-in = λ P l. l .p0;
+  writable-in = λ P l. l .p0;
   fixed-in = packedFixed-in;
-  place-in = λ P p0 p16 c h. rowPlace-in c h P p0 p16;
+  place-in = λ P l c h. rowPlace-in c h P (l .p0) (l .p16);
   own-in = packedOwn-in;
   given-in = packedGiven-in;
   readable-back = λ e. refl;

@@ -107,10 +107,10 @@ plain-lawful = record {
   table-placed = λ e c h place. absurd (let z : _≡_ {A = ℕ} 0 1 = cc in omega arith);
   table-before = λ other readable c h place. rowPlace-table c h place;
   row-risen = λ e c h place. rowPlace-risen c h place;
-  readable-in = λ P p0 p15. p0;
-  writable-in = λ P p0 p15. p0;
-  fixed-in = λ P p0 p14 b. refuseIf-in P (ltb (length b) 4) 14 p0 p14;
-  place-in = λ P p0 p16 c h. rowPlace-in c h P p0 p16;
+  readable-in = λ P l. l .p0;
+  writable-in = λ P l. l .p0;
+  fixed-in = λ P l b. refuseIf-in P (ltb (length b) 4) 14 (l .p0) (l .p14);
+  place-in = λ P l c h. rowPlace-in c h P (l .p0) (l .p16);
   own-in = plainOwn-in;
   given-in = plainGiven-in;
   readable-back = λ e. refl;

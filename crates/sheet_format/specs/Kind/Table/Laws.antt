@@ -57,10 +57,10 @@ table-lawful = record {
   table-placed = λ e c h place. unequalNumber-zero (length (c .tables)) 0 15 place;
   table-before = λ other readable c h place none. other refl;
   row-risen = λ e c h place. absurd (let z : _≡_ {A = ℕ} 0 1 = cc in omega arith);
-  readable-in = λ P p0 p15. p0;
-  writable-in = λ P p0 p15. p0;
-  fixed-in = λ P p0 p14 b. refuseIf-in P (not (eqb (length b % 4) 0)) 14 p0 p14;
-  place-in = λ P p0 p16 c h. refuseIf-in P (not (eqb (length (c .tables)) 0)) 16 p0 p16;
+  readable-in = λ P l. l .p0;
+  writable-in = λ P l. l .p0;
+  fixed-in = λ P l b. refuseIf-in P (not (eqb (length b % 4) 0)) 14 (l .p0) (l .p14);
+  place-in = λ P l c h. refuseIf-in P (not (eqb (length (c .tables)) 0)) 16 (l .p0) (l .p16);
   own-in = λ P l m room c b. tableNumber-in P b (l .p0) (l .p1) (l .p2) (l .p3);
   given-in = λ P l h c x. tableNumber-in P x (l .p0) (l .p1) (l .p2) (l .p3);
   readable-back = λ e. refl;

@@ -1,5 +1,5 @@
 -- What a turn of the lister does with a record: its line joins the text that is not written yet, and what the sheet holds after
--- it is carried on. sheet_listing's `listing-more`, `listing-refused` and `listing-end` say that such turns make the listing.
+-- it is carried on. sheet_listing's `turns-listing` says that such turns make the listing.
 -- Definitions only. Assumes nothing.
 use Prim.Native.Nat.{ℕ, _+_, _≤_}
 use mathlib.Core.Path.{_≡_}

@@ -1,4 +1,4 @@
--- What holds of the reader that gives one item a call, in document 01's words; Walk/Laws.antt has the proofs. tb and wb are the
+-- What holds of the reader that gives one item a call, in document 01's words; the longer proofs are in Walk/Laws.antt. tb and wb are the
 -- bytes of the table and of the words, m is the memory lent to a row call, as it was. Assumes nothing.
 use Prim.Native.Nat.{ℕ, _+_, _/_, _≤_, _<_}
 use native.Mathlib.Omega.{arith}

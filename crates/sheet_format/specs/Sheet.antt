@@ -49,16 +49,23 @@ recordHere c r =
       bytes = take (recordJudged c r .length) r;
     }
 
--- x is a record that was accepted at its place, where the sheet held so much
-pub record ReadFrom (x : SheetRecord) : Type 0 where
-  pub context : Context
-  pub place : List ℕ
-  pub accepted : recordJudged context place .number ≡ 0
-  pub here : x ≡ recordHere context place
-
 -- the bytes after it
 abbrev pub restNext : Context → List ℕ → List ℕ
 restNext c r = drop (recordJudged c r .length) r
+
+-- reading on from r, where the sheet holds c, over accepted records, comes to the place p, where it holds d
+pub data Reaches (d : Context) (p : List ℕ) : Context → List ℕ → Type 0 where
+  there : Reaches d p d p
+  onward : {c : Context} {r : List ℕ} → recordJudged c r .number ≡ 0 → Reaches d p (contextAfter c r) (restNext c r)
+      → Reaches d p c r
+
+-- x is a record that is accepted at a place to which reading on from r comes
+pub record ReadFrom (c : Context) (r : List ℕ) (x : SheetRecord) : Type 0 where
+  pub context : Context
+  pub place : List ℕ
+  pub reached : Reaches context place c r
+  pub accepted : recordJudged context place .number ≡ 0
+  pub here : x ≡ recordHere context place
 
 -- the records from a place on, where the sheet holds c so far. Every record has bytes, so that there are no more records than
 -- bytes: n bounds them
@@ -99,6 +106,10 @@ unfoldable pub storedRows : List SheetRecord → List StoredRow
 storedRows [] = []
 storedRows (x ∷ xs) = withRow (recordHolds x) (rowOf x) (storedRows xs)
 
+-- a line: its numbers
+abbrev pub lineOf : SheetRecord → List ℤ
+lineOf x = map signedOf (wordsOf (x .content))
+
 abbrev pub withLine : Holds → List ℤ → List (List ℤ) → List (List ℤ)
 withLine aTable y ys = ys
 withLine aRow y ys = ys
@@ -108,7 +119,7 @@ withLine nothing y ys = ys
 -- the lines' numbers, as their records come
 unfoldable pub storedLines : List SheetRecord → List (List ℤ)
 storedLines [] = []
-storedLines (x ∷ xs) = withLine (recordHolds x) (map signedOf (wordsOf (x .content))) (storedLines xs)
+storedLines (x ∷ xs) = withLine (recordHolds x) (lineOf x) (storedLines xs)
 
 -- rows by their number: the heights of a row, or that there is none
 pub data Heights : Type 0 where

@@ -16,13 +16,13 @@ use Rattle.row_format.specs.Table.{tableNumber}
 use Rattle.sheet_format.specs.declared.SheetState.{SheetState}
 use Rattle.sheet_format.specs.Context.{Heading, Context, newSheet, stateOf, contextOf}
 use Rattle.sheet_format.specs.Context.Laws.{stateOf-contextOf}
-use Rattle.sheet_format.specs.Kind.{aRow, tableKept, contentGiven}
+use Rattle.sheet_format.specs.Kind.{aRow, aLine, tableKept, contentGiven}
 use Rattle.sheet_format.specs.Kinds.{kindOf}
 use Rattle.sheet_format.specs.Record.{lengthField, kindField, bodyOf, lengthNumber, recordSpan}
 use Rattle.sheet_format.specs.Reading.{answerBytes, contextAfter, recordContent, judgedNumbers, refusedRecord, recordJudged, recordRead}
 use Rattle.sheet_format.specs.Reading.Laws.{judged-length}
 use Rattle.sheet_format.specs.Writing.{notWritten, recordFor, recordWritten, Writable}
-use Rattle.sheet_format.specs.Sheet.{SheetRecord, ReadFrom, endsWith, putFirst, recordHere, restNext, records, sheetRead, recordHolds, storedRows, present, heightsOf, recordKinds, rowNumbers}
+use Rattle.sheet_format.specs.Sheet.{SheetRecord, ReadFrom, endsWith, putFirst, recordHere, restNext, records, sheetRead, recordHolds, lineOf, storedRows, storedLines, absent, present, heightsOf, recordKinds, rowNumbers}
 use Rattle.sheet_format.specs.Sheet.Laws.{records-end, records-refused, records-more}
 use Rattle.sheet_format.specs.Given.{recordGiven, Write, AllDone, sheetBytes, sheetGiven}
 use Written.{read-written, judged-written, table-written, length-written, granted-written, full-written}
@@ -34,7 +34,7 @@ use TableFirst.{table-accepted, sheetRead-table-first}
 use Sheets.{sheetRead-written}
 use Numbers.{recordJudged-numbers, recordRead-numbers, recordWritten-numbers}
 use State.{contextAfter-kept}
-use Stored.{stored-heights, stored-read, sheetRead-read}
+use Stored.{stored-heights, stored-numbers, stored-absent, stored-read, sheetRead-read}
 pub mod ReadBack
 pub mod Written
 pub mod Memory
@@ -117,16 +117,26 @@ pub kept-table : (c : Context) (r : List ℕ) → recordJudged c r .number ≡ 0
     → tableNumber (drop 6 (take (recordJudged c r .length) r)) ≡ 0
 kept-table = table-accepted
 
--- What a sheet stores: every row among its records stands under its number with the heights that its content has, and that
--- content is what reading the record at its place gives.
+-- What a sheet stores: every row among its records stands under its number with the heights that its content has, and every
+-- line is among its lines; and that content is what reading the record gives at the place in the sheet where it stands.
 pub stored-row : (s : List ℕ) (x : SheetRecord) → List·Memᴰ x (sheetRead s .records) → recordHolds x ≡ aRow
     → heightsOf (x .answer .row) (storedRows (sheetRead s .records)) ≡ present (halvesOf (x .content))
 stored-row = stored-heights
 
-pub record-place : (s : List ℕ) (x : SheetRecord) → List·Memᴰ x (sheetRead s .records) → ReadFrom x
+pub stored-line : (s : List ℕ) (x : SheetRecord) → List·Memᴰ x (sheetRead s .records) → recordHolds x ≡ aLine
+    → List·Memᴰ (lineOf x) (storedLines (sheetRead s .records))
+stored-line = stored-numbers
+
+-- a number that none of its rows has is absent
+pub unstored-row : (s : List ℕ) (n : ℕ)
+    → ((x : SheetRecord) → List·Memᴰ x (sheetRead s .records) → recordHolds x ≡ aRow → x .answer .row ≡ n → ⊥)
+    → heightsOf n (storedRows (sheetRead s .records)) ≡ absent
+unstored-row = stored-absent
+
+pub record-place : (s : List ℕ) (x : SheetRecord) → List·Memᴰ x (sheetRead s .records) → ReadFrom newSheet s x
 record-place = sheetRead-read
 
-pub record-content : (x : SheetRecord) (from : ReadFrom x) (m : List ℕ) → answerBytes (x .answer) ≤ length m
+pub record-content : (s : List ℕ) (x : SheetRecord) (from : ReadFrom newSheet s x) (m : List ℕ) → answerBytes (x .answer) ≤ length m
     → recordRead (from .context) (from .place) m ≡ writes (x .answer) (x .content) m
 record-content = stored-read
 

@@ -9,7 +9,8 @@ ghost use Rattle.sheet_format.specs.Reading.{refusedRecord};
 // Document 01: "The length is 2 to 32,774": a record is four bytes more.
 pub const MAX_RECORD_BYTES: usize = 32778;
 
-// What a sheet holds so far: how many tables (0 or 1), and the least row number that may come next (0 to 65536).
+// What a sheet holds so far: how many tables, of which more than 0 means that it has its one, and the least row number that
+// may come next (0 to 65536).
 #[repr(C)]
 pub struct SheetState {
     pub tables: u32,

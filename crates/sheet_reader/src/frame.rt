@@ -57,7 +57,7 @@ fn length_number(sheet: &[u8]) -> u32
     0
 }
 
-// The one place where kinds are told apart.
+// The one place where the kinds of records are told apart in reading.
 fn read_body(
     kind: u32,
     table: &[u8],

@@ -1,4 +1,4 @@
--- What the listing of an accepted table is, and how its blocks make it up. Each is a citation. Assumes nothing.
+-- What the listing of an accepted table is, and how its blocks make it up. Assumes nothing.
 use Prim.Native.Nat.{ℕ, _+_, _-_, _≤_, _<_}
 use native.Mathlib.Omega.{arith}
 use mathlib.Core.Path.{_≡_, ap, _∙_}

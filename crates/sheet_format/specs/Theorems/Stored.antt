@@ -1,18 +1,19 @@
 -- Every row of a sheet stands under its number with the heights that reading its record gives. Assumes nothing.
-use Prim.Native.Nat.{ℕ, suc, _≤_, _<_}
+use Prim.Native.Nat.{ℕ, zero, suc, _≤_, _<_}
 use native.Mathlib.Omega.{arith}
 use mathlib.Core.Path.{_≡_, refl, sym, ap, _∙_, subst}
 use mathlib.Core.Logic.{⊎-elim}
 use mathlib.Core.List.{List, [], _∷_, List·Memᴰ, List·Memᴰ·head, List·Memᴰ·tail, List·Memᴰ·not-nil, List·Memᴰ·cases-cons}
 use lib.ListN.{length}
+use lib.IntN.{ℤ}
 use borrow.Author.Tests.{eq-eqb, ne-eqb}
 use Rattle.answer.specs.Outcome.{writes}
 use Rattle.bitstream.specs.Bits.{halvesOf}
 use Rattle.sheet_format.specs.Context.{Context, newSheet}
 use Rattle.sheet_format.specs.Kind.{Holds, aTable, aRow, aLine, nothing}
-use Rattle.sheet_format.specs.Reading.{answerBytes, recordJudged, recordRead}
-use Rattle.sheet_format.specs.Sheet.{SheetRecord, ReadFrom, recordHere, recordHolds, recordsFrom, sheetRead, StoredRow, rowOf, withRow, storedRows, Heights, present, heightsOf}
-use Rattle.sheet_format.specs.Sheet.Laws.{recordsFrom-all}
+use Rattle.sheet_format.specs.Reading.{answerBytes, contextAfter, recordJudged, recordRead}
+use Rattle.sheet_format.specs.Sheet.{SheetRecord, Reaches, there, onward, ReadFrom, recordHere, restNext, recordHolds, recordsFrom, sheetRead, StoredRow, rowOf, withRow, storedRows, lineOf, withLine, storedLines, absent, present, heightsOf}
+use Rattle.sheet_format.specs.Sheet.Laws.{fromRecord-cases}
 use Rattle.sheet_format.specs.Theorems.Rising.{Rising, sheetRead-rows}
 use Rattle.sheet_format.specs.Theorems.Room.{recordRead-granted}
 
@@ -62,21 +63,81 @@ stored-heights s x m row =
     let rows = storedRows (sheetRead s .records) in
     heightsOf-member 0 (rowOf x) rows (sheetRead-rows s) (storedRows-member x (sheetRead s .records) m row)
 
--- ---- a record of a sheet is one that was accepted at its place
-recordsFrom-read : (n : ℕ) (c : Context) (r : List ℕ) (x : SheetRecord) → List·Memᴰ x (recordsFrom n c r .records) → ReadFrom x
-recordsFrom-read =
-    recordsFrom-all (λ c s. (x : SheetRecord) → List·Memᴰ x (s .records) → ReadFrom x)
-    (λ c e x m. absurd (List·Memᴰ·not-nil m))
-    (λ c r rest ok h x m. ⊎-elim
-    (λ e. record { context = c; place = r; accepted = ok; here = e }) (h x) (List·Memᴰ·cases-cons m))
+-- ---- lines, and what is not there
+withLine-later : (s : Holds) (y z : List ℤ) (ys : List (List ℤ)) → List·Memᴰ y ys → List·Memᴰ y (withLine s z ys)
+withLine-later aTable y z ys m = m
+withLine-later aRow y z ys m = m
+withLine-later aLine y z ys m = List·Memᴰ·tail m
+withLine-later nothing y z ys m = m
 
-pub sheetRead-read : (s : List ℕ) (x : SheetRecord) → List·Memᴰ x (sheetRead s .records) → ReadFrom x
+withLine-here : (s : Holds) (y : List ℤ) (ys : List (List ℤ)) → s ≡ aLine → List·Memᴰ y (withLine s y ys)
+withLine-here s y ys line = rw line (List·Memᴰ·head refl)
+
+storedLines-member : (x : SheetRecord) (xs : List SheetRecord) → List·Memᴰ x xs → recordHolds x ≡ aLine
+    → List·Memᴰ (lineOf x) (storedLines xs)
+unfolding storedLines
+storedLines-member x [] m line = absurd (List·Memᴰ·not-nil m)
+storedLines-member x (z ∷ xs) m line =
+    ⊎-elim (λ e. rw (← e) (withLine-here (recordHolds x) (lineOf x) (storedLines xs) line))
+    (λ rest. withLine-later (recordHolds z) (lineOf x) (lineOf z) (storedLines xs) (storedLines-member x xs rest line))
+    (List·Memᴰ·cases-cons m)
+
+pub stored-numbers : (s : List ℕ) (x : SheetRecord) → List·Memᴰ x (sheetRead s .records) → recordHolds x ≡ aLine
+    → List·Memᴰ (lineOf x) (storedLines (sheetRead s .records))
+stored-numbers s x = storedLines-member x (sheetRead s .records)
+
+-- a number that no row has is absent
+withRow-absent : (n : ℕ) (s : Holds) (y : StoredRow) (ys : List StoredRow) → (s ≡ aRow → y .number ≡ n → ⊥)
+    → heightsOf n ys ≡ absent → heightsOf n (withRow s y ys) ≡ absent
+unfolding heightsOf
+withRow-absent n aTable y ys other rest = rest
+withRow-absent n aRow y ys other rest = rw (ne-eqb n (y .number) (λ e. other refl (sym e))) rest
+withRow-absent n aLine y ys other rest = rest
+withRow-absent n nothing y ys other rest = rest
+
+storedRows-absent : (n : ℕ) (xs : List SheetRecord)
+    → ((x : SheetRecord) → List·Memᴰ x xs → recordHolds x ≡ aRow → x .answer .row ≡ n → ⊥)
+    → heightsOf n (storedRows xs) ≡ absent
+unfolding storedRows heightsOf
+storedRows-absent n [] none = refl
+storedRows-absent n (x ∷ xs) none =
+    withRow-absent n (recordHolds x) (rowOf x) (storedRows xs) (none x (List·Memᴰ·head refl))
+    (storedRows-absent n xs (λ y m. none y (List·Memᴰ·tail m)))
+
+pub stored-absent : (s : List ℕ) (n : ℕ)
+    → ((x : SheetRecord) → List·Memᴰ x (sheetRead s .records) → recordHolds x ≡ aRow → x .answer .row ≡ n → ⊥)
+    → heightsOf n (storedRows (sheetRead s .records)) ≡ absent
+stored-absent s n = storedRows-absent n (sheetRead s .records)
+
+-- ---- a record of a sheet is one that is accepted at a place to which the sheet is read
+recordsFrom-read : (n : ℕ) (c : Context) (r : List ℕ) (x : SheetRecord) → List·Memᴰ x (recordsFrom n c r .records)
+    → ReadFrom c r x
+unfolding recordsFrom
+recordsFrom-read zero c r = λ x m. absurd (List·Memᴰ·not-nil m)
+recordsFrom-read (suc n) c r =
+    let next = recordsFrom-read n (contextAfter c r) (restNext c r) in
+    fromRecord-cases (λ s. (x : SheetRecord) → List·Memᴰ x (s .records) → ReadFrom c r x) r (recordJudged c r .number)
+    (recordHere c r) (recordsFrom n (contextAfter c r) (restNext c r))
+    (λ x m. absurd (List·Memᴰ·not-nil m)) (λ k e x m. absurd (List·Memᴰ·not-nil m))
+    (λ ok x m. ⊎-elim (λ e. record { context = c; place = r; reached = there; accepted = ok; here = e })
+    (λ rest. later ok (next x rest)) (List·Memᴰ·cases-cons m))
+  where
+    later : {x : SheetRecord} → recordJudged c r .number ≡ 0 → ReadFrom (contextAfter c r) (restNext c r) x → ReadFrom c r x
+    later ok f = record {
+      context = f .context;
+      place = f .place;
+      reached = onward ok (f .reached);
+      accepted = f .accepted;
+      here = f .here;
+    }
+
+pub sheetRead-read : (s : List ℕ) (x : SheetRecord) → List·Memᴰ x (sheetRead s .records) → ReadFrom newSheet s x
 unfolding sheetRead
 sheetRead-read [] x m = absurd (List·Memᴰ·not-nil m)
 sheetRead-read (y ∷ s) x m = recordsFrom-read (length (y ∷ s)) newSheet (y ∷ s) x m
 
 -- and what reading it there gives
-pub stored-read : (x : SheetRecord) (from : ReadFrom x) (m : List ℕ) → answerBytes (x .answer) ≤ length m
+pub stored-read : (s : List ℕ) (x : SheetRecord) (from : ReadFrom newSheet s x) (m : List ℕ) → answerBytes (x .answer) ≤ length m
     → recordRead (from .context) (from .place) m ≡ writes (x .answer) (x .content) m
-stored-read x from m room =
+stored-read s x from m room =
     rw (from .here) (recordRead-granted (from .context) (from .place) m (from .accepted) (rw (from .here) at room))

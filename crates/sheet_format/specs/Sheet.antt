@@ -107,8 +107,8 @@ storedRows [] = []
 storedRows (x ∷ xs) = withRow (recordHolds x) (rowOf x) (storedRows xs)
 
 -- a line: its numbers
-abbrev pub lineOf : SheetRecord → List ℤ
-lineOf x = map signedOf (wordsOf (x .content))
+abbrev pub numbersHeld : SheetRecord → List ℤ
+numbersHeld x = map signedOf (wordsOf (x .content))
 
 abbrev pub withLine : Holds → List ℤ → List (List ℤ) → List (List ℤ)
 withLine aTable y ys = ys
@@ -119,7 +119,7 @@ withLine nothing y ys = ys
 -- the lines' numbers, as their records come
 unfoldable pub storedLines : List SheetRecord → List (List ℤ)
 storedLines [] = []
-storedLines (x ∷ xs) = withLine (recordHolds x) (lineOf x) (storedLines xs)
+storedLines (x ∷ xs) = withLine (recordHolds x) (numbersHeld x) (storedLines xs)
 
 -- rows by their number: the heights of a row, or that there is none
 pub data Heights : Type 0 where

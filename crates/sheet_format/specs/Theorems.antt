@@ -22,7 +22,7 @@ use Rattle.sheet_format.specs.Record.{lengthField, kindField, bodyOf, le
 use Rattle.sheet_format.specs.Reading.{answerBytes, contextAfter, recordContent, judgedNumbers, refusedRecord, recordJudged, recordRead}
 use Rattle.sheet_format.specs.Reading.Laws.{judged-length}
 use Rattle.sheet_format.specs.Writing.{notWritten, recordFor, recordWritten, Writable}
-use Rattle.sheet_format.specs.Sheet.{SheetRecord, ReadFrom, endsWith, putFirst, recordHere, restNext, records, sheetRead, recordHolds, lineOf, storedRows, storedLines, absent, present, heightsOf, recordKinds, rowNumbers}
+use Rattle.sheet_format.specs.Sheet.{SheetRecord, ReadFrom, endsWith, putFirst, recordHere, restNext, records, sheetRead, recordHolds, numbersHeld, storedRows, storedLines, absent, present, heightsOf, recordKinds, rowNumbers}
 use Rattle.sheet_format.specs.Sheet.Laws.{records-end, records-refused, records-more}
 use Rattle.sheet_format.specs.Given.{recordGiven, Write, AllDone, sheetBytes, sheetGiven}
 use Written.{read-written, judged-written, table-written, length-written, granted-written, full-written}
@@ -124,7 +124,7 @@ pub stored-row : (s : List ℕ) (x : SheetRecord) → List·Memᴰ x (sheetRead 
 stored-row = stored-heights
 
 pub stored-line : (s : List ℕ) (x : SheetRecord) → List·Memᴰ x (sheetRead s .records) → recordHolds x ≡ aLine
-    → List·Memᴰ (lineOf x) (storedLines (sheetRead s .records))
+    → List·Memᴰ (numbersHeld x) (storedLines (sheetRead s .records))
 stored-line = stored-numbers
 
 -- a number that none of its rows has is absent

@@ -12,7 +12,7 @@ use Rattle.bitstream.specs.Bits.{halvesOf}
 use Rattle.sheet_format.specs.Context.{Context, newSheet}
 use Rattle.sheet_format.specs.Kind.{Holds, aTable, aRow, aLine, nothing}
 use Rattle.sheet_format.specs.Reading.{answerBytes, contextAfter, recordJudged, recordRead}
-use Rattle.sheet_format.specs.Sheet.{SheetRecord, Reaches, there, onward, ReadFrom, recordHere, restNext, recordHolds, recordsFrom, sheetRead, StoredRow, rowOf, withRow, storedRows, lineOf, withLine, storedLines, absent, present, heightsOf}
+use Rattle.sheet_format.specs.Sheet.{SheetRecord, Reaches, there, onward, ReadFrom, recordHere, restNext, recordHolds, recordsFrom, sheetRead, StoredRow, rowOf, withRow, storedRows, numbersHeld, withLine, storedLines, absent, present, heightsOf}
 use Rattle.sheet_format.specs.Sheet.Laws.{fromRecord-cases}
 use Rattle.sheet_format.specs.Theorems.Rising.{Rising, sheetRead-rows}
 use Rattle.sheet_format.specs.Theorems.Room.{recordRead-granted}
@@ -74,16 +74,16 @@ withLine-here : (s : Holds) (y : List ℤ) (ys : List (List ℤ)) → s ≡ aLin
 withLine-here s y ys line = rw line (List·Memᴰ·head refl)
 
 storedLines-member : (x : SheetRecord) (xs : List SheetRecord) → List·Memᴰ x xs → recordHolds x ≡ aLine
-    → List·Memᴰ (lineOf x) (storedLines xs)
+    → List·Memᴰ (numbersHeld x) (storedLines xs)
 unfolding storedLines
 storedLines-member x [] m line = absurd (List·Memᴰ·not-nil m)
 storedLines-member x (z ∷ xs) m line =
-    ⊎-elim (λ e. rw (← e) (withLine-here (recordHolds x) (lineOf x) (storedLines xs) line))
-    (λ rest. withLine-later (recordHolds z) (lineOf x) (lineOf z) (storedLines xs) (storedLines-member x xs rest line))
+    ⊎-elim (λ e. rw (← e) (withLine-here (recordHolds x) (numbersHeld x) (storedLines xs) line))
+    (λ rest. withLine-later (recordHolds z) (numbersHeld x) (numbersHeld z) (storedLines xs) (storedLines-member x xs rest line))
     (List·Memᴰ·cases-cons m)
 
 pub stored-numbers : (s : List ℕ) (x : SheetRecord) → List·Memᴰ x (sheetRead s .records) → recordHolds x ≡ aLine
-    → List·Memᴰ (lineOf x) (storedLines (sheetRead s .records))
+    → List·Memᴰ (numbersHeld x) (storedLines (sheetRead s .records))
 stored-numbers s x = storedLines-member x (sheetRead s .records)
 
 -- a number that no row has is absent

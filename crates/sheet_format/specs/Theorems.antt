@@ -21,7 +21,7 @@ use Rattle.sheet_format.specs.Kinds.{kindOf}
 use Rattle.sheet_format.specs.Record.{lengthField, kindField, bodyOf, lengthNumber, recordSpan}
 use Rattle.sheet_format.specs.Reading.{answerBytes, contextAfter, recordContent, judgedNumbers, refusedRecord, recordJudged, recordRead}
 use Rattle.sheet_format.specs.Reading.Laws.{judged-length}
-use Rattle.sheet_format.specs.Writing.{notWritten, recordFor, recordWritten, Writable}
+use Rattle.sheet_format.specs.Writing.{writtenNumbers, notWritten, recordFor, recordWritten, Writable}
 use Rattle.sheet_format.specs.Sheet.{SheetRecord, ReadFrom, endsWith, putFirst, recordHere, restNext, records, sheetRead, recordHolds, numbersHeld, storedRows, storedLines, absent, present, heightsOf, recordKinds, rowNumbers}
 use Rattle.sheet_format.specs.Sheet.Laws.{records-end, records-refused, records-more}
 use Rattle.sheet_format.specs.Given.{recordGiven, Write, AllDone, sheetBytes, sheetGiven}
@@ -191,7 +191,7 @@ pub read-numbers : (c : Context) (r m : List ℕ) → any (eqb (recordRead c r m
 read-numbers = recordRead-numbers
 
 pub written-numbers : (code : ℕ) (h : Heading) (c : Context) (x m : List ℕ)
-    → any (eqb (recordWritten code h c x m .answer .number)) (0 ∷ 15 ∷ 16 ∷ 1 ∷ 2 ∷ 3 ∷ 11 ∷ 4 ∷ 5 ∷ []) ≡ true
+    → any (eqb (recordWritten code h c x m .answer .number)) writtenNumbers ≡ true
 written-numbers = recordWritten-numbers
 
 -- "A refused call gives its number, zero for every count and value, and leaves the lent memory as found"; the state as given

@@ -3,7 +3,7 @@
 -- what the sheet holds so far. Definitions only. Assumes nothing.
 use Prim.Native.Nat.{ℕ, _+_}
 use mathlib.Core.Path.{_≡_}
-use mathlib.Core.List.{List, _++_}
+use mathlib.Core.List.{List, [], _∷_, _++_}
 use lib.ListN.{length}
 use lib.Dec.{ltb}
 use Rattle.answer.specs.Outcome.{Outcome, outcome, writes, _orElse_, refuseIf, unless}
@@ -30,6 +30,10 @@ writeNumber code h c x roomBytes =
     orElse kindOf code .place c h
     orElse kindOf code .given h c x
     orElse refuseIf (ltb roomBytes (length (recordFor code h c x))) 5
+
+-- the numbers that writing a record may answer
+abbrev pub writtenNumbers : List ℕ
+writtenNumbers = 0 ∷ 15 ∷ 16 ∷ 1 ∷ 2 ∷ 3 ∷ 11 ∷ 4 ∷ 5 ∷ []
 
 -- what is asked before room
 pub record Writable (code : ℕ) (h : Heading) (c : Context) (x : List ℕ) : Type 0 where

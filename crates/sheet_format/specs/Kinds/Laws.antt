@@ -1,10 +1,12 @@
--- Every kind is lawful: the one split over all kinds. Assumes nothing.
-use Prim.Native.Nat.{ℕ, zero, suc, _+_, _≤_, _<_}
+-- Every kind is lawful: the one split that the theorems rest on. And what a code says of its kind. Assumes nothing.
+use Prim.Native.Nat.{ℕ, zero, suc, _<_}
+use native.Mathlib.Decide.{decLt}
 use native.Mathlib.Omega.{arith}
-use mathlib.Core.Path.{_≡_, refl, sym}
+use mathlib.Core.Logic.{by-cases}
+use mathlib.Core.Path.{_≡_, refl, sym, ap, _∙_}
 use mathlib.Core.Bool.{true}
 use lib.Dec.{eqb}
-use borrow.Author.Tests.{ne-eqb}
+use borrow.Author.Tests.{ne-eqb, eqb-true}
 use Rattle.answer.specs.Outcome.Laws.{roomNumber-none}
 use Rattle.sheet_format.specs.Kind.{unknown, aTable, isTable, isRow}
 use Rattle.sheet_format.specs.Kind.Lawful.{Lawful}
@@ -44,30 +46,21 @@ lawful (suc (suc (suc (suc zero)))) = line-lawful
 lawful (suc (suc (suc (suc (suc k))))) = unknown-lawful
 
 -- ---- codes
-pub kindOf-unknown : (code : ℕ) → 4 < code → kindOf code ≡ unknown
-kindOf-unknown zero h = absurd (omega arith)
-kindOf-unknown (suc zero) h = absurd (omega arith)
-kindOf-unknown (suc (suc zero)) h = absurd (omega arith)
-kindOf-unknown (suc (suc (suc zero))) h = absurd (omega arith)
-kindOf-unknown (suc (suc (suc (suc zero)))) h = absurd (omega arith)
-kindOf-unknown (suc (suc (suc (suc (suc k))))) h = refl
+-- a code of none of them
+pub kindOf-other : (code : ℕ) → (code ≡ 1 → ⊥) → (code ≡ 2 → ⊥) → (code ≡ 3 → ⊥) → (code ≡ 4 → ⊥) → kindOf code ≡ unknown
+kindOf-other zero table packed plain line = refl
+kindOf-other (suc zero) table packed plain line = absurd (table refl)
+kindOf-other (suc (suc zero)) table packed plain line = absurd (packed refl)
+kindOf-other (suc (suc (suc zero))) table packed plain line = absurd (plain refl)
+kindOf-other (suc (suc (suc (suc zero)))) table packed plain line = absurd (line refl)
+kindOf-other (suc (suc (suc (suc (suc k))))) table packed plain line = refl
 
-pub kindOf-known : (code : ℕ) → kindOf code .readable ≡ 0 → code ≤ 4
-kindOf-known zero e = omega arith
-kindOf-known (suc zero) e = omega arith
-kindOf-known (suc (suc zero)) e = omega arith
-kindOf-known (suc (suc (suc zero))) e = omega arith
-kindOf-known (suc (suc (suc (suc zero)))) e = omega arith
-kindOf-known (suc (suc (suc (suc (suc k))))) e = absurd (omega arith)
-
--- a table is kind 1
-pub kindOf-table : (code : ℕ) → kindOf code .holds ≡ aTable → code ≡ 1
-kindOf-table zero e = absurd (let z : _≡_ {A = ℕ} 0 1 = cc in omega arith)
-kindOf-table (suc zero) e = refl
-kindOf-table (suc (suc zero)) e = absurd (let z : _≡_ {A = ℕ} 0 1 = cc in omega arith)
-kindOf-table (suc (suc (suc zero))) e = absurd (let z : _≡_ {A = ℕ} 0 1 = cc in omega arith)
-kindOf-table (suc (suc (suc (suc zero)))) e = absurd (let z : _≡_ {A = ℕ} 0 1 = cc in omega arith)
-kindOf-table (suc (suc (suc (suc (suc k))))) e = absurd (let z : _≡_ {A = ℕ} 0 1 = cc in omega arith)
+-- a kind that is read has a code of two bytes
+pub readable-code : (code : ℕ) → kindOf code .readable ≡ 0 → code < 65536
+readable-code code e =
+    by-cases (decLt code 65536) (λ h. h)
+    (λ h. let is = kindOf-other code (λ c. omega arith) (λ c. omega arith) (λ c. omega arith) (λ c. omega arith) in
+    let known : 15 ≡ 0 = rw is at e in absurd (omega arith))
 
 -- ---- what a kind holds, by its code
 pub isTable-kindOf : (code : ℕ) → isTable (kindOf code .holds) ≡ eqb code 1
@@ -77,6 +70,10 @@ isTable-kindOf (suc (suc zero)) = refl
 isTable-kindOf (suc (suc (suc zero))) = refl
 isTable-kindOf (suc (suc (suc (suc zero)))) = refl
 isTable-kindOf (suc (suc (suc (suc (suc k))))) = sym (ne-eqb (suc (suc (suc (suc (suc k))))) 1 (λ e. omega arith))
+
+-- a table is kind 1
+pub kindOf-table : (code : ℕ) → kindOf code .holds ≡ aTable → code ≡ 1
+kindOf-table code e = eqb-true code 1 (sym (isTable-kindOf code) ∙ ap isTable e)
 
 pub isRow-two : (code : ℕ) → code ≡ 2 → isRow (kindOf code .holds) ≡ true
 isRow-two code e = rw e

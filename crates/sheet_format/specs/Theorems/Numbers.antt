@@ -17,7 +17,7 @@ use Rattle.sheet_format.specs.Kinds.Laws.{lawful}
 use Rattle.sheet_format.specs.Record.{lengthField, kindField, bodyOf, lengthNumber, contentNumber, recordNumber}
 use Rattle.sheet_format.specs.Reading.{judgedNumbers, recordJudged, recordRead}
 use Rattle.sheet_format.specs.Reading.Laws.{recordJudged-number, recordRead-number}
-use Rattle.sheet_format.specs.Writing.{recordFor, writeNumber, recordWritten}
+use Rattle.sheet_format.specs.Writing.{recordFor, writeNumber, writtenNumbers, recordWritten}
 use Rattle.sheet_format.specs.Writing.Laws.{recordWritten-number}
 
 module _ (P : ℕ → Type 0) where
@@ -97,9 +97,9 @@ recordRead-numbers c r m =
     (λ n. refuseIf-in P (ltb (length m) n) 5 refl refl) c r)
 
 pub recordWritten-numbers : (code : ℕ) (h : Heading) (c : Context) (x m : List ℕ)
-    → Among (0 ∷ 15 ∷ 16 ∷ 1 ∷ 2 ∷ 3 ∷ 11 ∷ 4 ∷ 5 ∷ []) (recordWritten code h c x m .answer .number)
+    → Among writtenNumbers (recordWritten code h c x m .answer .number)
 unfolding any
 recordWritten-numbers code h c x m =
-    let P : ℕ → Type 0 = Among (0 ∷ 15 ∷ 16 ∷ 1 ∷ 2 ∷ 3 ∷ 11 ∷ 4 ∷ 5 ∷ []) in
+    let P : ℕ → Type 0 = Among writtenNumbers in
     let given : ListedGiven P = record { p0 = refl; p1 = refl; p2 = refl; p3 = refl; p4 = refl; p11 = refl; p15 = refl } in
     rw (recordWritten-number code h c x m) (writeNumber-in P given (record { p0 = refl; p16 = refl }) refl code h c x (length m))

@@ -12,7 +12,7 @@ use Rattle.sheet_format.specs.Context.{Heading, Context, stateOf}
 use Rattle.sheet_format.specs.Kind.{Kind, afterRecord, contentGiven}
 use Rattle.sheet_format.specs.Kind.Lawful.{Back}
 use Rattle.sheet_format.specs.Kinds.{kindOf}
-use Rattle.sheet_format.specs.Kinds.Laws.{lawful, kindOf-known}
+use Rattle.sheet_format.specs.Kinds.Laws.{lawful, readable-code}
 use Rattle.sheet_format.specs.Record.{recordNumber}
 use Rattle.sheet_format.specs.Record.Laws.{contentNumber-passed}
 use Rattle.sheet_format.specs.Reading.{recordHeld, recordContent, contextAfter, recordJudged, recordRead}
@@ -36,7 +36,7 @@ module _ (code : ℕ) (h : Heading) (c : Context) (x : List ℕ) (small : h .row
   readable = lawful code .readable-back (w .writable)
 
   found : Fields (recordFor code h c x ++ rest) code body
-  found = fields-recordBytes code body rest (omega (arith, kindOf-known code readable)) (back .short)
+  found = fields-recordBytes code body rest (omega (arith, readable-code code readable)) (back .short)
 
   pub recordNumber-back : (m : Lent) → roomNumber m (k .each * k .givenCount x) ≡ 0
       → recordNumber m c (recordFor code h c x ++ rest) ≡ 0

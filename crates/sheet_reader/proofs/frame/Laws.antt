@@ -11,13 +11,11 @@ use Rattle.sheet_format.specs.declared.SheetState.{SheetState}
 use Rattle.sheet_format.specs.declared.RecordRead.{RecordRead}
 use Rattle.sheet_format.specs.Context.{Context, stateOf, contextOf}
 use Rattle.sheet_format.specs.Context.Laws.{stateOf-contextOf}
-use Rattle.sheet_format.specs.Kind.{unknown}
 use Rattle.sheet_format.specs.Kind.Table.{tableOwn, tableKind}
 use Rattle.sheet_format.specs.Kind.PackedRow.{packedKind}
 use Rattle.sheet_format.specs.Kind.PlainRow.{plainKind}
 use Rattle.sheet_format.specs.Kind.ContourLine.{lineKind}
-use Rattle.sheet_format.specs.Kinds.{kindOf}
-use Rattle.sheet_format.specs.Kinds.Laws.{kindOf-unknown}
+use Rattle.sheet_format.specs.Kinds.Laws.{kindOf-other}
 use Rattle.sheet_format.specs.Record.{lengthField, kindField, bodyOf, lengthNumber, contentNumber, recordNumber}
 use Rattle.sheet_format.specs.Record.Laws.{RightLength, lengthNumber-right, right-length}
 use Rattle.sheet_format.specs.Reading.{refusedRecord, held, recordHeld, recordContent, recordJudged, recordRead}
@@ -68,10 +66,6 @@ module _ {room : ℕ} {c : Context} {st : SheetState} {r m : List ℕ} {x : Reco
       record { leaves = rw (sym is ∙ none) l′ }
 
 -- ---- a body, by its kind
-unknown-code : (code : ℕ) → (code ≡ 1 → ⊥) → (code ≡ 2 → ⊥) → (code ≡ 3 → ⊥) → (code ≡ 4 → ⊥) → kindOf code ≡ unknown
-unknown-code zero a b c d = refl
-unknown-code (suc k) a b c d = kindOf-unknown (suc k) (omega arith)
-
 module _ {room : ℕ} {c : Context} {st : SheetState} {b m : List ℕ} {x : RecordRead} {code whole : ℕ} where
   pub table-leaves : code ≡ 1 → x ≡ tableJudged whole c st b → BodyLeaves room code whole c st b m x m
   unfolding contentNumber tableOwn
@@ -96,4 +90,4 @@ module _ {room : ℕ} {c : Context} {st : SheetState} {b m : List ℕ} {x : Reco
 
   pub unknown-leaves : (code ≡ 1 → ⊥) → (code ≡ 2 → ⊥) → (code ≡ 3 → ⊥) → (code ≡ 4 → ⊥) → x ≡ refusedRecord st 15
       → BodyLeaves room code whole c st b m x m
-  unknown-leaves p q s t is = record { leaves = rw (unknown-code code p q s t) (refuses is refl (λ e. omega arith)) }
+  unknown-leaves p q s t is = record { leaves = rw (kindOf-other code p q s t) (refuses is refl (λ e. omega arith)) }

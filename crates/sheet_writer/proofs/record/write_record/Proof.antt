@@ -1,16 +1,11 @@
 -- `sheet_writer::record::write_record` meets its contract: each kind by its own function, and any other number refused.
 -- Assumes nothing.
-use Prim.Native.Nat.{ℕ}
-use native.Mathlib.Decide.{decLt}
 use native.Mathlib.Omega.{arith}
-use mathlib.Core.Logic.{by-cases}
-use mathlib.Core.Path.{_≡_, ap}
+use mathlib.Core.Path.{_≡_}
 use borrow.Author.Needs.{needs}
 use Rattle.sheet_format.specs.Context.{Heading, Context, stateOf, contextOf}
 use Rattle.sheet_format.specs.Context.Laws.{stateOf-contextOf}
-use Rattle.sheet_format.specs.Kind.{unknown}
-use Rattle.sheet_format.specs.Kinds.{kindOf}
-use Rattle.sheet_format.specs.Kinds.Laws.{kindOf-unknown}
+use Rattle.sheet_format.specs.Kinds.Laws.{kindOf-other}
 use Rattle.sheet_format.specs.Writing.{writeNumber}
 use Rattle.sheet_writer.proofs.Frame.{refused-number}
 use Rattle.sheet_writer.proofs.record.write_record.Statement.{statement}
@@ -24,11 +19,6 @@ context c = contextOf (c .args .table .now) (c .args .state)
 
 state-is : (c : tie.Start) → stateOf (context c) ≡ c .args .state
 state-is c = stateOf-contextOf (c .args .table .now) (c .args .state)
-
--- a number that is no kind's
-no-kind : (code : ℕ) → (code ≡ 1 → ⊥) → (code ≡ 2 → ⊥) → (code ≡ 3 → ⊥) → (code ≡ 4 → ⊥) → kindOf code ≡ unknown
-no-kind code not-table not-packed not-plain not-line =
-    by-cases (decLt 4 code) (kindOf-unknown code) (λ h. let none : code ≡ 0 = omega arith in ap kindOf none)
 
 write-table-requires : tie.Need-write-table-requires
 write-table-requires c κs = search needs
@@ -87,7 +77,7 @@ returns-5 c =
     let at-start = c .before .before .before .before .before in
     let a = at-start .args in
     let none = c .before .match .rest in
-    let is = no-kind (a .kind) (none .0 .0 .0 .1) (none .0 .0 .1) (none .0 .1) (none .1) in
+    let is = kindOf-other (a .kind) (none .0 .0 .0 .1) (none .0 .0 .1) (none .0 .1) (none .1) in
     refused-number (a .kind) (heading at-start) (context at-start) (a .content .now) (a .out .now) (state-is at-start) 15
     (rw is) (λ e. omega arith) (c .refused .ensures)
 

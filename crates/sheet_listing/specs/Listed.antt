@@ -4,9 +4,8 @@
 use Prim.Native.Nat.{ℕ}
 use mathlib.Core.List.{List}
 use lib.ListN.{length}
-use lib.Dec.{ltb}
 use Rattle.answer.specs.declared.Answer.{Answer}
-use Rattle.answer.specs.Outcome.{Outcome, outcome, writes, refused, wrote, _orElse_, refuseIf, unless}
+use Rattle.answer.specs.Outcome.{Outcome, outcome, writes, refused, wrote, _orElse_, unless, lent, roomNumber}
 use Rattle.sheet_format.specs.declared.SheetState.{SheetState}
 use Rattle.sheet_format.specs.declared.RecordRead.{RecordRead}
 use Rattle.sheet_format.specs.Context.{Context, stateOf}
@@ -18,7 +17,7 @@ pub mod Laws
 
 -- 5 where a line does not fit
 abbrev pub noRoom : List ℕ → List ℕ → ℕ
-noRoom l m = refuseIf (ltb (length m) (length l)) 5
+noRoom l m = roomNumber (lent (length m)) (length l)
 
 -- a line at the front of the memory
 unfoldable pub lineGiven : List ℕ → List ℕ → Outcome Answer
@@ -29,14 +28,14 @@ abbrev pub notListed : SheetState → ℕ → Listed
 notListed st e = record { read = refusedRecord st e; count = 0 }
 
 -- by the number that it is refused with, the record's or 5, and what was judged
-abbrev pub listedUnless : ℕ → SheetState → RecordRead → List ℕ → List ℕ → Outcome Listed
-listedUnless e st a l m = unless e (λ k. outcome (notListed st k) m) (writes (record { read = a; count = length l }) l m)
+abbrev pub judgedListed : ℕ → SheetState → RecordRead → List ℕ → List ℕ → Outcome Listed
+judgedListed e st a l m = unless e (λ k. outcome (notListed st k) m) (writes (record { read = a; count = length l }) l m)
 
 -- an accepted record with the line l
 abbrev pub lineListed : List ℕ → RecordRead → SheetState → List ℕ → Outcome Listed
-lineListed l a st m = listedUnless (noRoom l m) st a l m
+lineListed l a st m = judgedListed (noRoom l m) st a l m
 
 unfoldable pub recordListed : Context → List ℕ → List ℕ → Outcome Listed
 recordListed c r m =
     let l : List ℕ = recordLine (recordHere c r) in
-    listedUnless (recordJudged c r .number orElse noRoom l m) (stateOf c) (recordJudged c r) l m
+    judgedListed (recordJudged c r .number orElse noRoom l m) (stateOf c) (recordJudged c r) l m

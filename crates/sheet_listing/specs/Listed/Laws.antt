@@ -21,13 +21,13 @@ use Rattle.sheet_format.specs.Theorems.{record-length, kept-table, judged-refus
 use Rattle.text.specs.Put.{Put}
 use Rattle.sheet_listing.specs.declared.Listed.{Listed}
 use Rattle.sheet_listing.specs.Line.{answerLine, recordLine}
-use Rattle.sheet_listing.specs.Listed.{noRoom, lineGiven, listedUnless, lineListed, recordListed}
+use Rattle.sheet_listing.specs.Listed.{noRoom, lineGiven, judgedListed, lineListed, recordListed}
 
 refused-any : (a : RecordRead) (st : SheetState) (l m : List ℕ) → (a .number ≡ 0 → ⊥) → a ≡ refusedRecord st (a .number)
-    → outcome (record { read = a; count = 0 }) m ≡ listedUnless (a .number orElse noRoom l m) st a l m
+    → outcome (record { read = a; count = 0 }) m ≡ judgedListed (a .number orElse noRoom l m) st a l m
 refused-any a st l m h e = go (a .number) refl
   where
-    go : (n : ℕ) → a .number ≡ n → outcome (record { read = a; count = 0 }) m ≡ listedUnless (n orElse noRoom l m) st a l m
+    go : (n : ℕ) → a .number ≡ n → outcome (record { read = a; count = 0 }) m ≡ judgedListed (n orElse noRoom l m) st a l m
     go zero z = absurd (h z)
     go (suc n) z = rw (e, z)
 
@@ -104,7 +104,7 @@ module _ (tb r : List ℕ) (st : SheetState) (m : List ℕ) (a : RecordRead) (ju
 
 -- ---- what a caller learns of a listed record
 unless-fits : (n : ℕ) (st : SheetState) (a : RecordRead) (l m : List ℕ) → n ≡ 0 → length l ≤ length m
-    → listedUnless (n orElse noRoom l m) st a l m ≡ outcome (record { read = a; count = length l }) (l ++ drop (length l) m)
+    → judgedListed (n orElse noRoom l m) st a l m ≡ outcome (record { read = a; count = length l }) (l ++ drop (length l) m)
 unless-fits n st a l m ok fits = rw (ok, le-ltb (length m) (length l) fits)
 
 module _ (tb r : List ℕ) (st : SheetState) (m : List ℕ) where
@@ -122,12 +122,12 @@ room-there zero l m e = by-test (ltb (length m) (length l))
 room-there (suc n) l m e = absurd (omega arith)
 
 unless-count : (e : ℕ) (st : SheetState) (a : RecordRead) (l m : List ℕ) → (e ≡ 0 → length l ≤ length m)
-    → listedUnless e st a l m .answer .count ≤ length m
+    → judgedListed e st a l m .answer .count ≤ length m
 unless-count zero st a l m h = h refl
 unless-count (suc e) st a l m h = omega arith
 
-unless-read : (e : ℕ) (st : SheetState) (a : RecordRead) (l m : List ℕ) → listedUnless e st a l m .answer .read .number ≡ 0
-    → listedUnless e st a l m .answer .read ≡ a
+unless-read : (e : ℕ) (st : SheetState) (a : RecordRead) (l m : List ℕ) → judgedListed e st a l m .answer .read .number ≡ 0
+    → judgedListed e st a l m .answer .read ≡ a
 unless-read zero st a l m z = refl
 unless-read (suc e) st a l m z = absurd (omega arith)
 

@@ -32,7 +32,7 @@ pub record Walked (n : ℕ) (s : List ℕ) (at i : ℕ) : Type 0 where
   pub so-far : LineSoFar n s values at (n - i)
 
 -- and their 4 bytes each stand at the front of the memory m, which is out now
-pub record Kept (n : ℕ) (s m out : List ℕ) (at i : ℕ) : Type 0 where
+pub record NumbersKept (n : ℕ) (s m out : List ℕ) (at i : ℕ) : Type 0 where
   pub walked : Walked n s at i
   pub same : length out ≡ length m
   pub front : out ≡ numberBytes (numbers (walked .values) at) ++ drop (4 * i) m
@@ -91,15 +91,15 @@ put-next f x m k size =
     ∙ drop-drop (length x) k m in
     rw (take-at f (drop k m) k size, past)
 
-pub keep-start : {n : ℕ} {s m : List ℕ} → Kept n s m m 0 0
+pub keep-start : {n : ℕ} {s m : List ℕ} → NumbersKept n s m m 0 0
 unfolding walk-start cut
 keep-start = record { walked = walk-start; same = refl; front = refl }
 
-module _ {n : ℕ} {s m out : List ℕ} {at i : ℕ} (k : Kept n s m out at i) where
+module _ {n : ℕ} {s m out : List ℕ} {at i : ℕ} (k : NumbersKept n s m out at i) where
   pub keep-more : i < n → 4 * n ≤ length m → faultNumber (readLine n s) ≡ 0
       → {r : SignedRead} → r ≡ signedRead (partFrom at s)
       → {v : ℕ} → v ≡ wordOf (r .value) → {out′ : List ℕ} → out′ ≡ overwritten out (4 * i) (bytesOf 4 (digits 32 v))
-      → Kept n s m out′ (at + r .used) (i + 1)
+      → NumbersKept n s m out′ (at + r .used) (i + 1)
   unfolding walk-more
   keep-more more room right {r} read {v} word put =
       let w = k .walked in

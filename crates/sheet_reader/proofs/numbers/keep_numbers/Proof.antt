@@ -9,13 +9,13 @@ use mir.Syntax.{w32}
 use mir.Val.{SFits}
 use mir.Facts.{toZ-ofZ}
 use Rattle.sheet_format.specs.Line.{wordOf}
-use Rattle.sheet_reader.proofs.numbers.Laws.{Kept}
+use Rattle.sheet_reader.proofs.numbers.Laws.{NumbersKept}
 use Rattle.sheet_reader.proofs.numbers.Laws.{walk-there, keep-start, keep-more, keep-all}
 use Rattle.sheet_reader.proofs.numbers.keep_numbers.Statement.{statement}
 use Rattle.sheet_reader.proofs.numbers.keep_numbers.Tie as tie
 
 abbrev Inv-loop : tie.InvT-loop
-Inv-loop line count room content₀ at₀ i₀ content at i = Kept count line content₀ content at i
+Inv-loop line count room content₀ at₀ i₀ content at i = NumbersKept count line content₀ content at i
 
 abbrev μ-loop : tie.MeasureT-loop
 μ-loop line count room content₀ at₀ i₀ content at i = count - i

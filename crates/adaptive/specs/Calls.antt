@@ -3,10 +3,9 @@
 use Prim.Native.Nat.{ℕ}
 use mathlib.Core.List.{List}
 use lib.ListN.{length}
-use lib.Dec.{ltb}
 use lib.IntN.{ℤ, pos}
 use Rattle.answer.specs.declared.Answer.{Answer}
-use Rattle.answer.specs.Outcome.{Outcome, refused, wrote, refuseIf, unless}
+use Rattle.answer.specs.Outcome.{Outcome, refused, wrote, unless, lent, roomNumber}
 use Rattle.adaptive.specs.declared.SignedRead.{SignedRead}
 use Rattle.adaptive.specs.declared.UnsignedRead.{UnsignedRead}
 use Rattle.adaptive.specs.Number.{Reading, accepted, rejected, signed, unsigned, readAs, shortest}
@@ -29,7 +28,7 @@ unsignedRead s = unsignedAnswer (readAs unsigned s)
 
 -- the bytes b at the front of the lent memory m; 5 where "lent room smaller than this call's output"
 unfoldable pub written : List ℕ → List ℕ → Outcome Answer
-written b m = unless (refuseIf (ltb (length m) (length b)) 5) (λ e. refused e m) (wrote (length b) b m)
+written b m = unless (roomNumber (lent (length m)) (length b)) (λ e. refused e m) (wrote (length b) b m)
 
 unfoldable pub signedWritten : ℤ → List ℕ → Outcome Answer
 signedWritten v m = written (shortest signed v) m

@@ -35,12 +35,12 @@ unless zero refusal done = done
 unless (suc e) refusal done = refusal (suc e)
 
 -- ---- 5: "lent room smaller than this call's output"
--- the bytes lent for a call's output. A call that only judges lends nothing and is never refused 5
+-- how much is lent for a call's output, in bytes or in words. A call that only judges lends nothing and is never refused 5
 pub data Lent : Type 0 where
   nothing : Lent
   lent : ℕ → Lent
 
--- for an output of n bytes
+-- for an output of n
 abbrev pub roomNumber : Lent → ℕ → ℕ
 roomNumber nothing n = 0
 roomNumber (lent m) n = refuseIf (ltb m n) 5

@@ -2,16 +2,15 @@
 use Prim.Native.Nat.{ℕ, _*_}
 use mathlib.Core.List.{List}
 use lib.ListN.{length}
-use lib.Dec.{ltb}
 use Rattle.bitstream.specs.Bits.{flat, bytesOf}
 use Rattle.answer.specs.declared.Answer.{Answer}
-use Rattle.answer.specs.Outcome.{Outcome, refused, wrote, refuseIf, unless}
+use Rattle.answer.specs.Outcome.{Outcome, refused, wrote, unless, lent, roomNumber}
 use Rattle.row_format.specs.Plain.{plainBytes}
 pub mod Laws
 
 -- its bytes at the front of the lent memory; 5 where they do not fit
 unfoldable pub plainLent : List ℕ → Outcome Answer
-plainLent m = unless (refuseIf (ltb (length m) 2072) 5) (λ e. refused e m) (wrote 2072 plainBytes m)
+plainLent m = unless (roomNumber (lent (length m)) 2072) (λ e. refused e m) (wrote 2072 plainBytes m)
 
 -- the bytes of words
 unfoldable pub wordBytes : List ℕ → List ℕ

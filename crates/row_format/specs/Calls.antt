@@ -9,10 +9,10 @@ use lib.Dec.{ltb}
 use Rattle.bitstream.specs.Bits.{wordsOf, halvesOf, wordsFor}
 use Rattle.row_format.specs.Lists.{any}
 use Rattle.row_format.specs.Table.{tableNumber, maxItemBits}
-use Rattle.row_format.specs.Row.{fresh, rowBits, rowBytes, pixelsOf, pixelBytes, tooMany, Item}
+use Rattle.row_format.specs.Row.{fresh, rowBits, rowBytes, pixelsOf, pixelBytes, tooMany, tooHigh, Item}
 use Rattle.row_format.specs.Reading.{Run, done, stop, bitsOfRun, rowReading, Reads}
 use Rattle.answer.specs.declared.Answer.{Answer}
-use Rattle.answer.specs.Outcome.{Outcome, answerOf, refusal, refused, wrote, _orElse_, refuseIf, unless, lent}
+use Rattle.answer.specs.Outcome.{Outcome, answerOf, refusal, refused, wrote, _orElse_, unless, lent, roomNumber}
 pub mod Laws
 
 -- ---- the table check: the number and, where accepted, M
@@ -22,9 +22,8 @@ checked tb = unless (tableNumber tb) refusal (answerOf 0 (maxItemBits (wordsOf t
 -- ---- packing, "1, 2, 3, 11, 4, 5": the bits that the row takes, and its words
 unfoldable pub packNumber : List ℕ → List ℕ → ℕ → ℕ
 packNumber tb ps roomWords =
-    tableNumber tb orElse tooMany (length ps)
-    orElse refuseIf (any (ltb 4095) ps) 4
-    orElse refuseIf (ltb roomWords (wordsFor (length (rowBits (wordsOf tb) ps)))) 5
+    tableNumber tb orElse tooMany (length ps) orElse tooHigh ps
+    orElse roomNumber (lent roomWords) (wordsFor (length (rowBits (wordsOf tb) ps)))
 
 -- what the refusals before the one for room ask of a table and a row
 pub record Packable (tb ps : List ℕ) : Type 0 where

@@ -6,12 +6,17 @@ use lib.ListN.{length}
 use lib.Dec.{ltb, eqb}
 use Rattle.bitstream.specs.Bits.{digits, flat, bytesOf, wordsFor}
 use Rattle.answer.specs.Outcome.{refuseIf}
+use Rattle.row_format.specs.Lists.{any}
 use Rattle.row_format.specs.Table.{lowLimit, hasDifference, codewordAt}
 pub mod Laws
 
 -- "at most 4096 a row". 11: "more than 4096 pixels or numbers"
 abbrev pub tooMany : ℕ → ℕ
 tooMany n = refuseIf (ltb 4096 n) 11
+
+-- 4: "a pixel above 4095"
+abbrev pub tooHigh : List ℕ → ℕ
+tooHigh ps = refuseIf (any (ltb 4095) ps) 4
 
 -- "An item is thus one of four": a difference (document 01: a step, held as its count from -4093), bad pixel, bad bias, or
 -- an escape (document 01: raw) with its height

@@ -5,8 +5,7 @@ use Prim.Native.Nat.{ℕ, _+_}
 use mathlib.Core.Path.{_≡_}
 use mathlib.Core.List.{List, [], _∷_, _++_}
 use lib.ListN.{length}
-use lib.Dec.{ltb}
-use Rattle.answer.specs.Outcome.{Outcome, outcome, writes, _orElse_, refuseIf, unless}
+use Rattle.answer.specs.Outcome.{Outcome, outcome, writes, _orElse_, unless, lent, roomNumber}
 use Rattle.sheet_format.specs.declared.SheetState.{SheetState}
 use Rattle.sheet_format.specs.declared.RecordWritten.{RecordWritten}
 use Rattle.sheet_format.specs.Context.{Heading, Context, stateOf}
@@ -29,7 +28,7 @@ writeNumber code h c x roomBytes =
     kindOf code .writable
     orElse kindOf code .place c h
     orElse kindOf code .given h c x
-    orElse refuseIf (ltb roomBytes (length (recordFor code h c x))) 5
+    orElse roomNumber (lent roomBytes) (length (recordFor code h c x))
 
 -- the numbers that writing a record may answer
 abbrev pub writtenNumbers : List ℕ

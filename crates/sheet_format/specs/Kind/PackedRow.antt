@@ -6,12 +6,12 @@ use lib.Dec.{ltb}
 use Rattle.bitstream.specs.Bits.{wordsOf, wordsFor}
 use Rattle.answer.specs.Outcome.{_orElse_, refuseIf, Lent, nothing}
 use Rattle.row_format.specs.Table.{tableNumber}
-use Rattle.row_format.specs.Row.{rowBits, rowBytes, pixelBytes, tooMany}
+use Rattle.row_format.specs.Row.{rowBits, rowBytes, pixelBytes, tooMany, tooHigh}
 use Rattle.row_format.specs.Reading.{Run, runNumber, bitsOfRun, pixelsOfRun, rowReading}
 use Rattle.sheet_format.specs.Context.{Heading, Context, tableFor}
 use Rattle.sheet_format.specs.Fields.{shorterThan, notWords}
 use Rattle.sheet_format.specs.Kind.{Kind, aRow}
-use Rattle.sheet_format.specs.Kind.Row.{rowHeading, pixelCount, rowContent, rowPlace, givenPixels, tooHigh, rowBody}
+use Rattle.sheet_format.specs.Kind.Row.{rowHeading, pixelCount, rowContent, rowPlace, givenPixels, rowBody}
 pub mod Laws
 
 -- the row's words are read as unpacking reads them, under the table that the row uses

@@ -6,11 +6,11 @@ use lib.ListN.{length, take}
 use lib.Dec.{eqb}
 use Rattle.bitstream.specs.Bits.{halvesOf}
 use Rattle.answer.specs.Outcome.{_orElse_, refuseIf, Lent, roomNumber}
-use Rattle.row_format.specs.Row.{tooMany}
+use Rattle.row_format.specs.Row.{tooMany, tooHigh}
 use Rattle.sheet_format.specs.Context.{Heading, Context}
 use Rattle.sheet_format.specs.Fields.{shorterThan}
 use Rattle.sheet_format.specs.Kind.{Kind, aRow}
-use Rattle.sheet_format.specs.Kind.Row.{rowHeading, pixelCount, rowContent, rowPlace, givenPixels, tooHigh, rowBody}
+use Rattle.sheet_format.specs.Kind.Row.{rowHeading, pixelCount, rowContent, rowPlace, givenPixels, rowBody}
 pub mod Laws
 
 -- "Kind 3: 11, 14 unless the bytes are twice the count, 4"; nothing else can be left over

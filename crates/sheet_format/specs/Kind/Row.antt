@@ -6,7 +6,6 @@ use lib.ListN.{length, drop}
 use lib.Dec.{ltb, eqb}
 use Rattle.bitstream.specs.Bits.{halvesOf}
 use Rattle.answer.specs.Outcome.{_orElse_, refuseIf}
-use Rattle.row_format.specs.Lists.{any}
 use Rattle.sheet_format.specs.Context.{Heading, Context}
 use Rattle.sheet_format.specs.Fields.{twoBytes, twoAt}
 pub mod Laws
@@ -31,10 +30,6 @@ rowPlace c h = noTable c orElse refuseIf (ltb (h .row) (c .least)) 16
 -- ---- in writing; an incomplete pixel at the end counts for nothing
 abbrev pub givenPixels : List ℕ → List ℕ
 givenPixels x = halvesOf x
-
--- 4: "a pixel above 4095"
-abbrev pub tooHigh : List ℕ → ℕ
-tooHigh ps = refuseIf (any (ltb 4095) ps) 4
 
 abbrev pub rowBody : Heading → List ℕ → List ℕ → List ℕ
 rowBody h x w = twoBytes (h .row) ++ (twoBytes (length (givenPixels x)) ++ w)

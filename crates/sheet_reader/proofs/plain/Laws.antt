@@ -13,12 +13,13 @@ use Rattle.bitstream.specs.Memory.Part.{partFrom, part-is}
 use Rattle.answer.specs.Outcome.{_orElse_, lent, roomNumber}
 use Rattle.answer.specs.Outcome.Laws.{lessNumber-zero, unequalNumber-none, unequalNumber-given, orElse-assoc, given-first, given-next}
 use Rattle.row_format.specs.Lists.{any}
+use Rattle.row_format.specs.Row.{tooHigh}
 use Rattle.sheet_format.specs.declared.SheetState.{SheetState}
 use Rattle.sheet_format.specs.declared.RecordRead.{RecordRead}
 use Rattle.sheet_format.specs.Context.{Context, stateOf}
 use Rattle.sheet_format.specs.Fields.{shorterThan}
 use Rattle.sheet_format.specs.Kind.{aRow, afterRecord}
-use Rattle.sheet_format.specs.Kind.Row.{rowHeading, pixelCount, rowContent, rowPlace, tooHigh}
+use Rattle.sheet_format.specs.Kind.Row.{rowHeading, pixelCount, rowContent, rowPlace}
 use Rattle.sheet_format.specs.Kind.PlainRow.{plainNumber, plainOwn, plainContent, plainKind}
 use Rattle.sheet_format.specs.Kind.PlainRow.Laws.{plain-lawful}
 use Rattle.sheet_format.specs.Record.{contentNumber}

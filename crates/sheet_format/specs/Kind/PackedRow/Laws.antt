@@ -14,7 +14,7 @@ use Rattle.answer.specs.Outcome.Laws.{lessNumber-none, unequalNumber-none, refu
 use Rattle.row_format.specs.Lists.{any}
 use Rattle.row_format.specs.Table.{tableNumber}
 use Rattle.row_format.specs.Table.Laws.{accepted, tableNumber-verdict, maxItemBits-most}
-use Rattle.row_format.specs.Row.{fresh, pixelsOf, itemsFor, rowBits, rowBytes, pixelBytes, tooMany}
+use Rattle.row_format.specs.Row.{fresh, pixelsOf, itemsFor, rowBits, rowBytes, pixelBytes, tooMany, tooHigh}
 use Rattle.row_format.specs.Row.Laws.{length-pixelsOf, tooMany-zero}
 use Rattle.row_format.specs.Reading.{Run, done, stop, runNumber, bitsOfRun, pixelsOfRun, readItems, withoutStray, firstNumber, rowReading}
 use Rattle.row_format.specs.Theorems.Bounds.{length-rowBits}
@@ -26,7 +26,7 @@ use Rattle.sheet_format.specs.Context.{Heading, Context, tableFor}
 use Rattle.sheet_format.specs.Fields.{shorterThan}
 use Rattle.sheet_format.specs.Kind.{aRow, afterRecord}
 use Rattle.sheet_format.specs.Kind.Lawful.{Listed, ListedGiven, Back, Lawful}
-use Rattle.sheet_format.specs.Kind.Row.{rowHeading, pixelCount, rowContent, rowPlace, givenPixels, tooHigh}
+use Rattle.sheet_format.specs.Kind.Row.{rowHeading, pixelCount, rowContent, rowPlace, givenPixels}
 use Rattle.sheet_format.specs.Kind.Row.Laws.{RowFields, row-fields, given-pixels, pixels-size, rowPlace-table, rowPlace-risen, rowPlace-in}
 use Rattle.sheet_format.specs.Kind.PackedRow.{packedReading, packedLeftover, packedOwn, packedBits, packedContent, packedGiven, packedBody, packedTakes, packedKind}
 

@@ -10,12 +10,12 @@ use Rattle.bitstream.specs.Bits.{halvesOf, Below}
 use Rattle.answer.specs.Outcome.{_orElse_, refuseIf, Lent, nothing, roomNumber}
 use Rattle.answer.specs.Outcome.Laws.{lessNumber-none, unequalNumber-none, unequalNumber-zero, refuseIf-zero, refuseIf-in, orElse-in, orElse-none, orElse-zero-left, orElse-zero-right}
 use Rattle.row_format.specs.Lists.{any}
-use Rattle.row_format.specs.Row.{tooMany}
+use Rattle.row_format.specs.Row.{tooMany, tooHigh}
 use Rattle.row_format.specs.Row.Laws.{tooMany-zero}
 use Rattle.sheet_format.specs.Context.{Heading, Context}
 use Rattle.sheet_format.specs.Kind.{aRow, afterRecord}
 use Rattle.sheet_format.specs.Kind.Lawful.{Listed, ListedGiven, Back, Lawful}
-use Rattle.sheet_format.specs.Kind.Row.{rowHeading, pixelCount, rowContent, rowPlace, givenPixels, tooHigh}
+use Rattle.sheet_format.specs.Kind.Row.{rowHeading, pixelCount, rowContent, rowPlace, givenPixels}
 use Rattle.sheet_format.specs.Kind.Row.Laws.{RowFields, row-fields, given-pixels, pixels-size, halves-same, rowPlace-table, rowPlace-risen, rowPlace-in}
 use Rattle.sheet_format.specs.Kind.PlainRow.{plainNumber, plainOwn, plainContent, plainGiven, plainBody, plainKind}
 

@@ -14,26 +14,26 @@ pub mod ContourLine
 pub mod Lawful
 
 -- what a record of a kind holds
-pub data Holds : Type 0 where
-  aTable : Holds
-  aRow : Holds
-  aLine : Holds
-  nothing : Holds
+pub data Payload : Type 0 where
+  aTable : Payload
+  aRow : Payload
+  aLine : Payload
+  noPayload : Payload
 
-abbrev pub isTable : Holds → Bool
+abbrev pub isTable : Payload → Bool
 isTable aTable = true
 isTable aRow = false
 isTable aLine = false
-isTable nothing = false
+isTable noPayload = false
 
-abbrev pub isRow : Holds → Bool
+abbrev pub isRow : Payload → Bool
 isRow aTable = false
 isRow aRow = true
 isRow aLine = false
-isRow nothing = false
+isRow noPayload = false
 
 pub record Kind : Type 0 where
-  pub holds : Holds
+  pub holds : Payload
   -- 0, or the number that refuses the kind in reading, and in writing
   pub readable : ℕ
   pub writable : ℕ
@@ -62,7 +62,7 @@ pub record Kind : Type 0 where
 -- "15: unknown kind"
 abbrev pub unknown : Kind
 unknown = record {
-  holds = nothing;
+  holds = noPayload;
   readable = 15;
   writable = 15;
   fixed = λ b. 0;
@@ -80,25 +80,25 @@ unknown = record {
 }
 
 -- what the sheet holds after an accepted or written record, by its heading and its body or content
-abbrev pub afterRecord : Holds → Heading → List ℕ → Context → Context
+abbrev pub afterRecord : Payload → Heading → List ℕ → Context → Context
 afterRecord aTable h b c = record { tables = c .tables ++ (b ∷ []); least = c .least }
 afterRecord aRow h b c = record { tables = c .tables; least = h .row + 1 }
 afterRecord aLine h b c = c
-afterRecord nothing h b c = c
+afterRecord noPayload h b c = c
 
 -- the table that a caller lends for the records after it
-abbrev pub tableKept : Holds → List ℕ → List ℕ → List ℕ
+abbrev pub tableKept : Payload → List ℕ → List ℕ → List ℕ
 tableKept aTable tb b = b
 tableKept aRow tb b = tb
 tableKept aLine tb b = tb
-tableKept nothing tb b = tb
+tableKept noPayload tb b = tb
 
 -- the heading that a record keeps of the one that is given
-abbrev pub headingKept : Holds → Heading → Heading
+abbrev pub headingKept : Payload → Heading → Heading
 headingKept aTable h = noHeading
 headingKept aRow h = h
 headingKept aLine h = noHeading
-headingKept nothing h = noHeading
+headingKept noPayload h = noHeading
 
 -- the content that was given, but for an incomplete pixel or number at its end
 abbrev pub contentGiven : Kind → List ℕ → List ℕ

@@ -11,7 +11,7 @@ use Rattle.bitstream.specs.Bits.{halvesOf, wordsOf}
 use Rattle.sheet_format.specs.declared.RecordRead.{RecordRead}
 use Rattle.sheet_format.specs.Context.{Context, newSheet}
 use Rattle.sheet_format.specs.Line.{signedOf}
-use Rattle.sheet_format.specs.Kind.{Holds, aTable, aRow, aLine, nothing}
+use Rattle.sheet_format.specs.Kind.{Payload, aTable, aRow, aLine, noPayload}
 use Rattle.sheet_format.specs.Kinds.{kindOf}
 use Rattle.sheet_format.specs.Reading.{contextAfter, recordContent, recordJudged}
 pub mod Laws
@@ -84,7 +84,7 @@ sheetRead (x ∷ r) = records newSheet (x ∷ r)
 
 -- ---- what records store
 -- what a record holds: a table, a row or a line
-abbrev pub recordHolds : SheetRecord → Holds
+abbrev pub recordHolds : SheetRecord → Payload
 recordHolds x = kindOf (x .answer .kind) .holds
 
 -- a row: its number and its heights
@@ -95,11 +95,11 @@ pub record StoredRow : Type 0 where
 abbrev pub rowOf : SheetRecord → StoredRow
 rowOf x = record { number = x .answer .row; heights = halvesOf (x .content) }
 
-abbrev pub withRow : Holds → StoredRow → List StoredRow → List StoredRow
+abbrev pub withRow : Payload → StoredRow → List StoredRow → List StoredRow
 withRow aTable y ys = ys
 withRow aRow y ys = y ∷ ys
 withRow aLine y ys = ys
-withRow nothing y ys = ys
+withRow noPayload y ys = ys
 
 -- the rows, as their records come
 unfoldable pub storedRows : List SheetRecord → List StoredRow
@@ -110,11 +110,11 @@ storedRows (x ∷ xs) = withRow (recordHolds x) (rowOf x) (storedRows xs)
 abbrev pub numbersHeld : SheetRecord → List ℤ
 numbersHeld x = map signedOf (wordsOf (x .content))
 
-abbrev pub withLine : Holds → List ℤ → List (List ℤ) → List (List ℤ)
+abbrev pub withLine : Payload → List ℤ → List (List ℤ) → List (List ℤ)
 withLine aTable y ys = ys
 withLine aRow y ys = ys
 withLine aLine y ys = y ∷ ys
-withLine nothing y ys = ys
+withLine noPayload y ys = ys
 
 -- the lines' numbers, as their records come
 unfoldable pub storedLines : List SheetRecord → List (List ℤ)

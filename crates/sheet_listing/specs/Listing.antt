@@ -3,7 +3,7 @@
 use Prim.Native.Nat.{ℕ, _+_}
 use mathlib.Core.List.{List, [], _∷_, _++_}
 use lib.ListN.{length}
-use Rattle.sheet_format.specs.Kind.{Holds, aTable, aRow, aLine, nothing}
+use Rattle.sheet_format.specs.Kind.{Payload, aTable, aRow, aLine, noPayload}
 use Rattle.sheet_format.specs.Sheet.{SheetRecord, SheetRead, sheetRead, rowNumbers}
 use Rattle.sheet_listing.specs.Line.{recordLine, lastLine}
 pub mod Laws
@@ -23,8 +23,8 @@ unfoldable pub listing : List ℕ → List ℕ
 listing bytes = listingFrom 0 0 (sheetRead bytes)
 
 -- whether a record counts as a row, as 1 or 0
-abbrev pub rowsOf : Holds → ℕ
+abbrev pub rowsOf : Payload → ℕ
 rowsOf aTable = 0
 rowsOf aRow = 1
 rowsOf aLine = 0
-rowsOf nothing = 0
+rowsOf noPayload = 0

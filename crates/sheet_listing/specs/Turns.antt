@@ -9,7 +9,7 @@ use lib.Dec.{eqb}
 use Rattle.sheet_format.specs.declared.SheetState.{SheetState}
 use Rattle.sheet_format.specs.declared.RecordRead.{RecordRead}
 use Rattle.sheet_format.specs.Context.{contextOf}
-use Rattle.sheet_format.specs.Kind.{Holds, tableKept}
+use Rattle.sheet_format.specs.Kind.{Payload, tableKept}
 use Rattle.sheet_format.specs.Kinds.{kindOf}
 use Rattle.sheet_format.specs.Record.{bodyOf, recordSpan}
 use Rattle.sheet_format.specs.Reading.{recordJudged}
@@ -23,7 +23,7 @@ abbrev pub heldOf : List ℕ → List ℕ
 heldOf r = take (recordSpan r) r
 
 -- what a record of a kind holds, by its answer
-abbrev pub holdsOf : RecordRead → Holds
+abbrev pub holdsOf : RecordRead → Payload
 holdsOf a = kindOf (a .kind) .holds
 
 -- the text from a place on, where tb and st are what the sheet holds so far, after so many records and rows. A turn takes at

@@ -14,7 +14,7 @@ use Rattle.answer.specs.declared.Answer.{Answer}
 use Rattle.answer.specs.Outcome.{Outcome, outcome, wrote}
 use Rattle.row_format.specs.Lists.Laws.{by-test, true-false}
 use Rattle.sheet_format.specs.declared.RecordRead.{RecordRead}
-use Rattle.sheet_format.specs.Kind.{Holds, aTable, aRow, aLine, nothing, isTable, isRow, tableKept}
+use Rattle.sheet_format.specs.Kind.{Payload, aTable, aRow, aLine, noPayload, isTable, isRow, tableKept}
 use Rattle.sheet_format.specs.Reading.Laws.{judged-body}
 use Rattle.sheet_format.specs.Theorems.{record-length}
 use Rattle.sheet_listing.specs.declared.Listed.{Listed}
@@ -89,35 +89,35 @@ put-last p block l room {a} {y} given most =
     (omega arith, rw (part-back (p .filled) block y, memory, count) (behind (p .filled) block l (drop (length l) m) (omega arith)))
 
 -- ---- the table and the rows, by what the record holds
-pub table-kept : (s : Holds) (tb b : List ℕ) → isTable s ≡ false → tableKept s tb b ≡ tb
+pub table-kept : (s : Payload) (tb b : List ℕ) → isTable s ≡ false → tableKept s tb b ≡ tb
 table-kept aTable tb b other = true-false refl other
 table-kept aRow tb b other = refl
 table-kept aLine tb b other = refl
-table-kept nothing tb b other = refl
+table-kept noPayload tb b other = refl
 
-pub table-new : (s : Holds) (tb b : List ℕ) → isTable s ≡ true → tableKept s tb b ≡ b
+pub table-new : (s : Payload) (tb b : List ℕ) → isTable s ≡ true → tableKept s tb b ≡ b
 table-new aTable tb b is = refl
 table-new aRow tb b is = true-false is refl
 table-new aLine tb b is = true-false is refl
-table-new nothing tb b is = true-false is refl
+table-new noPayload tb b is = true-false is refl
 
-pub rows-one : (s : Holds) → isRow s ≡ true → rowsOf s ≡ 1
+pub rows-one : (s : Payload) → isRow s ≡ true → rowsOf s ≡ 1
 rows-one aTable is = true-false is refl
 rows-one aRow is = refl
 rows-one aLine is = true-false is refl
-rows-one nothing is = true-false is refl
+rows-one noPayload is = true-false is refl
 
-pub rows-none : (s : Holds) → isRow s ≡ false → rowsOf s ≡ 0
+pub rows-none : (s : Payload) → isRow s ≡ false → rowsOf s ≡ 0
 rows-none aTable other = refl
 rows-none aRow other = true-false refl other
 rows-none aLine other = refl
-rows-none nothing other = refl
+rows-none noPayload other = refl
 
-pub rowsOf-most : (s : Holds) → rowsOf s ≤ 1
+pub rowsOf-most : (s : Payload) → rowsOf s ≤ 1
 rowsOf-most aTable = omega arith
 rowsOf-most aRow = omega arith
 rowsOf-most aLine = omega arith
-rowsOf-most nothing = omega arith
+rowsOf-most noPayload = omega arith
 
 -- ---- the whole turn
 module _ {r : List ℕ} {p : Progress} {table block : List ℕ} {x : Listed} {block′ : List ℕ} (put : Put r p table block x block′) where

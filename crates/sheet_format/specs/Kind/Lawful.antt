@@ -4,8 +4,7 @@ use mathlib.Core.Path.{_≡_}
 use mathlib.Core.List.{List}
 use lib.ListN.{length}
 use Rattle.bitstream.specs.Bits.{Below}
-use Rattle.answer.specs.Outcome.{_orElse_, Lent, lent, roomNumber}
-use Rattle.answer.specs.Outcome as answers
+use Rattle.answer.specs.Outcome.{_orElse_, Lent, nothing, roomNumber}
 use Rattle.sheet_format.specs.Context.{Heading, Context}
 use Rattle.sheet_format.specs.Kind.{Kind, aTable, aRow, afterRecord, headingKept, contentGiven}
 
@@ -79,7 +78,7 @@ pub record Lawful (k : Kind) : Type 1 where
   pub own-parts : (m : Lent) (c : Context) (b : List ℕ)
       → k .own m c b ≡ first c b orElse (roomNumber m (k .each * k .count b) orElse last c b)
   pub most : (c : Context) (b : List ℕ) → first c b ≡ 0 → k .each * k .count b ≤ 16384
-  pub size : (c : Context) (b : List ℕ) → k .own answers.nothing c b ≡ 0 → length (k .content c b) ≡ k .each * k .count b
+  pub size : (c : Context) (b : List ℕ) → k .own nothing c b ≡ 0 → length (k .content c b) ≡ k .each * k .count b
   pub given-size : (x : List ℕ) → k .each * k .givenCount x ≤ length x
   -- ---- places
   pub table-placed : k .holds ≡ aTable → (c : Context) (h : Heading) → k .place c h ≡ 0 → length (c .tables) ≡ 0

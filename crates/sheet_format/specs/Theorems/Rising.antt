@@ -6,7 +6,7 @@ use mathlib.Core.Path.{_≡_, refl}
 use mathlib.Core.List.{List, [], _∷_, map}
 use lib.ListN.{length, getD}
 use Rattle.sheet_format.specs.Context.{Heading, Context, newSheet}
-use Rattle.sheet_format.specs.Kind.{Holds, aTable, aRow, aLine, nothing, afterRecord}
+use Rattle.sheet_format.specs.Kind.{Payload, aTable, aRow, aLine, noPayload, afterRecord}
 use Rattle.sheet_format.specs.Kinds.{kindOf}
 use Rattle.sheet_format.specs.Kinds.Laws.{lawful}
 use Rattle.sheet_format.specs.Record.{bodyOf, kindField}
@@ -21,14 +21,14 @@ Rising low [] = Unit {0}
 Rising low (y ∷ ys) = (low ≤ y .number) × Rising (suc (y .number)) ys
 
 -- ---- one record
-row-rises : (s : Holds) (h : Heading) (b : List ℕ) (c : Context) (y : StoredRow) (ys : List StoredRow)
+row-rises : (s : Payload) (h : Heading) (b : List ℕ) (c : Context) (y : StoredRow) (ys : List StoredRow)
     → y .number ≡ h .row → (s ≡ aRow → c .least ≤ h .row)
     → Rising (afterRecord s h b c .least) ys → Rising (c .least) (withRow s y ys)
 row-rises aTable h b c y ys same risen rest = rest
 row-rises aRow h b c y ys same risen rest =
     (rw same (risen refl), rw (same, ← add-one (h .row)) rest)
 row-rises aLine h b c y ys same risen rest = rest
-row-rises nothing h b c y ys same risen rest = rest
+row-rises noPayload h b c y ys same risen rest = rest
 
 record-rises : (c : Context) (r : List ℕ) (ys : List StoredRow) → recordJudged c r .number ≡ 0
     → Rising (contextAfter c r .least) ys

@@ -7,7 +7,7 @@ use mathlib.Core.List.{List}
 use Rattle.sheet_format.specs.declared.SheetState.{SheetState}
 use Rattle.sheet_format.specs.Context.{Heading, Context, stateOf, contextOf}
 use Rattle.sheet_format.specs.Context.Laws.{tables-contextOf, stateOf-contextOf}
-use Rattle.sheet_format.specs.Kind.{Holds, aTable, aRow, aLine, nothing, Kind, afterRecord, tableKept}
+use Rattle.sheet_format.specs.Kind.{Payload, aTable, aRow, aLine, noPayload, Kind, afterRecord, tableKept}
 use Rattle.sheet_format.specs.Kind.Lawful.{Lawful}
 use Rattle.sheet_format.specs.Kinds.{kindOf}
 use Rattle.sheet_format.specs.Kinds.Laws.{lawful}
@@ -16,12 +16,12 @@ use Rattle.sheet_format.specs.Reading.{contextAfter, recordJudged}
 use Rattle.sheet_format.specs.Reading.Laws.{contextAfter-of, judged-read, judged-state}
 
 -- a table comes where none is counted
-afterRecord-kept : (s : Holds) (h : Heading) (b tb : List ℕ) (st : SheetState) → (s ≡ aTable → st .tables ≡ 0)
+afterRecord-kept : (s : Payload) (h : Heading) (b tb : List ℕ) (st : SheetState) → (s ≡ aTable → st .tables ≡ 0)
     → afterRecord s h b (contextOf tb st) ≡ contextOf (tableKept s tb b) (stateOf (afterRecord s h b (contextOf tb st)))
 afterRecord-kept aTable h b tb st first = rw (first refl)
 afterRecord-kept aRow h b tb st first = rw (tables-contextOf tb st)
 afterRecord-kept aLine h b tb st first = rw (tables-contextOf tb st)
-afterRecord-kept nothing h b tb st first = rw (tables-contextOf tb st)
+afterRecord-kept noPayload h b tb st first = rw (tables-contextOf tb st)
 
 module _ {k : Kind} (L : Lawful k) (h : Heading) (b tb : List ℕ) (st : SheetState) (place : k .place (contextOf tb st) h ≡ 0) where
   pub after-kept : afterRecord (k .holds) h b (contextOf tb st)

@@ -10,7 +10,7 @@ use borrow.Author.Tests.{eq-eqb, ne-eqb}
 use Rattle.answer.specs.Outcome.{writes}
 use Rattle.bitstream.specs.Bits.{halvesOf}
 use Rattle.sheet_format.specs.Context.{Context, newSheet}
-use Rattle.sheet_format.specs.Kind.{Holds, aTable, aRow, aLine, nothing}
+use Rattle.sheet_format.specs.Kind.{Payload, aTable, aRow, aLine, noPayload}
 use Rattle.sheet_format.specs.Reading.{answerBytes, contextAfter, recordJudged, recordRead}
 use Rattle.sheet_format.specs.Sheet.{SheetRecord, Reaches, there, onward, ReadFrom, recordHere, restNext, recordHolds, recordsFrom, sheetRead, StoredRow, rowOf, withRow, storedRows, numbersHeld, withLine, storedLines, absent, present, heightsOf}
 use Rattle.sheet_format.specs.Sheet.Laws.{fromRecord-cases}
@@ -39,13 +39,13 @@ heightsOf-member low y (z ∷ ys) rising m =
     (List·Memᴰ·cases-cons m)
 
 -- ---- the rows among the records
-withRow-later : (s : Holds) (y z : StoredRow) (ys : List StoredRow) → List·Memᴰ y ys → List·Memᴰ y (withRow s z ys)
+withRow-later : (s : Payload) (y z : StoredRow) (ys : List StoredRow) → List·Memᴰ y ys → List·Memᴰ y (withRow s z ys)
 withRow-later aTable y z ys m = m
 withRow-later aRow y z ys m = List·Memᴰ·tail m
 withRow-later aLine y z ys m = m
-withRow-later nothing y z ys m = m
+withRow-later noPayload y z ys m = m
 
-withRow-here : (s : Holds) (y : StoredRow) (ys : List StoredRow) → s ≡ aRow → List·Memᴰ y (withRow s y ys)
+withRow-here : (s : Payload) (y : StoredRow) (ys : List StoredRow) → s ≡ aRow → List·Memᴰ y (withRow s y ys)
 withRow-here s y ys row = rw row (List·Memᴰ·head refl)
 
 storedRows-member : (x : SheetRecord) (xs : List SheetRecord) → List·Memᴰ x xs → recordHolds x ≡ aRow
@@ -64,13 +64,13 @@ stored-heights s x m row =
     heightsOf-member 0 (rowOf x) rows (sheetRead-rows s) (storedRows-member x (sheetRead s .records) m row)
 
 -- ---- lines, and what is not there
-withLine-later : (s : Holds) (y z : List ℤ) (ys : List (List ℤ)) → List·Memᴰ y ys → List·Memᴰ y (withLine s z ys)
+withLine-later : (s : Payload) (y z : List ℤ) (ys : List (List ℤ)) → List·Memᴰ y ys → List·Memᴰ y (withLine s z ys)
 withLine-later aTable y z ys m = m
 withLine-later aRow y z ys m = m
 withLine-later aLine y z ys m = List·Memᴰ·tail m
-withLine-later nothing y z ys m = m
+withLine-later noPayload y z ys m = m
 
-withLine-here : (s : Holds) (y : List ℤ) (ys : List (List ℤ)) → s ≡ aLine → List·Memᴰ y (withLine s y ys)
+withLine-here : (s : Payload) (y : List ℤ) (ys : List (List ℤ)) → s ≡ aLine → List·Memᴰ y (withLine s y ys)
 withLine-here s y ys line = rw line (List·Memᴰ·head refl)
 
 storedLines-member : (x : SheetRecord) (xs : List SheetRecord) → List·Memᴰ x xs → recordHolds x ≡ aLine
@@ -87,13 +87,13 @@ pub stored-numbers : (s : List ℕ) (x : SheetRecord) → List·Memᴰ x (sheetR
 stored-numbers s x = storedLines-member x (sheetRead s .records)
 
 -- a number that no row has is absent
-withRow-absent : (n : ℕ) (s : Holds) (y : StoredRow) (ys : List StoredRow) → (s ≡ aRow → y .number ≡ n → ⊥)
+withRow-absent : (n : ℕ) (s : Payload) (y : StoredRow) (ys : List StoredRow) → (s ≡ aRow → y .number ≡ n → ⊥)
     → heightsOf n ys ≡ absent → heightsOf n (withRow s y ys) ≡ absent
 unfolding heightsOf
 withRow-absent n aTable y ys other rest = rest
 withRow-absent n aRow y ys other rest = rw (ne-eqb n (y .number) (λ e. other refl (sym e))) rest
 withRow-absent n aLine y ys other rest = rest
-withRow-absent n nothing y ys other rest = rest
+withRow-absent n noPayload y ys other rest = rest
 
 storedRows-absent : (n : ℕ) (xs : List SheetRecord)
     → ((x : SheetRecord) → List·Memᴰ x xs → recordHolds x ≡ aRow → x .answer .row ≡ n → ⊥)

@@ -6,11 +6,11 @@ use mathlib.Core.Path.{_≡_, refl, sym, ap, _∙_}
 use mathlib.Core.Logic.{_↔_}
 use mathlib.Core.List.{List, [], _∷_, _++_}
 use lib.ListN.{take, drop, length, getD, length-append}
-use Rattle.answer.specs.Outcome as answers
+use Rattle.answer.specs.Outcome.{nothing}
 use Rattle.row_format.specs.Table.{tableNumber}
 use Rattle.sheet_format.specs.declared.RecordRead.{RecordRead}
 use Rattle.sheet_format.specs.Context.{Heading, Context, newSheet}
-use Rattle.sheet_format.specs.Kind.{Holds, aTable, aRow, aLine, nothing, afterRecord}
+use Rattle.sheet_format.specs.Kind.{Payload, aTable, aRow, aLine, noPayload, afterRecord}
 use Rattle.sheet_format.specs.Kind.Table.{tableOwn}
 use Rattle.sheet_format.specs.Kinds.{kindOf}
 use Rattle.sheet_format.specs.Kinds.Laws.{lawful, kindOf-table}
@@ -41,19 +41,19 @@ table-first-at (k ∷ ks) h (suc i) less = (λ e. absurd (no-table-at ks i (h .1
 
 -- ---- one record
 -- a sheet that has a table keeps it
-after-tables : (s : Holds) (h : Heading) (b : List ℕ) (c : Context) → (length (c .tables) ≡ 0 → ⊥)
+after-tables : (s : Payload) (h : Heading) (b : List ℕ) (c : Context) → (length (c .tables) ≡ 0 → ⊥)
     → length (afterRecord s h b c .tables) ≡ 0 → ⊥
 after-tables aTable h b c has e = absurd (omega (arith, length-append (c .tables) (b ∷ [])))
 after-tables aRow h b c has e = has e
 after-tables aLine h b c has e = has e
-after-tables nothing h b c has e = has e
+after-tables noPayload h b c has e = has e
 
 -- a record holds a table, or something else
-by-table : {A : Type 0} (s : Holds) → (s ≡ aTable → A) → ((s ≡ aTable → ⊥) → A) → A
+by-table : {A : Type 0} (s : Payload) → (s ≡ aTable → A) → ((s ≡ aTable → ⊥) → A) → A
 by-table aTable table other = table refl
 by-table aRow table other = other (λ e. absurd (let z : _≡_ {A = ℕ} 0 1 = cc in omega arith))
 by-table aLine table other = other (λ e. absurd (let z : _≡_ {A = ℕ} 0 1 = cc in omega arith))
-by-table nothing table other = other (λ e. absurd (let z : _≡_ {A = ℕ} 0 1 = cc in omega arith))
+by-table noPayload table other = other (λ e. absurd (let z : _≡_ {A = ℕ} 0 1 = cc in omega arith))
 
 module _ (c : Context) (r : List ℕ) (ok : recordJudged c r .number ≡ 0) where
   abbrev code : ℕ
@@ -80,9 +80,9 @@ module _ (c : Context) (r : List ℕ) (ok : recordJudged c r .number ≡ 0) wher
       (λ other. absurd (lawful code .table-before other (judged-read c r ok .readable) c (kindOf code .heading (bodyOf r)) place none))
 
   -- the table that the sheet keeps is accepted
-  kept-accepted : (k : ℕ) → k ≡ 1 → kindOf k .own answers.nothing c (bodyOf r) ≡ 0 → tableNumber (bodyOf r) ≡ 0
+  kept-accepted : (k : ℕ) → k ≡ 1 → kindOf k .own nothing c (bodyOf r) ≡ 0 → tableNumber (bodyOf r) ≡ 0
   unfolding tableOwn
-  kept-accepted k e h = sym (ap (λ (n : ℕ). kindOf n .own answers.nothing c (bodyOf r)) e) ∙ h
+  kept-accepted k e h = sym (ap (λ (n : ℕ). kindOf n .own nothing c (bodyOf r)) e) ∙ h
 
   pub table-accepted : recordJudged c r .kind ≡ 1 → tableNumber (drop 6 (take (recordJudged c r .length) r)) ≡ 0
   unfolding recordHeld

@@ -6,18 +6,18 @@ use mathlib.Core.Path.{_≡_, refl, ap, _∙_}
 use mathlib.Core.List.{List, [], _∷_, _++_, append-assoc, map}
 use lib.ListN.{length, length-map}
 use Rattle.sheet_format.specs.Context.{Context, newSheet}
-use Rattle.sheet_format.specs.Kind.{Holds, aTable, aRow, aLine, nothing}
+use Rattle.sheet_format.specs.Kind.{Payload, aTable, aRow, aLine, noPayload}
 use Rattle.sheet_format.specs.Reading.{contextAfter, recordJudged}
 use Rattle.sheet_format.specs.Sheet.{SheetRecord, SheetRead, endsWith, putFirst, recordHere, restNext, records, sheetRead, recordHolds, StoredRow, rowOf, withRow, storedRows, rowNumbers}
 use Rattle.sheet_format.specs.Theorems.{sheet-end, sheet-refused, sheet-more}
 use Rattle.sheet_listing.specs.Line.{recordLine, lastLine}
 use Rattle.sheet_listing.specs.Listing.{recordLines, listingFrom, listing, rowsOf}
 
-length-withRow : (s : Holds) (y : StoredRow) (ys : List StoredRow) → length (withRow s y ys) ≡ rowsOf s + length ys
+length-withRow : (s : Payload) (y : StoredRow) (ys : List StoredRow) → length (withRow s y ys) ≡ rowsOf s + length ys
 length-withRow aTable y ys = omega arith
 length-withRow aRow y ys = omega arith
 length-withRow aLine y ys = omega arith
-length-withRow nothing y ys = omega arith
+length-withRow noPayload y ys = omega arith
 
 length-rowNumbers : (xs : List SheetRecord) → length (rowNumbers xs) ≡ length (storedRows xs)
 length-rowNumbers xs = length-map (storedRows xs) _

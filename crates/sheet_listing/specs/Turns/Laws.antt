@@ -12,7 +12,7 @@ use Rattle.row_format.specs.Lists.Laws.{by-test}
 use Rattle.sheet_format.specs.declared.SheetState.{SheetState}
 use Rattle.sheet_format.specs.declared.RecordRead.{RecordRead}
 use Rattle.sheet_format.specs.Context.{Context, newSheet, stateOf, contextOf}
-use Rattle.sheet_format.specs.Kind.{Holds, tableKept}
+use Rattle.sheet_format.specs.Kind.{Payload, tableKept}
 use Rattle.sheet_format.specs.Kinds.{kindOf}
 use Rattle.sheet_format.specs.Record.{bodyOf, recordSpan}
 use Rattle.sheet_format.specs.Reading.{recordJudged}

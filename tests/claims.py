@@ -19,10 +19,10 @@ from sources import CRATES
 INDEX = Path("docs/CLAIMS.md")
 CHAPTERS = Path("docs/claims")
 WIDTH = 120
-# the parts of an entry, in order; `met by` has the functions inside the library, and not every entry has one
+# the parts of an entry, in order; `met by` has functions inside the library, and not every entry has one
 PARTS = ("says", "met by", "rules out", "shown by")
-# the language's words, which may stand among citations
-PLAIN = ("requires", "ensures", "extern")
+# words of the language, which may stand among citations
+LANGUAGE = ("requires", "ensures", "extern")
 
 faults = []
 
@@ -48,23 +48,51 @@ def expanded(text):
     return [found[1] + part.strip() + found[3] for part in found[2].split(",")] if found else [text]
 
 
-def reading_path():
-    """The whole files and the single names (path, name) of the reading path."""
-    whole, single = set(), set()
-    for text in (one for each in quoted(section("The reading path")) for one in expanded(each)):
-        if not re.search(r"\.(antt|rt)(#|$)", text):
-            continue
-        path, _, name = text.partition("#")
-        path = CRATES / path
+class ReadingPath:
+    """The whole files and the single names, each with its file, that the index lists."""
+
+    def __init__(self):
+        self.whole, self.single = set(), set()
+        for text in (one for each in quoted(section("The reading path")) for one in expanded(each)):
+            if re.search(r"\.(antt|rt)(#|$)", text):
+                self.add(*text.partition("#")[::2])
+
+    def add(self, file, name):
+        path = CRATES / file
         if not path.exists():
             fault(INDEX, f"the reading path names a file that is not there: {path}")
         elif not name:
-            whole.add(path)
+            self.whole.add(path)
         elif not sources.read(path).owner(name):
             fault(INDEX, f"the reading path names what {path} does not declare: {name}")
         else:
-            single.add((path, name))
-    return whole, single
+            self.single.add((path, name))
+
+    def lists(self, path, name):
+        return path in self.whole or (path, name) in self.single
+
+    def statements(self):
+        """Of a whole file the public ones; what they use of their own file is followed."""
+        public = [d for path in sorted(self.whole) for d in sources.read(path).declared.values() if d.public]
+        return public + [sources.read(path).owner(name) for path, name in sorted(self.single)]
+
+
+def check_closed(reading):
+    left, seen = reading.statements(), set()
+    while left:
+        statement = left.pop(0)
+        if statement in seen:
+            continue
+        seen.add(statement)
+        for path, name in sorted(sources.uses(statement)):
+            used = sources.read(path).owner(name) if path.exists() else None
+            if not used:
+                fault(statement.path, f"{statement.name} uses {name}, and {path} does not declare it")
+            elif not reading.lists(path, name):
+                fault(statement.path, f"{statement.name} uses {name} of {path}, which the reading path does not list")
+            elif path == statement.path:
+                left.append(used)
+    return len(seen)
 
 
 def check_chapters_listed():
@@ -72,27 +100,6 @@ def check_chapters_listed():
     there = {path.name for path in CHAPTERS.glob("*.md")}
     for name in sorted(listed ^ there):
         fault(INDEX, f"chapter {name} is " + ("listed and not there" if name in listed else "not listed"))
-
-
-# ---- closure: every statement on the path, and on whole files every statement that a public one uses
-def check_closed(whole, single):
-    on_path = lambda path, name: path in whole or (path, name) in single
-    left = [d for path in whole for d in sources.read(path).declared.values() if d.public]
-    left += [sources.read(path).owner(name) for path, name in single]
-    seen = set()
-    while left:
-        statement = left.pop()
-        if (statement.path, statement.name) in seen:
-            continue
-        seen.add((statement.path, statement.name))
-        for path, name in sources.uses(statement):
-            if not (path.exists() and sources.read(path).owner(name)):
-                fault(statement.path, f"{statement.name} uses {name}, and {path} does not declare it")
-            elif not on_path(path, name):
-                fault(statement.path, f"{statement.name} uses {name} of {path}, which the reading path does not list")
-            elif path == statement.path:
-                left.append(sources.read(path).owner(name))
-    return len(seen)
 
 
 # ---- chapters
@@ -106,25 +113,23 @@ class Chapter:
     def fault(self, what):
         fault(self.path, what)
 
+    def entries(self):
+        """Each entry as its sentence and its parts."""
+        for sentence, parts in re.findall(r"^\*\*([^*]+)\*\*\n((?:(?:- |  )[^\n]*\n?)*)", self.body, re.M):
+            yield " ".join(sentence.split()), dict(re.findall(r"^- ([a-z ]+): (.*?)(?=^- |\Z)", parts, re.M | re.S))
+
     def declaration(self, citation):
-        """(path, name) of a citation `Name#name`, or None where it is not there."""
+        """The file of a citation `Name#name`, and the declaration that the name belongs to; None where it is not there."""
         key, _, name = citation.partition("#")
         self.used.add(key)
         path = CRATES / self.key.get(key, "")
         if key not in self.key:
             self.fault(f"`{citation}`: the chapter's key has no {key}")
-        elif path.is_file() and not sources.read(path).cites(name):
+        elif path.is_file() and not sources.read(path).cited(name):
             self.fault(f"`{citation}`: {path} does not declare {name}")
         elif path.is_file():
-            return path, name
+            return path, sources.read(path).cited(name).name
         return None
-
-    def check_key(self):
-        for name, path in self.key.items():
-            if not (CRATES / path).is_file():
-                self.fault(f"the key names a file that is not there: {path}")
-            if name not in self.used:
-                self.fault(f"the key has {name}, which no entry cites")
 
     def check_citation(self, citation):
         if "#" in citation:
@@ -134,8 +139,15 @@ class Chapter:
                 self.fault(f"no such must-fail edit: {citation}")
         elif citation in self.key:
             self.used.add(citation)
-        elif re.fullmatch(r"[\w./-]*[a-z][\w./-]*", citation) and citation not in PLAIN and not test_path(citation):
+        elif re.fullmatch(r"[\w./-]*[a-z][\w./-]*", citation) and citation not in LANGUAGE and not is_test(citation):
             self.fault(f"`{citation}` is neither a test, a program nor a name of the key")
+
+    def check_key(self):
+        for name, path in self.key.items():
+            if not (CRATES / path).is_file():
+                self.fault(f"the key names a file that is not there: {path}")
+            if name not in self.used:
+                self.fault(f"the key has {name}, which nothing cites")
 
 
 def edit_path(citation):
@@ -143,51 +155,39 @@ def edit_path(citation):
     return CRATES / crate / "must-fail" / name
 
 
-def test_path(citation):
+def is_test(citation):
     places = (citation, f"tests/{citation}.expected", f"second/src/bin/{citation}", f"second/src/bin/{citation}.rs")
     return any(Path(place).exists() for place in (*places, f"crates/{citation}"))
 
 
-def entries(body):
-    """Each entry as its sentence and its parts."""
-    for sentence, parts in re.findall(r"^\*\*([^*]+)\*\*\n((?:(?:- |  )[^\n]*\n?)*)", body, re.M):
-        yield " ".join(sentence.split()), dict(re.findall(r"^- ([a-z ]+): (.*?)(?=^- |\Z)", parts, re.M | re.S))
-
-
-def check_entry(chapter, sentence, parts, whole, single):
-    if tuple(part for part in PARTS if part in parts or part != "met by") != tuple(parts):
+def check_entry(chapter, sentence, parts, reading):
+    if tuple(parts) != tuple(part for part in PARTS if part in parts or part != "met by"):
         chapter.fault(f"{sentence}: its parts are {', '.join(parts)}")
         return
-    if not quoted(parts["says"]):
-        chapter.fault(f"{sentence}: it cites nothing that says it")
     if ";" not in parts["rules out"]:
         chapter.fault(f"{sentence}: it rules out one answer, not two")
-    for citation in quoted(parts["says"]):
-        found = chapter.declaration(citation) if "#" in citation else None
-        if not found:
-            continue
-        path, name = found
-        owner = sources.read(path).owner(name)
-        if path not in whole and (path, owner.name if owner else name) not in single:
+    if not quoted(parts["says"]):
+        chapter.fault(f"{sentence}: it cites nothing that says it")
+    for citation in (c for c in quoted(parts["says"]) if "#" in c):
+        found = chapter.declaration(citation)
+        if found and not reading.lists(*found):
             chapter.fault(f"{sentence}: it is said by `{citation}`, which the reading path does not list")
 
 
-def check_chapter(path, whole, single):
+def check_chapter(path, reading):
     chapter = Chapter(path)
-    count = 0
-    for sentence, parts in entries(chapter.body):
-        check_entry(chapter, sentence, parts, whole, single)
-        for part in ("says", "met by", "shown by"):
-            for citation in quoted(parts.get(part, "")):
-                chapter.check_citation(citation)
-        count += 1
-    if count != len(re.findall(r"^\*\*", chapter.body, re.M)):
+    entries = list(chapter.entries())
+    if len(entries) != len(re.findall(r"^\*\*", chapter.body, re.M)):
         chapter.fault("a sentence in bold has no parts below it")
+    for sentence, parts in entries:
+        check_entry(chapter, sentence, parts, reading)
+        for citation in (c for part in ("says", "met by", "shown by") for c in quoted(parts.get(part, ""))):
+            chapter.check_citation(citation)
     for citation in quoted(chapter.body):
         if "#" in citation:
             chapter.declaration(citation)
     chapter.check_key()
-    return count
+    return len(entries)
 
 
 def check_edits_cited():
@@ -204,11 +204,11 @@ def check_width(path):
 
 
 def main():
-    whole, single = reading_path()
-    statements = check_closed(whole, single)
+    reading = ReadingPath()
+    statements = check_closed(reading)
     check_chapters_listed()
     chapters = sorted(CHAPTERS.glob("*.md"))
-    count = sum(check_chapter(path, whole, single) for path in chapters)
+    entries = sum(check_chapter(path, reading) for path in chapters)
     edits = check_edits_cited()
     for path in (INDEX, *chapters):
         check_width(path)
@@ -216,7 +216,7 @@ def main():
         print(line)
     if faults:
         sys.exit(1)
-    print(f"{INDEX}: {count} entries, {edits} must-fail edits; {statements} statements on the reading path use nothing outside it")
+    print(f"{INDEX}: {entries} entries, {edits} must-fail edits; {statements} statements on the reading path use nothing outside it")
 
 
 main()

@@ -31,13 +31,13 @@ class Source:
         return self.declared[name]
 
     def owner(self, name):
-        """The declaration that has this name, or a constructor of it, or None."""
+        """The declaration that has this name or a constructor of this name, or None."""
         found = self.declared.get(name)
         return found or next((d for d in self.declared.values() if name in d.parts), None)
 
-    def cites(self, name):
-        """Whether a claim may cite the name: a field too."""
-        return self.owner(name) is not None or any(name in d.fields for d in self.declared.values())
+    def cited(self, name):
+        """The declaration that a citation of this name means: it may name a field too."""
+        return self.owner(name) or next((d for d in self.declared.values() if name in d.fields), None)
 
 
 @lru_cache(maxsize=None)
@@ -75,9 +75,10 @@ def read_specification(source, lines, telescope):
             read_type(source, block, telescope)
         elif SIGNATURE.match(first):
             marks, name, _ = SIGNATURE.match(first).groups()
-            last, defines = source.declare(name, "pub" in marks, telescope + "\n" + text), "a" in marks
+            last = source.declare(name, "pub" in marks, telescope + "\n" + text)
+            defines = "abbrev" in marks or "unfoldable" in marks
         elif defines and word not in ("unfolding", "pub", "mod") and not word.startswith("infix"):
-            last.text += "\n" + text
+            last.text += "\n" + text  # a clause of what was declared last
 
 
 def blocks(lines):

@@ -17,6 +17,7 @@ class Declaration:
         self.path, self.name, self.public, self.text = path, name, public, text
         self.parts = []  # constructors and variants, which are read with it
         self.fields = []  # fields, which are cited, and used only by values whose type is named elsewhere
+        self.bound = set()  # parameters and fields of Rattle, which hide a name that is imported
 
 
 class Source:
@@ -177,6 +178,7 @@ def read_item(source, lines):
     ends = last.get(kind, lambda line: line == "}")
     end = next(i for i, line in enumerate(lines) if ends(line))
     declaration = source.declare(name, bool(public), "\n".join(lines[: end + 1]))
+    declaration.bound = set(re.findall(r"(\w+):(?!:)", declaration.text))
     inner = [re.match(r"\s+(?:pub )?(\w+)", line) for line in lines[1:end]]
     if kind == "enum":
         declaration.parts = [match.group(1) for match in inner if match]
@@ -193,6 +195,8 @@ def uses(declaration):
     source = read(declaration.path)
     for word in set(BREAKS.split(declaration.text)):
         word = word.rstrip(".")
+        if word in declaration.bound:
+            continue
         if word in source.names:
             path, name = source.names[word]
             yield path, owner_name(path, name)

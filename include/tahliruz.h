@@ -67,19 +67,19 @@ extern "C" {
 enum tahliruz_number {
     TAHLIRUZ_DONE = 0,          /* done */
     TAHLIRUZ_TABLE_SIZE = 1,    /* the table's word count, tableSize or lowLimit is wrong */
-    TAHLIRUZ_TABLE_STRING = 2,  /* a string word of the table is wrong */
+    TAHLIRUZ_TABLE_STRING = 2,  /* a string word of the table, which holds a codeword and its length, is wrong */
     TAHLIRUZ_TABLE_PREFIX = 3,  /* a codeword of the table equals or begins another */
     TAHLIRUZ_PIXEL = 4,         /* a pixel is above 4095 */
     TAHLIRUZ_ROOM = 5,          /* the lent room is smaller than this call's output */
-    TAHLIRUZ_WORDS_END = 6,     /* the words end within an item */
+    TAHLIRUZ_WORDS_END = 6,     /* the words end before an item or within it */
     TAHLIRUZ_NO_STRING = 7,     /* no codeword stands at an item's place */
     TAHLIRUZ_STEP_OUTSIDE = 8,  /* a difference leads outside 0 to 4093 */
-    TAHLIRUZ_RAW_HEIGHT = 9,    /* an escaped height is 4094 or 4095 */
+    TAHLIRUZ_RAW_HEIGHT = 9,    /* a height after the escape is 4094 or 4095 */
     TAHLIRUZ_UNUSED_BIT = 10,   /* an unused bit of the last used word is set */
     TAHLIRUZ_TOO_MANY = 11,     /* more than 4096 pixels or numbers */
-    TAHLIRUZ_BYTES_END = 12,    /* the bytes end before an adaptive number does */
-    TAHLIRUZ_NUMBER_RANGE = 13, /* a fifth byte asks for a sixth, or the value is outside its range */
-    TAHLIRUZ_RECORD = 14,       /* a record's length, fixed fields, word alignment or leftover is wrong */
+    TAHLIRUZ_BYTES_END = 12,    /* the bytes end before an adaptive-precision number does */
+    TAHLIRUZ_NUMBER_RANGE = 13, /* a number's fifth byte asks for a sixth, or its value is outside its range */
+    TAHLIRUZ_RECORD = 14,       /* length, fixed fields, word alignment or leftover of a record is wrong */
     TAHLIRUZ_KIND = 15,         /* the record's kind is unknown */
     TAHLIRUZ_PLACE = 16         /* no table first, a second table, or a row number not risen */
 };
@@ -90,19 +90,19 @@ static inline const char *tahliruz_number_text(uint32_t number)
     switch (number) {
     case TAHLIRUZ_DONE: return "done";
     case TAHLIRUZ_TABLE_SIZE: return "the table's word count, tableSize or lowLimit is wrong";
-    case TAHLIRUZ_TABLE_STRING: return "a string word of the table is wrong";
+    case TAHLIRUZ_TABLE_STRING: return "a string word of the table, which holds a codeword and its length, is wrong";
     case TAHLIRUZ_TABLE_PREFIX: return "a codeword of the table equals or begins another";
     case TAHLIRUZ_PIXEL: return "a pixel is above 4095";
     case TAHLIRUZ_ROOM: return "the lent room is smaller than this call's output";
-    case TAHLIRUZ_WORDS_END: return "the words end within an item";
+    case TAHLIRUZ_WORDS_END: return "the words end before an item or within it";
     case TAHLIRUZ_NO_STRING: return "no codeword stands at an item's place";
     case TAHLIRUZ_STEP_OUTSIDE: return "a difference leads outside 0 to 4093";
-    case TAHLIRUZ_RAW_HEIGHT: return "an escaped height is 4094 or 4095";
+    case TAHLIRUZ_RAW_HEIGHT: return "a height after the escape is 4094 or 4095";
     case TAHLIRUZ_UNUSED_BIT: return "an unused bit of the last used word is set";
     case TAHLIRUZ_TOO_MANY: return "more than 4096 pixels or numbers";
-    case TAHLIRUZ_BYTES_END: return "the bytes end before an adaptive number does";
-    case TAHLIRUZ_NUMBER_RANGE: return "a fifth byte asks for a sixth, or the value is outside its range";
-    case TAHLIRUZ_RECORD: return "a record's length, fixed fields, word alignment or leftover is wrong";
+    case TAHLIRUZ_BYTES_END: return "the bytes end before an adaptive-precision number does";
+    case TAHLIRUZ_NUMBER_RANGE: return "a number's fifth byte asks for a sixth, or its value is outside its range";
+    case TAHLIRUZ_RECORD: return "length, fixed fields, word alignment or leftover of a record is wrong";
     case TAHLIRUZ_KIND: return "the record's kind is unknown";
     case TAHLIRUZ_PLACE: return "no table first, a second table, or a row number not risen";
     default: return "no such number";

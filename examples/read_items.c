@@ -9,9 +9,9 @@
 
 #include "tahliruz.h"
 
-enum { TABLE_BYTES = 2072, PIXELS = 6 };
+enum { PIXELS = 6 };
 
-static uint8_t table[TABLE_BYTES];
+static uint8_t table[TAHLIRUZ_PLAIN_TABLE_BYTES];
 
 static void print_item(const struct tahliruz_item *item)
 {

@@ -10,9 +10,9 @@
 
 #include "tahliruz.h"
 
-#define MOST 4096
+#define MOST TAHLIRUZ_MAX_PIXELS
 
-static uint8_t plain[2072];
+static uint8_t plain[TAHLIRUZ_PLAIN_TABLE_BYTES];
 static uint32_t noise_state = 7;
 static unsigned long items_given, ends[12];
 
@@ -69,7 +69,7 @@ static void compare(const uint8_t *words, size_t words_len, uint32_t n)
 /* A row as a scanner gives it, with some jumps and bad spots, packed; one bit in some rows is turned over. */
 static void compare_row(uint32_t n)
 {
-    static uint8_t pixels[2 * MOST], words[4 * 3456];
+    static uint8_t pixels[2 * MOST], words[4 * TAHLIRUZ_MAX_ROW_WORDS];
     uint32_t height = noise(4094);
     for (uint32_t i = 0; i < n; i++) {
         uint32_t way = noise(40);
@@ -77,7 +77,7 @@ static void compare_row(uint32_t n)
             height = noise(4094);
         else if (height > 20 && height < 4070)
             height = height + noise(19) - 9;
-        put_pixel(pixels + 2 * i, way == 1 ? 4095 : way == 2 ? 4094 : height);
+        put_pixel(pixels + 2 * i, way == 1 ? TAHLIRUZ_BAD_PIXEL : way == 2 ? TAHLIRUZ_BAD_BIAS : height);
     }
     struct tahliruz_answer packed = tahliruz_pack(plain, sizeof plain, pixels, 2 * n, words, sizeof words);
     if (packed.number != 0)

@@ -1,3 +1,3 @@
 pub mod Check
-pub mod Entry
 pub mod Plain
+pub mod SignedLaws

@@ -6,6 +6,7 @@ use answer::Answer;
 use bitstream::copy::copy;
 use bitstream::shift::low_bits;
 use code_table::check::check;
+use row_format::MAX_PIXELS;
 ghost use mathlib.Core.Path.{_≡_};
 ghost use Prim.Native.Nat.{_*_, _≤_};
 ghost use lib.ListN.{length};
@@ -25,7 +26,7 @@ pub fn unpack(table: &[u8], words: &[u8], n: u64, pixels: &mut [u8]) -> Answer
     if number != 0 {
         return Answer { number, count: 0 };
     }
-    if 4096 < n {
+    if MAX_PIXELS < n {
         return Answer {
             number: 11,
             count: 0,

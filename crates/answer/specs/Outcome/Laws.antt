@@ -83,11 +83,6 @@ unless-part f zero refusal done = refl
 unless-part f (suc e) refusal done = refl
 
 module _ {A : Type 0} where
-  pub unless-orElse : (e d : ℕ) (refusal : ℕ → A) (done : A)
-      → unless (e orElse d) refusal done ≡ unless e refusal (unless d refusal done)
-  unless-orElse zero d refusal done = refl
-  unless-orElse (suc e) d refusal done = refl
-
   pub unless-refused : (e : ℕ) (refusal : ℕ → A) (done : A) → (e ≡ 0 → ⊥) → unless e refusal done ≡ refusal e
   unless-refused zero refusal done some = absurd (some refl)
   unless-refused (suc e) refusal done some = refl

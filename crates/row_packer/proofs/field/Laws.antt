@@ -14,7 +14,7 @@ use Rattle.row_format.specs.Table.Laws.{length-codewordAt}
 use Rattle.row_format.specs.Reading.{Fits}
 use Rattle.row_format.specs.Row as row
 use Rattle.row_format.specs.Theorems.Items.{entry}
-use Rattle.code_table.specs.Entry.Laws.{Counted, signed-fits, signed-back, sum-fits, sum-count}
+use Rattle.code_table.specs.SignedLaws.{Counted, signed-fits, signed-back, sum-fits, sum-count}
 use Rattle.row_item.specs.declared.Item.{Item}
 use Rattle.row_item.specs.declared.Item.the-variants.{Difference, BadPixel, BadBias, Escape}
 use Rattle.row_item.specs.Coded.{coded}

@@ -111,10 +111,6 @@ writes-within a k b m e h = record {
 }
 
 module _ {A : Type 0} (none : ℕ → A) (m : List ℕ) (done : Outcome A) where
-  pub unless-within : (e k : ℕ) → (e ≡ 0 → Within k m done) → Within k m (unless e (λ k. outcome (none k) m) done)
-  unless-within zero k h = h refl
-  unless-within (suc e) k h = record { size = refl; rest = refl }
-
   -- refused: the number is that of the refusal
   pub unless-kept : (number : A → ℕ) → ((k : ℕ) → number (none k) ≡ k)
       → let left : ℕ → Outcome A = λ e. unless e (λ k. outcome (none k) m) done in

@@ -7,9 +7,8 @@ use mathlib.Core.List.{List}
 use lib.ListN.{length, drop}
 use lib.IntN.{ℤ, pos}
 use borrow.Author.Tests.{le-ltb}
-use Rattle.answer.specs.declared.Answer.{Answer}
-use Rattle.answer.specs.Outcome.{Outcome, answerOf, refusal, refused, wrote, lent, roomNumber, Kept, Within}
-use Rattle.answer.specs.Outcome.Laws.{unless-number, unless-kept, unless-in, lessNumber-zero, roomNumber-in, writes-within}
+use Rattle.answer.specs.Outcome.{refusal, wrote, Kept, Within}
+use Rattle.answer.specs.Outcome.Laws.{wroteOrFull-in, wroteOrFull-kept, wroteOrFull-within}
 use Rattle.adaptive.specs.declared.SignedRead.{SignedRead}
 use Rattle.adaptive.specs.declared.UnsignedRead.{UnsignedRead}
 use Rattle.adaptive.specs.Number.{Kind, signed, unsigned, Reading, accepted, rejected, readAs, shortest}
@@ -25,24 +24,16 @@ written-done b m h = rw (le-ltb (length m) (length b) h)
 -- ---- what demand 1 says of writing
 pub written-in : (P : ℕ → Type 0) → P 0 → P 5 → (b m : List ℕ) → P (written b m .answer .number)
 unfolding written
-written-in P p0 p5 b m =
-    let number : Outcome Answer → ℕ = λ o. o .answer .number in
-    rw (unless-number number (λ e. refused e m) (wrote (length b) b m) (λ k. refl) (roomNumber (lent (length m)) (length b)) refl)
-    (roomNumber-in P (lent (length m)) (length b) p0 p5)
+written-in P p0 p5 b m = wroteOrFull-in P p0 p5 (length b) b m
 
 pub written-kept : (b m : List ℕ) → (written b m .answer .number ≡ 0 → ⊥)
     → Kept (refusal (written b m .answer .number)) m (written b m)
 unfolding written
-written-kept b m =
-    unless-kept refusal m (wrote (length b) b m) (λ (a : Answer). a .number) (λ k. refl)
-    (roomNumber (lent (length m)) (length b)) (λ some. absurd (some refl))
+written-kept b m = wroteOrFull-kept (length b) b m
 
 pub written-within : (b m : List ℕ) → Within (written b m .answer .count) m (written b m)
 unfolding written
-written-within b m =
-    unless-in (λ o. Within (o .answer .count) m o) (roomNumber (lent (length m)) (length b)) (λ e. refused e m)
-    (wrote (length b) b m) (λ k e. record { size = refl; rest = refl })
-    (λ e. writes-within (answerOf 0 (length b)) (length b) b m refl (lessNumber-zero (length m) (length b) 4 e))
+written-within b m = wroteOrFull-within (length b) b m refl
 
 -- ---- and of reading: of any answer that is made of a reading and has its number
 module _ {A R : Type 0} (answer : Reading A → R) (number : R → ℕ)

@@ -106,5 +106,6 @@ module _ {t : List ℕ} {i : Item} {h : ℕ} (e : i ≡ Escape h) (c : Codable t
   pub escape-twelve : h < 4096
   escape-twelve = subst (Codable t) e c .fits
 
-  pub holds-escape : {q r : Field} → Holds (codewordAt t 0) q → Holds (digits (q .len) (q .bits) ++ digits 12 h) r → Holds (row.itemBits t (plain i)) r
+  pub holds-escape : {q r : Field} → Holds (codewordAt t 0) q → Holds (digits (q .len) (q .bits) ++ digits 12 h) r
+      → Holds (row.itemBits t (plain i)) r
   holds-escape first all = rw (e, ← first .bits) all

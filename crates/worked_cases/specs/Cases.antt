@@ -11,6 +11,7 @@ use Rattle.row_format.specs.Row.{byDifference, itemFor, itemsFor, bits, rowBits
 use Rattle.row_format.specs.Plain.{plainEntries, plainTable}
 use Rattle.adaptive.specs.Number as number
 use Rattle.adaptive.specs.Number.{readAs, accepted, shortest}
+use Rattle.worked_cases.specs.Each.{Each, _also_}
 
 pub data Case : Type 0 where
   packs : List ℕ → List ℕ → ℕ → Case  -- pixels, the words they are packed to, and the bits
@@ -25,10 +26,6 @@ Holds (takes ps n) = length (rowBits plainTable ps) ≡ n
 Holds (worst ps n w) = (length (rowBits plainTable ps) ≡ n) × (wordsFor n ≡ w) × (n ≡ length ps * maxItemBits plainTable)
 Holds (signedAs v b) = (shortest number.signed v ≡ b) × (readAs number.signed b ≡ accepted v (length b))
 Holds (unsignedAs v b) = (shortest number.unsigned v ≡ b) × (readAs number.unsigned b ≡ accepted v (length b))
-
-abbrev pub Each : List Case → Type 0
-Each [] = Unit {0}
-Each (c ∷ cs) = Holds c × Each cs
 
 abbrev pub cases : List Case
 cases =
@@ -53,12 +50,7 @@ cases =
     ∷ unsignedAs 16384 (0x81 ∷ 0x80 ∷ 0x00 ∷ [])
     ∷ []
 
--- one case's proof and the others'
-infixr 3 _also_
-abbrev _also_ : {A B : Type 0} → A → B → A × B
-a also b = (a, b)
-
-pub cases-hold : Each cases
+pub cases-hold : Each Holds cases
 unfolding digits numOf cut codeword codewords codewordAt longest maxItemBits byDifference itemFor itemsFor bits rowBits
     plainEntries plainTable readAs shortest number.front number.dataOf number.signedValue number.continued number.bytesOf
     number.laterBytes

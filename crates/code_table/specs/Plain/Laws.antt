@@ -46,7 +46,7 @@ plain-below =
     below-cons (omega arith) (below-cons (omega arith) (below-cons (omega arith)
     (below-cons (omega arith) (below-cons (omega arith) (below-cons (omega arith) (entries-below 0 512 (omega arith)))))))
 
-length-plainBytes : length plainBytes ≡ 2072
+pub length-plainBytes : length plainBytes ≡ 2072
 unfolding plainBytes
 length-plainBytes = length-cut 8 2072 (flat 32 plainTable)
 

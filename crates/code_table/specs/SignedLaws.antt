@@ -1,12 +1,9 @@
--- The laws of entries and signed differences. Assumes nothing.
-use Prim.Native.Nat.{ℕ, _+_, _-_, _≤_}
+-- The laws of signed differences as the code holds them, in i32. Assumes nothing.
+use Prim.Native.Nat.{ℕ, _≤_}
 use native.Mathlib.Omega.{arith}
-use mathlib.Core.Path.{_≡_, sym, ap, _∙_}
-use mathlib.Core.Bool.{false}
-use lib.IntN.{ℤ, pos, negsuc, _+ℤ_, -ℤ-+ℤ-cancel}
-use lib.Signed.{ltZ}
+use mathlib.Core.Path.{_≡_, ap, _∙_}
+use lib.IntN.{ℤ, pos, _+ℤ_, -ℤ-+ℤ-cancel}
 use lib.Dec.{ltb}
-use borrow.Author.Tests.{lt-ltb, le-ltb, ltb-false}
 use mir.Val.{SFits, toZ, ofZ}
 use mir.Syntax.{w32}
 use mir.Facts.{toZ-ofZ}
@@ -25,17 +22,6 @@ pub record Counted (z : ℤ) : Type 0 where
   pub count : ℕ
   pub most : count ≤ 8186
   pub is : z ≡ signed count
-
-pub counted : (z : ℤ) → ltZ z (negsuc 4092) ≡ false → ltZ (pos 4093) z ≡ false → Counted z
-counted (pos n) g h =
-    record {
-      count = n + 4093;
-      most = omega (arith, ltb-false 4093 n h);
-      is = sym (rw (le-ltb (n + 4093) 4093 (omega arith)) (ap pos (omega arith)));
-    }
-counted (negsuc n) g h =
-    let m : n ≤ 4092 = ltb-false 4092 n g in
-    record { count = 4092 - n; most = omega arith; is = sym (rw (lt-ltb (4092 - n) 4093 (omega arith)) (ap negsuc (omega arith))) }
 
 -- ---- the count of a signed number as the code computes it, in i32
 module _ (z : ℤ) (f : SFits w32 z) (c : Counted z) where

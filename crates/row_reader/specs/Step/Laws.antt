@@ -1,16 +1,19 @@
 -- The laws of a reader's place and of its step. Assumes nothing.
 use Prim.Native.Nat.{ℕ, zero, suc, _+_, _*_, _≤_, _<_}
 use native.Mathlib.Omega.{arith}
-use mathlib.Core.Path.{_≡_, refl, sym, ap, _∙_}
+use mathlib.Core.Path.{_≡_, refl, sym, ap, subst, _∙_}
 use mathlib.Core.Bool.{Bool, true, false, not, _&&_}
 use mathlib.Core.List.{List}
+use lib.ListN.{drop}
 use lib.Dec.{ltb}
 use borrow.Author.Tests.{lt-ltb, le-ltb, ltb-false}
+use Rattle.bitstream.specs.Bits.{wordsOf, stream}
 use Rattle.answer.specs.Outcome.{refuseIf}
-use Rattle.answer.specs.Outcome.Laws.{orElse-zero-left, orElse-zero-right, refuseIf-zero, given-first, given-next, lessNumber-zero, unless-refused}
+use Rattle.answer.specs.Outcome.Laws.{orElse-zero-left, orElse-zero-right, refuseIf-zero, given-first, given-next, lessNumber-zero, unless-refused, unless-in, orElse-in, refuseIf-in}
 use Rattle.row_format.specs.Lists.Laws.{by-test, or-false-left, or-false-right}
 use Rattle.row_format.specs.Row as row
 use Rattle.row_format.specs.Reading.{Reading, item, fault}
+use Rattle.row_format.specs.Theorems.Numbers.{FaultIn, readItem-in}
 use Rattle.row_item.specs.declared.Item.{Item}
 use Rattle.row_item.specs.declared.Progress.{Progress}
 use Rattle.row_item.specs.Coded.{coded, progress, Followed, stateOf}
@@ -108,6 +111,10 @@ module _ (pl : Place) where
       unfolding placeNumber
       placeNumber-none h = given-next (ap openingNumber o) (rw (e, le-ltb 4096 (pl .count + 1) (omega arith)))
 
+    -- whatever else it is
+    pub placeNumber-given : 4096 ≤ pl .count → 11 ≡ placeNumber pl
+    placeNumber-given h = by-test (impossible pl) placeNumber-impossible (λ e. placeNumber-full e h)
+
 -- a place where an item is read
 pub record Stands (pl : Place) : Type 0 where
   pub opened : pl .opening ≡ 0
@@ -135,6 +142,9 @@ module _ (tb wb : List ℕ) (pl : Place) where
   step-refused n is h =
       let read = given pl (stateOf (pl .progress)) (readingAt tb wb pl) in
       rw (← is) (sym (unless-refused n (λ e. refusedAt e pl) read h))
+
+  pub itemRead-number : (n : ℕ) → n ≡ placeNumber pl → (n ≡ 0 → ⊥) → itemRead tb wb pl .number ≡ n
+  itemRead-number n is h = sym (ap (λ (r : ItemRead). r .number) (step-refused n is h))
 
   abbrev state : row.State
   state = stateOf (pl .progress)
@@ -177,3 +187,31 @@ module _ (tb wb : List ℕ) (pl : Place) where
       pub step-faulty : (number place : ℕ) → r ≡ Refused number place → refusedAt number pl ≡ itemRead tb wb pl
       unfolding itemAt
       step-faulty number place e = refuses (readingAt tb wb pl) number place (sym e ∙ is) ∙ step-read
+
+-- ---- the numbers of a step, over any property P that they have
+module _ (P : ℕ → Type 0) (p0 : P 0) (p1 : P 1) (p2 : P 2) (p3 : P 3) (p11 : P 11) where
+  openingNumber-in : (o : ℕ) → P (openingNumber o)
+  openingNumber-in zero = p0
+  openingNumber-in (suc zero) = p1
+  openingNumber-in (suc (suc zero)) = p2
+  openingNumber-in (suc (suc (suc zero))) = p3
+  openingNumber-in (suc (suc (suc (suc o)))) = rw (lt-ltb 3 (suc (suc (suc (suc o)))) (omega arith)) p11
+
+  placeNumber-in : (pl : Place) → P (placeNumber pl)
+  unfolding placeNumber
+  placeNumber-in pl =
+      orElse-in P (openingNumber (pl .opening)) _ (openingNumber-in (pl .opening))
+      (orElse-in P (refuseIf (impossible pl) 11) _ (refuseIf-in P (impossible pl) 11 p0 p11)
+      (refuseIf-in P (ltb 4096 (pl .count + 1)) 11 p0 p11))
+
+  pub itemRead-in : (tb wb : List ℕ) (pl : Place) → P 6 → P 7 → P 8 → P 9 → P (itemRead tb wb pl .number)
+  unfolding itemRead
+  itemRead-in tb wb pl p6 p7 p8 p9 =
+      let s = stateOf (pl .progress) in
+      unless-in (λ r. P (r .number)) (placeNumber pl) (λ e. refusedAt e pl) (given pl s (readingAt tb wb pl))
+      (λ k e. subst P e (placeNumber-in pl))
+      (λ e. given-in (readingAt tb wb pl) (readItem-in P p6 p7 p8 p9 (wordsOf tb) s (drop (pl .at) (stream wb))))
+    where
+      given-in : (rd : Reading) → FaultIn P rd → P (given pl (stateOf (pl .progress)) rd .number)
+      given-in (item i u) h = p0
+      given-in (fault x u) h = h

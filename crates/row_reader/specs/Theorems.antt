@@ -72,14 +72,18 @@ reader-unopened tb wb pl h o =
 pub reader-full : (tb wb : List ℕ) (pl : Place) → pl .opening ≡ 0 → 4096 ≤ pl .count → itemRead tb wb pl .number ≡ 11
 reader-full tb wb pl o h = itemRead-number tb wb pl 11 (placeNumber-given pl o h) (λ z. omega arith)
 
--- a place that no reading has is answered 11; every place that a reader comes to is none of these
+-- a place that no reading has is answered 11; where a reader opened with an accepted table stands, none of these is
 pub reader-impossible : (tb wb : List ℕ) (pl : Place) → pl .opening ≡ 0 → impossible pl ≡ true
     → itemRead tb wb pl .number ≡ 11
 reader-impossible tb wb pl o e = itemRead-number tb wb pl 11 (placeNumber-impossible pl o e) (λ z. omega arith)
 
-pub reader-possible : (tb wb : List ℕ) → tableNumber tb ≡ 0 → (n : ℕ) (ps : List ℕ) (pl : Place)
+pub reader-possible : (tb wb : List ℕ) → tableNumber tb ≡ 0 → (pl : Place) → itemRead tb wb pl .number ≡ 0
+    → impossible (itemRead tb wb pl .place) ≡ false
+reader-possible tb wb ok = laws.given-possible tb wb ok
+
+pub walk-possible : (tb wb : List ℕ) → tableNumber tb ≡ 0 → (n : ℕ) (ps : List ℕ) (pl : Place)
     → walk tb wb n (startPlace tb) ≡ gave ps pl → impossible pl ≡ false
-reader-possible tb wb ok = laws.walk-place tb wb ok
+walk-possible tb wb ok = laws.walk-place tb wb ok
 
 -- "Its items, a refused one too, use at most M bits each": the definition's bits, and the place after a given item
 pub reader-item-bits : (tb wb : List ℕ) (pl : Place) → bitsOfReading (readingAt tb wb pl) ≤ maxItemBits (wordsOf tb)

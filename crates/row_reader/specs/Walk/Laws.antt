@@ -9,7 +9,7 @@ use mathlib.Core.List.{List, [], _∷_}
 use lib.ListN.{length, drop}
 use lib.Seq.{drop-drop}
 use lib.Dec.{eqb}
-use borrow.Author.Tests.{ne-eqb}
+use borrow.Author.Tests.{ne-eqb, eqb-true}
 use Rattle.bitstream.specs.Bits.{wordsOf, stream}
 use Rattle.bitstream.specs.Bits.Laws.{below-flat, below-drop}
 use Rattle.answer.specs.Outcome.{Outcome, refused, wrote, lent}
@@ -66,12 +66,12 @@ module _ (tb wb : List ℕ) where
       sym (step-read tb wb pl none) ∙ rw e
 
   -- by whether it is refused before an item is read
-  by-place : (P : ItemRead → Type 0) (pl : Place) → ((e : ℕ) → P (refusedAt e pl))
+  by-place : (P : ItemRead → Type 0) (pl : Place) → ((k : ℕ) → P (refusedAt (suc k) pl))
       → (placeNumber pl ≡ 0 → P (given pl (stateOf (pl .progress)) (readingAt tb wb pl))) → P (itemRead tb wb pl)
   unfolding itemRead
   by-place P pl shut read =
       let give = given pl (stateOf (pl .progress)) (readingAt tb wb pl) in
-      unless-in P (placeNumber pl) (λ e. refusedAt e pl) give (λ k e. shut (suc k)) read
+      unless-in P (placeNumber pl) (λ e. refusedAt e pl) give (λ k e. shut k) read
 
   pub stays : (pl : Place) → (itemRead tb wb pl .number ≡ 0 → ⊥)
       → (itemRead tb wb pl .place ≡ pl) × (itemRead tb wb pl .pixel ≡ 0)
@@ -216,7 +216,7 @@ module _ (tb wb : List ℕ) where
         (by-reading pl s n (reading pl s) refl
         (λ i u e. walk-agrees n (placeAfter pl s i u) (row.after s i) (at-next pl s i u a e) (omega arith)))
 
-    -- ---- possible places: from one, a step leads to one
+    -- ---- possible places: every item that is given leads to one
     stands-at : (pl : Place) → Stands pl → At pl (stateOf (pl .progress))
     stands-at pl st =
         let s = stateOf (pl .progress) in
@@ -229,18 +229,19 @@ module _ (tb wb : List ℕ) where
           opened = st .opened;
         }
 
-    pub possible-next : (pl : Place) → impossible pl ≡ false → impossible (itemRead tb wb pl .place) ≡ false
-    possible-next pl h =
-        by-place (λ r. impossible (r .place) ≡ false) pl (λ e. h)
-        (λ none. by-read (placeNumber-stands pl none) (readingAt tb wb pl) refl)
+    pub given-possible : (pl : Place) → itemRead tb wb pl .number ≡ 0 → impossible (itemRead tb wb pl .place) ≡ false
+    given-possible pl = by-place Possible′ pl (λ k h. absurd (omega arith))
+        (λ none. by-read (placeNumber-stands pl none) (readingAt tb wb pl) refl (real (stateOf (pl .progress)) _))
       where
-        by-read : Stands pl → (rd : Reading) → readingAt tb wb pl ≡ rd
-            → impossible (given pl (stateOf (pl .progress)) rd .place) ≡ false
-        by-read st (item i u) e =
+        Possible′ : ItemRead → Type 0
+        Possible′ r = r .number ≡ 0 → impossible (r .place) ≡ false
+        by-read : Stands pl → (rd : Reading) → readingAt tb wb pl ≡ rd → FaultIn (λ e. e ≡ 0 → ⊥) rd
+            → Possible′ (given pl (stateOf (pl .progress)) rd)
+        by-read st (item i u) e some h =
             let s = stateOf (pl .progress) in
             let after = at-next pl s i u (stands-at pl st) e in
             at-possible (placeAfter pl s i u) (row.after s i) after (omega (arith, st .more))
-        by-read st (fault x u) e = h
+        by-read st (fault x u) e some h = absurd (some h)
 
     -- so that every walk's place is one
     abbrev PossibleAfter : Walk → Type 0
@@ -257,7 +258,8 @@ module _ (tb wb : List ℕ) where
     walk-possible (suc n) pl h =
         let r = itemRead tb wb pl in
         by-test (eqb (r .number) 0)
-        (λ e. rw e (onto-possible (r .pixel) (walk tb wb n (r .place)) (walk-possible n (r .place) (possible-next pl h))))
+        (λ e. rw e (onto-possible (r .pixel) (walk tb wb n (r .place))
+        (walk-possible n (r .place) (given-possible pl (eqb-true (r .number) 0 e)))))
         (λ e. rw e tt)
 
     pub walk-place : (n : ℕ) (ps : List ℕ) (pl : Place) → walk tb wb n (startPlace tb) ≡ gave ps pl → impossible pl ≡ false

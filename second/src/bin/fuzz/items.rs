@@ -18,7 +18,7 @@ pub fn read(random: &mut Random, scene: &Scene, tally: &mut Tally) -> Outcome<()
     let words = scene.maybe_changed(random, &run_words(&bits));
     let words = Given::new(random, &words);
     let items = Items { table, words: &words };
-    // Reading to the end looks through the strings for every item.
+    // Reading to the end checks the table for every item.
     if table.bytes().len() < 1000 && random.one_in(20) {
         return walk(random, tally, items);
     }

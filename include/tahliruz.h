@@ -209,11 +209,16 @@ struct tahliruz_answer tahliruz_room(const uint8_t *table, size_t table_len, uin
  * tahliruz_open gives the first one, each tahliruz_next the one after its item.
  */
 struct tahliruz_place {
-    uint64_t at;            /* the bit place of the next item */
+    uint32_t at;            /* the bit place of the next item */
     uint32_t count;         /* the items given so far */
     uint32_t previous;      /* the previous height, 0 before there is one */
-    uint32_t begun;         /* 0 until a pixel of this row has become previous */
-    uint32_t opening;       /* the number that opening came to: 0, 1, 2 or 3 */
+    uint32_t begun;         /* 0 until a pixel of this row has become previous, then 1 */
+};
+
+/* A reader that was opened. Its place is all zeros, refused or not. */
+struct tahliruz_opened {
+    uint32_t number;        /* the check's: 0, 1, 2 or 3 */
+    struct tahliruz_place place;    /* of a row's first item */
 };
 
 enum tahliruz_item_kind {
@@ -234,26 +239,29 @@ struct tahliruz_item {
 
 /*
  * Opens a reader of the items packed under a table: checks the table, and gives
- * the place of a row's first item. Its opening is the check's number, 0 to 3.
+ * the place of a row's first item.
  */
-struct tahliruz_place tahliruz_open(const uint8_t *table, size_t table_len);
+struct tahliruz_opened tahliruz_open(const uint8_t *table, size_t table_len);
 
 /*
  * Gives the item at a place.
  *
- *   table   the table that the reader was opened with; it is not checked again
+ *   table   the table that the reader was opened with; it is checked at each call
  *   words   the packed row: words_len / 4 words
  *   place   from tahliruz_open, or from the answer before
  *
  * Numbers, in this order:
- *   place.opening  where it is not 0: 1, 2, 3 as the table was refused
- *   11          4096 items are given, or at is above 4096 * 27
+ *   1, 2, 3     the table, as in tahliruz_check
+ *   11          4096 items are given; or no reading can have this place: count is
+ *               above 4096, at above 27 * count, previous above 4093 or begun
+ *               above 1, or begun is 0 and previous is not
  *   6, 7, 8, 9  the item is faulty, as in tahliruz_unpack
  *   0           done
  *
  * Where n items are given, tahliruz_unpack of n pixels with room for them gives
- * the same pixels, or refuses 10; where an item is refused 6 to 9, it gives that
- * number for every n that reaches the item. Writes nothing.
+ * the same pixels, or refuses 10; where it is done, n items are given; where an
+ * item is refused 6 to 9, it gives that number for every n that reaches the item.
+ * Writes nothing.
  */
 struct tahliruz_item tahliruz_next(const uint8_t *table, size_t table_len,
                                    const uint8_t *words, size_t words_len,

@@ -95,8 +95,8 @@ static void unpack(void)
 static void room(void) { expect("room", tahliruz_room(table, sizeof table, PIXELS).number); }
 static void next(void)
 {
-    struct tahliruz_place place = tahliruz_open(table, sizeof table);
-    expect("next", tahliruz_next(table, sizeof table, words, sizeof words, place).number);
+    struct tahliruz_opened opened = tahliruz_open(table, sizeof table);
+    expect("next", tahliruz_next(table, sizeof table, words, sizeof words, opened.place).number);
 }
 static void adaptive(void)
 {

@@ -1,7 +1,7 @@
 """Whether docs/CLAIMS.md and its chapters, docs/claims/*.md, close. It fails where
 
 - what a chapter cites is not there: a definition, theorem or contract, a must-fail edit, a test;
-- a must-fail edit is there that no chapter cites;
+- a must-fail edit, or a theorem on a page of theorems (specs/Theorems.antt), is there that no chapter cites;
 - an entry is said by what the reading path does not list;
 - a statement on the reading path uses a definition of ours that the path does not list.
 
@@ -25,6 +25,8 @@ PARTS = ("says", "met by", "rules out", "shown by")
 LANGUAGE = ("requires", "ensures", "extern")
 
 faults = []
+# the declarations that some entry is said by
+said = set()
 
 
 def fault(where, what):
@@ -170,6 +172,7 @@ def check_entry(chapter, sentence, parts, reading):
         chapter.fault(f"{sentence}: it cites nothing that says it")
     for citation in (c for c in quoted(parts["says"]) if "#" in c):
         found = chapter.declaration(citation)
+        said.add(found)
         if found and not reading.lists(*found):
             chapter.fault(f"{sentence}: it is said by `{citation}`, which the reading path does not list")
 
@@ -197,6 +200,13 @@ def check_edits_cited():
     return len(cited)
 
 
+def check_theorems_cited():
+    for path in sorted(CRATES.glob("*/specs/Theorems.antt")):
+        for theorem in sources.read(path).declared.values():
+            if theorem.public and (path, theorem.name) not in said:
+                fault(path, f"no entry is said by {theorem.name}")
+
+
 def check_width(path):
     for number, line in enumerate(path.read_text().splitlines(), 1):
         if len(line) > WIDTH:
@@ -210,6 +220,7 @@ def main():
     chapters = sorted(CHAPTERS.glob("*.md"))
     entries = sum(check_chapter(path, reading) for path in chapters)
     edits = check_edits_cited()
+    check_theorems_cited()
     for path in (INDEX, *chapters):
         check_width(path)
     for line in dict.fromkeys(faults):

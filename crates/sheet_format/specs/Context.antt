@@ -26,6 +26,10 @@ abbrev pub tableFor : Context → Heading → List ℕ
 tableFor c h = getD (c .tables) 0 []
 
 -- ---- by value
+-- what a refusal has in a state's place: "zero for every count and value"
+abbrev pub noState : SheetState
+noState = record { tables = 0; least = 0 }
+
 -- what a caller keeps of it
 abbrev pub stateOf : Context → SheetState
 stateOf c = record { tables = length (c .tables); least = c .least }

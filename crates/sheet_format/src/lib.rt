@@ -9,12 +9,12 @@ ghost use Rattle.sheet_format.specs.Reading.{refusedRecord};
 // Document 01: "The length is 2 to 32,774": a record is four bytes more.
 pub const MAX_RECORD_BYTES: usize = 32778;
 
-// What a sheet holds so far: how many tables, of which more than 0 means that it has its one, and the least row number that
-// may come next (0 to 65536).
+// What a sheet holds so far: how many tables, of which any number but 0 means that it has its one, and the least row number
+// that may come next (0 to 65536).
 #[repr(C)]
 pub struct SheetState {
-    pub tables: u32,
-    pub least: u32,
+    pub has_table: u32,
+    pub least_row: u32,
 }
 
 // What reading a record answers: document 01's number, and where it is 0 what the record holds and the state after it. A
@@ -46,8 +46,8 @@ pub fn refused(number: u32) -> RecordRead
         words: 0,
         length: 0,
         state: SheetState {
-            tables: 0,
-            least: 0,
+            has_table: 0,
+            least_row: 0,
         },
     }
 }

@@ -12,8 +12,8 @@ pub fn refused(number: u32) -> RecordWritten
         number,
         count: 0,
         state: SheetState {
-            tables: 0,
-            least: 0,
+            has_table: 0,
+            least_row: 0,
         },
     }
 }

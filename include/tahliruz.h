@@ -274,7 +274,7 @@ enum tahliruz_kind {
  * of place, 16, if it is
  *  - a table, and has_table is not 0;
  *  - no table, and has_table is 0;
- *  - a row whose number is below least_row.
+ *  - a row whose number is below least_row, or above 65535.
  */
 struct tahliruz_sheet {
     uint32_t has_table;     /* 1 once the sheet has its table, 0 before */
@@ -373,7 +373,8 @@ struct tahliruz_written {
  * Writes one record of a sheet.
  *
  *   kind     1 to 4; any other, however large, is 15
- *   row      the row number; looked at for kinds 2 and 3 only
+ *   row      the row number, of which all 32 bits count: above 65535 is 16;
+ *            looked at for kinds 2 and 3 only
  *   content  content_len bytes: a table; or the pixels of a row, 2 bytes each;
  *            or the numbers of a line, 4 bytes each, signed, two's complement,
  *            little-endian
@@ -403,7 +404,7 @@ struct tahliruz_written {
  * Count: the bytes of the whole record, its length field included. It is in the
  * first count bytes of out. After a refusal out is as it was.
  */
-struct tahliruz_written tahliruz_write_record(uint32_t kind, uint16_t row,
+struct tahliruz_written tahliruz_write_record(uint32_t kind, uint32_t row,
                                               const uint8_t *content, size_t content_len,
                                               const uint8_t *table, size_t table_len,
                                               struct tahliruz_sheet state,

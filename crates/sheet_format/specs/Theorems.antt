@@ -50,29 +50,29 @@ pub mod Stored
 -- ---- what is written is read back
 -- From the bytes that a done write counts, whatever follows them, and with room for the content, reading gives number 0, the
 -- kind, row, count and content that were given, the length that was counted, and the state that the writer answered.
-module _ (code : ℕ) (h : Heading) (c : Context) (x m : List ℕ) (small : h .row < 65536) (bytes : Below 256 x)
+module _ (code : ℕ) (h : Heading) (c : Context) (x m : List ℕ) (bytes : Below 256 x)
     (done : recordWritten code h c x m .answer .number ≡ 0) where
   pub written-read : (rest m′ : List ℕ) → length (contentGiven (kindOf code) x) ≤ length m′
       → let w = recordWritten code h c x m in
       recordRead c (take (w .answer .count) (w .memory) ++ rest) m′
       ≡ writes (recordGiven code h c x (w .answer)) (contentGiven (kindOf code) x) m′
-  written-read = read-written code h c x m small bytes done
+  written-read = read-written code h c x m bytes done
 
   -- and judging accepts it
   pub written-judged : (rest : List ℕ)
       → let w = recordWritten code h c x m in
       recordJudged c (take (w .answer .count) (w .memory) ++ rest) ≡ recordGiven code h c x (w .answer)
-  written-judged = judged-written code h c x m small bytes done
+  written-judged = judged-written code h c x m bytes done
 
   -- a table's bytes are the record's from place 6 on
   pub written-table : code ≡ 1 → let w = recordWritten code h c x m in drop 6 (take (w .answer .count) (w .memory)) ≡ x
-  written-table = table-written code h c x m small bytes done
+  written-table = table-written code h c x m bytes done
 
   -- it is 6 to 32778 bytes
   pub written-length :
       let w = recordWritten code h c x m in
       (6 ≤ w .answer .count) × (w .answer .count ≤ 32778)
-  written-length = length-written code h c x m small bytes done
+  written-length = length-written code h c x m bytes done
 
 -- A sheet of written records, each done in what the one before left, is accepted, and its records are those.
 pub written-sheet : (w : Write) (ws : List Write) → AllDone newSheet (w ∷ ws)

@@ -18,7 +18,7 @@ pub fn table_place(state: SheetState) -> u32
     if state.has_table == 0 { 0 } else { 16 }
 }
 
-// A row comes after the table, and "Row numbers rise strictly": 0 or 16.
+// A row comes after the table, and "Row numbers rise strictly" up to 65535, the last that two bytes hold: 0 or 16.
 pub fn row_place(row: u32, state: SheetState) -> u32
     ensures { λ r. ⌜ ((c : Context) → stateOf c ≡ state → r ≡ rowPlace c (record { row = row })) ⌝ }
 {
@@ -26,6 +26,9 @@ pub fn row_place(row: u32, state: SheetState) -> u32
         return 16;
     }
     if row < state.least_row {
+        return 16;
+    }
+    if 65535 < row {
         return 16;
     }
     0

@@ -17,7 +17,7 @@ ghost use Rattle.sheet_format.specs.Writing.{recordWritten};
 const FIELD_BYTES: usize = 10;
 
 pub fn write_packed(
-    row: u16,
+    row: u32,
     content: &[u8],
     table: &[u8],
     state: SheetState,
@@ -26,7 +26,7 @@ pub fn write_packed(
     ensures { λ r. ⌜ outcome r (now (out .exit)) ≡ recordWritten 2 (record { row = row })
         (contextOf (now (table .entry)) state) (now (content .entry)) (now (out .entry)) ⌝ }
 {
-    let place = row_place(row as u32, state);
+    let place = row_place(row, state);
     if place != 0 {
         return refused(place);
     }
@@ -44,7 +44,7 @@ pub fn write_packed(
     let words = ((packed.count + 31) / 32) as usize;
     let record_bytes = FIELD_BYTES + 4 * words;
     put_row_fields(2, row, pixels as u32, record_bytes as u32, out);
-    written(record_bytes as u32, after_row(row as u32, state))
+    written(record_bytes as u32, after_row(row, state))
 }
 
 fn lesser(a: usize, b: usize) -> usize

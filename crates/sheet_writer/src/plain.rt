@@ -18,7 +18,7 @@ ghost use Rattle.sheet_writer.specs.Judged.{judged};
 // Length 4, kind 2, row number 2 and pixel count 2.
 const FIELD_BYTES: usize = 10;
 
-pub fn write_plain(row: u16, content: &[u8], state: SheetState, out: &mut [u8]) -> RecordWritten
+pub fn write_plain(row: u32, content: &[u8], state: SheetState, out: &mut [u8]) -> RecordWritten
     ensures { λ r. ⌜ ((c : Context) → stateOf c ≡ state → outcome r (now (out .exit))
         ≡ recordWritten 3 (record { row = row }) c (now (content .entry)) (now (out .entry))) ⌝ }
 {
@@ -35,14 +35,14 @@ pub fn write_plain(row: u16, content: &[u8], state: SheetState, out: &mut [u8]) 
     }
     copy(&content[..end], &mut out[FIELD_BYTES..]);
     put_row_fields(3, row, pixels as u32, record_bytes as u32, out);
-    written(record_bytes as u32, after_row(row as u32, state))
+    written(record_bytes as u32, after_row(row, state))
 }
 
 // The refusals before the one for room: 16, 11, 4.
-fn plain_number(row: u16, content: &[u8], state: SheetState) -> u32
+fn plain_number(row: u32, content: &[u8], state: SheetState) -> u32
     ensures { λ r. ⌜ ((c : Context) → stateOf c ≡ state → r ≡ judged plainKind (record { row = row }) c (now (content .entry))) ⌝ }
 {
-    let place = row_place(row as u32, state);
+    let place = row_place(row, state);
     if place != 0 {
         return place;
     }

@@ -17,7 +17,7 @@ ghost use Rattle.sheet_format.specs.Writing.{recordWritten};
 // 1 to 3, 11, 4, 5, with the memory as it was.
 pub fn write_record(
     kind: u32,
-    row: u16,
+    row: u32,
     content: &[u8],
     table: &[u8],
     state: SheetState,

@@ -137,7 +137,7 @@ pub extern "C" fn tahliruz_read_record(
 #[no_mangle]
 pub extern "C" fn tahliruz_write_record(
     kind: u32,
-    row: u16,
+    row: u32,
     content: &[u8],
     table: &[u8],
     state: SheetState,

@@ -53,12 +53,13 @@ fn answer(
 ) -> RecordAnswer {
     let judged = frame(bytes).and_then(|record| {
         let fields = fixed_fields(record)?;
-        if !state.allows(fields.kind, fields.row) {
+        let row = u32::from(fields.row);
+        if !state.allows(fields.kind, row) {
             return Err(PLACE);
         }
         let content = body_content(&fields, codec, lent)?;
         let used = LENGTH_BYTES + record.len();
-        Ok((content, used, state.after(fields.kind, fields.row)))
+        Ok((content, used, state.after(fields.kind, row)))
     });
     match judged {
         Ok((content, used, state)) => {

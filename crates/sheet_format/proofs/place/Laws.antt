@@ -50,9 +50,14 @@ module _ (st : SheetState) (c : Context) (is : stateOf c ≡ st) where
       unfolding rowPlace
       row-not-risen less = rw (some table, least-is, lt-ltb (h .row) (st .«least_row») less)
 
-      pub row-risen : st .«least_row» ≤ h .row → 0 ≡ rowPlace c h
-      unfolding rowPlace
-      row-risen most = rw (some table, least-is, le-ltb (h .row) (st .«least_row») most)
+      module _ (risen : st .«least_row» ≤ h .row) where
+        pub row-above : 65535 < h .row → 16 ≡ rowPlace c h
+        unfolding rowPlace
+        row-above more = rw (some table, least-is, le-ltb (h .row) (st .«least_row») risen, lt-ltb 65535 (h .row) more)
+
+        pub row-risen : h .row ≤ 65535 → 0 ≡ rowPlace c h
+        unfolding rowPlace
+        row-risen most = rw (some table, least-is, le-ltb (h .row) (st .«least_row») risen, le-ltb 65535 (h .row) most)
 
     pub after-table : (b : List ℕ) → length (c .tables) ≡ 0
         → record { «has_table» = 1; «least_row» = st .«least_row» } ≡ stateOf (afterRecord aTable h b c)

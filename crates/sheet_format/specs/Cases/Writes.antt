@@ -69,7 +69,8 @@ abbrev pub refusedWrite : ℕ → ℕ → ℕ → List ℕ → List ℕ → Shee
 refusedWrite number kind row table content state room =
     record { number = number; kind = kind; row = row; table = table; content = content; state = state; room = room }
 
--- 15 before 16; 16 before 1; 1 before 4; 4 before 5; 5 by one byte; a plain row under no table at all
+-- 15 before 16; 16 before 1; no row above 65535, while no other kind's number is looked at; 1 before 4; 4 before 5; 5 by one
+-- byte; a plain row under no table at all
 abbrev pub refusedWrites : List RefusedWrite
 refusedWrites =
     refusedWrite 15 0 0 [] [] empty 0 ∷
@@ -79,6 +80,12 @@ refusedWrites =
     refusedWrite 16 2 4 [] (0 ∷ 16 ∷ []) begun 0 ∷
     refusedWrite 16 3 4 [] (0 ∷ 16 ∷ []) begun 0 ∷
     refusedWrite 16 4 9 [] [] empty 0 ∷
+    refusedWrite 16 2 65536 smallTable [] begun 99 ∷
+    refusedWrite 0 2 65535 smallTable [] begun 99 ∷
+    refusedWrite 16 3 70000 [] [] begun 99 ∷
+    refusedWrite 0 3 65535 [] [] begun 99 ∷
+    refusedWrite 0 1 70000 [] smallTable empty 34 ∷
+    refusedWrite 0 4 70000 [] [] begun 99 ∷
     refusedWrite 1 1 0 [] [] empty 0 ∷
     refusedWrite 1 1 0 smallTable (smallTable ++ (0 ∷ [])) empty 99 ∷
     refusedWrite 1 2 5 [] (0 ∷ 16 ∷ []) begun 0 ∷

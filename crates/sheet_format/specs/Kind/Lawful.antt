@@ -1,5 +1,5 @@
 -- What every kind of record owes, so that all that is proved of records is proved once, over a lawful kind. Assumes nothing.
-use Prim.Native.Nat.{ℕ, _*_, _≤_, _<_}
+use Prim.Native.Nat.{ℕ, _*_, _≤_}
 use mathlib.Core.Path.{_≡_}
 use mathlib.Core.List.{List}
 use lib.ListN.{length}
@@ -95,5 +95,5 @@ pub record Lawful (k : Kind) : Type 1 where
   pub given-in : (P : ℕ → Type 0) → ListedGiven P → (h : Heading) (c : Context) (x : List ℕ) → P (k .given h c x)
   -- ---- what is written is read back
   pub readable-back : k .writable ≡ 0 → k .readable ≡ 0
-  pub back : (h : Heading) (c : Context) (x : List ℕ) → h .row < 65536 → Below 256 x → k .writable ≡ 0
+  pub back : (h : Heading) (c : Context) (x : List ℕ) → Below 256 x → k .writable ≡ 0 → k .place c h ≡ 0
       → k .given h c x ≡ 0 → Back k h c x (k .body h c x)

@@ -1,5 +1,5 @@
 -- What is written is read back, whatever follows it. Assumes nothing.
-use Prim.Native.Nat.{ℕ, _+_, _*_, _≤_, _<_}
+use Prim.Native.Nat.{ℕ, _+_, _*_, _≤_}
 use native.Mathlib.Omega.{arith}
 use mathlib.Core.Path.{_≡_, refl, ap, _∙_}
 use mathlib.Core.List.{List, _++_}
@@ -21,8 +21,8 @@ use Rattle.sheet_format.specs.Writing.{recordFor, recordDone, Writable}
 use Rattle.sheet_format.specs.Writing.Laws.{Fields, fields-recordBytes, length-recordBytes}
 use Rattle.sheet_format.specs.Given.{recordGiven}
 
-module _ (code : ℕ) (h : Heading) (c : Context) (x : List ℕ) (small : h .row < 65536) (bytes : Below 256 x)
-    (w : Writable code h c x) (rest : List ℕ) where
+module _ (code : ℕ) (h : Heading) (c : Context) (x : List ℕ) (bytes : Below 256 x) (w : Writable code h c x)
+    (rest : List ℕ) where
   abbrev k : Kind
   k = kindOf code
 
@@ -30,7 +30,7 @@ module _ (code : ℕ) (h : Heading) (c : Context) (x : List ℕ) (small : h .row
   body = k .body h c x
 
   back : Back k h c x body
-  back = lawful code .back h c x small bytes (w .writable) (w .given)
+  back = lawful code .back h c x bytes (w .writable) (w .place) (w .given)
 
   readable : k .readable ≡ 0
   readable = lawful code .readable-back (w .writable)

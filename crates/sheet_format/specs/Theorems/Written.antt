@@ -19,7 +19,7 @@ use Rattle.sheet_format.specs.Writing.Laws.{recordWritten-number, record
 use Rattle.sheet_format.specs.Given.{recordGiven}
 use Rattle.sheet_format.specs.Theorems.ReadBack.{recordRead-back, recordJudged-back}
 
-module _ (code : ℕ) (h : Heading) (c : Context) (x m : List ℕ) (small : h .row < 65536) (bytes : Below 256 x)
+module _ (code : ℕ) (h : Heading) (c : Context) (x m : List ℕ) (bytes : Below 256 x)
     (done : recordWritten code h c x m .answer .number ≡ 0) where
   abbrev written : Outcome RecordWritten
   written = recordWritten code h c x m
@@ -41,10 +41,10 @@ module _ (code : ℕ) (h : Heading) (c : Context) (x m : List ℕ) (small : h .r
 
   pub read-written : (rest m′ : List ℕ) → length (contentGiven (kindOf code) x) ≤ length m′
       → recordRead c (front ++ rest) m′ ≡ writes (recordGiven code h c x (written .answer)) (contentGiven (kindOf code) x) m′
-  read-written rest m′ room = rw (whole, answered) (recordRead-back code h c x small bytes can rest m′ room)
+  read-written rest m′ room = rw (whole, answered) (recordRead-back code h c x bytes can rest m′ room)
 
   pub judged-written : (rest : List ℕ) → recordJudged c (front ++ rest) ≡ recordGiven code h c x (written .answer)
-  judged-written rest = rw (whole, answered) (recordJudged-back code h c x small bytes can rest)
+  judged-written rest = rw (whole, answered) (recordJudged-back code h c x bytes can rest)
 
   pub table-written : code ≡ 1 → drop 6 front ≡ x
   table-written one = rw whole (recordBytes-table code h c x one)

@@ -182,5 +182,5 @@ line-lawful = record {
   own-in = lineOwn-in;
   given-in = λ P l h c x. refuseIf-in P (ltb 4096 (length (givenNumbers x))) 11 (l .p0) (l .p11);
   readable-back = λ e. refl;
-  back = λ h c x small bytes writable given. line-back h c x bytes given;
+  back = λ h c x bytes writable place given. line-back h c x bytes given;
 }

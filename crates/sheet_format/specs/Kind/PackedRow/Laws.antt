@@ -27,7 +27,7 @@ use Rattle.sheet_format.specs.Fields.{shorterThan}
 use Rattle.sheet_format.specs.Kind.{aRow, afterRecord}
 use Rattle.sheet_format.specs.Kind.Lawful.{Listed, ListedGiven, Back, Lawful}
 use Rattle.sheet_format.specs.Kind.Row.{rowHeading, pixelCount, rowContent, rowPlace, givenPixels}
-use Rattle.sheet_format.specs.Kind.Row.Laws.{RowFields, row-fields, given-pixels, pixels-size, rowPlace-table, rowPlace-risen, rowPlace-in}
+use Rattle.sheet_format.specs.Kind.Row.Laws.{RowFields, row-fields, given-pixels, pixels-size, rowPlace-table, rowPlace-risen, rowPlace-small, rowPlace-in}
 use Rattle.sheet_format.specs.Kind.PackedRow.{packedReading, packedLeftover, packedOwn, packedBits, packedContent, packedGiven, packedBody, packedTakes, packedKind}
 
 -- ---- where room is asked: after 1, 2, 3 and 11, before the items
@@ -190,5 +190,5 @@ packed-lawful = record {
   own-in = packedOwn-in;
   given-in = packedGiven-in;
   readable-back = λ e. refl;
-  back = λ h c x small bytes writable given. packed-back h c x small bytes given;
+  back = λ h c x bytes writable place given. packed-back h c x (rowPlace-small c h place) bytes given;
 }

@@ -16,7 +16,7 @@ use Rattle.sheet_format.specs.Context.{Heading, Context}
 use Rattle.sheet_format.specs.Kind.{aRow, afterRecord}
 use Rattle.sheet_format.specs.Kind.Lawful.{Listed, ListedGiven, Back, Lawful}
 use Rattle.sheet_format.specs.Kind.Row.{rowHeading, pixelCount, rowContent, rowPlace, givenPixels}
-use Rattle.sheet_format.specs.Kind.Row.Laws.{RowFields, row-fields, given-pixels, pixels-size, halves-same, rowPlace-table, rowPlace-risen, rowPlace-in}
+use Rattle.sheet_format.specs.Kind.Row.Laws.{RowFields, row-fields, given-pixels, pixels-size, halves-same, rowPlace-table, rowPlace-risen, rowPlace-small, rowPlace-in}
 use Rattle.sheet_format.specs.Kind.PlainRow.{plainNumber, plainOwn, plainContent, plainGiven, plainBody, plainKind}
 
 -- ---- room is asked last
@@ -114,5 +114,5 @@ plain-lawful = record {
   own-in = plainOwn-in;
   given-in = plainGiven-in;
   readable-back = λ e. refl;
-  back = λ h c x small bytes writable given. plain-back h c x small bytes given;
+  back = λ h c x bytes writable place given. plain-back h c x (rowPlace-small c h place) bytes given;
 }

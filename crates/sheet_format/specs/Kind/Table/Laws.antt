@@ -64,5 +64,5 @@ table-lawful = record {
   own-in = λ P l m room c b. tableNumber-in P b (l .p0) (l .p1) (l .p2) (l .p3);
   given-in = λ P l h c x. tableNumber-in P x (l .p0) (l .p1) (l .p2) (l .p3);
   readable-back = λ e. refl;
-  back = λ h c x small bytes writable given. table-back h c x given;
+  back = λ h c x bytes writable place given. table-back h c x given;
 }

@@ -11,6 +11,7 @@ use Rattle.row_format.specs.Calls.{packed}
 use Rattle.sheet_format.specs.Context.{Heading, Context, stateOf, contextOf}
 use Rattle.sheet_format.specs.Context.Laws.{stateOf-contextOf}
 use Rattle.sheet_format.specs.Kind.Row.{rowPlace}
+use Rattle.sheet_format.specs.Kind.Row.Laws.{rowPlace-small}
 use Rattle.sheet_writer.proofs.Frame.{frame-refused}
 use Rattle.sheet_writer.proofs.packed.Laws.{Ran, table-lent, packed-frame, pack-refused, pack-short, pack-few, pack-most, pack-done}
 use Rattle.sheet_writer.proofs.packed.write_packed.Statement.{statement}
@@ -143,7 +144,12 @@ cast-written c =
     omega (arith, pack-most (ran at-pack) (at-if2 .if2 .left))
 
 after-row-requires : tie.Need-after-row-requires
-after-row-requires c κs = search needs
+after-row-requires c κs =
+    let at-put-row-fields = c .before .before in
+    let at-if2 = at-put-row-fields .before .before .before .before in
+    let at-pack = at-if2 .before .before .before .before in
+    let at-if1 = at-pack .before .before .before in
+    rowPlace-small (context (entry at-if1)) (heading (entry at-if1)) (placed at-if1)
 
 written-requires : tie.Need-written-requires
 written-requires c κs = search needs

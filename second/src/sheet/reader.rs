@@ -65,9 +65,7 @@ fn answer(
         Ok((content, used, state)) => {
             RecordAnswer { number: DONE, content: Some(content), used, state }
         }
-        Err(number) => {
-            RecordAnswer { number, content: None, used: 0, state: State::default() }
-        }
+        Err(number) => RecordAnswer { number, content: None, used: 0, state: State::default() },
     }
 }
 

@@ -27,8 +27,7 @@ fn number(state: State, bytes: &[u8]) -> u32 {
     let mut lent = vec![0xA5; 4 * 4096];
     assert_eq!(read_record(state, Ok(&codec), bytes, &mut lent), judged);
     if judged.number != 0 {
-        let refused =
-            RecordAnswer { number: judged.number, content: None, used: 0, state: EMPTY };
+        let refused = RecordAnswer { number: judged.number, content: None, used: 0, state: EMPTY };
         assert_eq!(judged, refused);
         assert!(lent.iter().all(|&byte| byte == 0xA5));
     }

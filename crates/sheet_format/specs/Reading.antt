@@ -18,8 +18,8 @@ pub mod Laws
 abbrev pub afterBody : Kind → List ℕ → Context → Context
 afterBody k b c = afterRecord (k .holds) (k .heading b) b c
 
-abbrev pub held : Kind → ℕ → ℕ → Context → List ℕ → RecordRead
-held k code whole c b =
+abbrev pub bodyHeld : Kind → ℕ → ℕ → Context → List ℕ → RecordRead
+bodyHeld k code whole c b =
     record {
       number = 0;
       kind = code;
@@ -32,7 +32,7 @@ held k code whole c b =
     }
 
 unfoldable pub recordHeld : Context → List ℕ → RecordRead
-recordHeld c r = held (kindOf (kindField r)) (kindField r) (4 + lengthField r) c (bodyOf r)
+recordHeld c r = bodyHeld (kindOf (kindField r)) (kindField r) (4 + lengthField r) c (bodyOf r)
 
 -- its content: 2 bytes a pixel, 4 a number
 unfoldable pub recordContent : Context → List ℕ → List ℕ

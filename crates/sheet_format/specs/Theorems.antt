@@ -21,7 +21,7 @@ use Rattle.sheet_format.specs.Kinds.{kindOf}
 use Rattle.sheet_format.specs.Record.{lengthField, kindField, bodyOf, lengthNumber, recordSpan}
 use Rattle.sheet_format.specs.Reading.{answerBytes, contextAfter, recordContent, judgedNumbers, refusedRecord, recordJudged, recordRead}
 use Rattle.sheet_format.specs.Reading.Laws.{judged-length}
-use Rattle.sheet_format.specs.Writing.{writtenNumbers, notWritten, recordFor, recordWritten, Writable}
+use Rattle.sheet_format.specs.Writing.{writtenNumbers, notWritten, recordFor, recordWritten, RecordWritable}
 use Rattle.sheet_format.specs.Sheet.{SheetRecord, ReadFrom, endsWith, putFirst, recordHere, restNext, records, sheetRead, recordHolds, numbersHeld, storedRows, storedLines, absent, present, heightsOf, recordKinds, rowNumbers}
 use Rattle.sheet_format.specs.Sheet.Laws.{records-end, records-refused, records-more}
 use Rattle.sheet_format.specs.Given.{recordGiven, Write, AllDone, sheetBytes, sheetGiven}
@@ -175,7 +175,7 @@ module _ (c : Context) (r m : List ℕ) (ok : recordJudged c r .number ≡ 0) wh
   read-refused-room = recordRead-full c r m ok
 
 -- Writing, where no other refusal is given, is refused 5 exactly when fewer bytes are lent than the whole record's.
-module _ (code : ℕ) (h : Heading) (c : Context) (x m : List ℕ) (ok : Writable code h c x) where
+module _ (code : ℕ) (h : Heading) (c : Context) (x m : List ℕ) (ok : RecordWritable code h c x) where
   pub written-granted : length (recordFor code h c x) ≤ length m → recordWritten code h c x m .answer .number ≡ 0
   written-granted = granted-written code h c x m ok
 

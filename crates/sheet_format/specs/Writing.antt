@@ -34,7 +34,7 @@ abbrev pub writtenNumbers : List ℕ
 writtenNumbers = 0 ∷ 15 ∷ 16 ∷ 1 ∷ 2 ∷ 3 ∷ 11 ∷ 4 ∷ 5 ∷ []
 
 -- what is asked before room
-pub record Writable (code : ℕ) (h : Heading) (c : Context) (x : List ℕ) : Type 0 where
+pub record RecordWritable (code : ℕ) (h : Heading) (c : Context) (x : List ℕ) : Type 0 where
   pub writable : kindOf code .writable ≡ 0
   pub place : kindOf code .place c h ≡ 0
   pub given : kindOf code .given h c x ≡ 0

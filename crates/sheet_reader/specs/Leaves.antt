@@ -10,7 +10,7 @@ use Rattle.sheet_format.specs.Kind.{Kind}
 use Rattle.sheet_format.specs.Kind.Table.{tableKind}
 use Rattle.sheet_format.specs.Kinds.{kindOf}
 use Rattle.sheet_format.specs.Record.{contentNumber, recordNumber}
-use Rattle.sheet_format.specs.Reading.{held, recordHeld, recordContent, refusedRecord}
+use Rattle.sheet_format.specs.Reading.{bodyHeld, recordHeld, recordContent, refusedRecord}
 pub mod Laws
 
 -- what a reading leaves whose number is e, and which holds a and the content d where that is 0: the answer x, and m′ of the
@@ -21,12 +21,12 @@ pub record Leaves (e : ℕ) (a : RecordRead) (d : List ℕ) (room : ℕ) (m : Li
 
 -- of the content of a record, its kind known, in a sheet that holds c
 pub record ContentLeaves (k : Kind) (room code whole : ℕ) (c : Context) (b m : List ℕ) (x : RecordRead) (m′ : List ℕ) : Type 0 where
-  pub leaves : Leaves (contentNumber k (lent room) c b) (held k code whole c b) (k .content c b) room m x m′
+  pub leaves : Leaves (contentNumber k (lent room) c b) (bodyHeld k code whole c b) (k .content c b) room m x m′
 
 -- of a record, its length known
 pub record BodyLeaves (room code whole : ℕ) (c : Context) (b m : List ℕ) (x : RecordRead) (m′ : List ℕ) : Type 0 where
   pub leaves : Leaves (kindOf code .readable orElse contentNumber (kindOf code) (lent room) c b)
-      (held (kindOf code) code whole c b) (kindOf code .content c b) room m x m′
+      (bodyHeld (kindOf code) code whole c b) (kindOf code .content c b) room m x m′
 
 -- of a record
 pub record RecordLeaves (room : ℕ) (c : Context) (r m : List ℕ) (x : RecordRead) (m′ : List ℕ) : Type 0 where
@@ -34,4 +34,4 @@ pub record RecordLeaves (room : ℕ) (c : Context) (r m : List ℕ) (x : RecordR
 
 -- of a table nothing is written, and no room is asked
 abbrev pub tableJudged : ℕ → Context → List ℕ → RecordRead
-tableJudged whole c b = unless (contentNumber tableKind nothing c b) refusedRecord (held tableKind 1 whole c b)
+tableJudged whole c b = unless (contentNumber tableKind nothing c b) refusedRecord (bodyHeld tableKind 1 whole c b)

@@ -1,5 +1,5 @@
 // A contour line in a record.
-use crate::answers::held;
+use crate::answers::accepted;
 use crate::numbers::judge_numbers;
 use crate::numbers::keep_numbers;
 use bitstream::number::read_u16;
@@ -38,7 +38,7 @@ pub fn read_line(
     }
     let line = &body[2..];
     keep_numbers(line, count as usize, room, content);
-    held(4, 0, count, 0, whole, state)
+    accepted(4, 0, count, 0, whole, state)
 }
 
 // "Kind 4: 11, then 12 or 13 at the earliest number", then a leftover, and 5 last.

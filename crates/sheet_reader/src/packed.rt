@@ -1,5 +1,5 @@
 // A packed row in a record.
-use crate::answers::held;
+use crate::answers::accepted;
 use crate::keep::keep;
 use crate::row::row_fields;
 use answer::Answer;
@@ -50,7 +50,7 @@ pub fn read_packed(
         return refused(number);
     }
     keep(&pixels, 2 * count as usize, room, content);
-    held(2, row, count, unpacked.count, whole, after_row(row, state))
+    accepted(2, row, count, unpacked.count, whole, after_row(row, state))
 }
 
 // The row's bits, and its pixels to the front of `pixels`; 14 where a word is left after the last used one. Unpacking gives

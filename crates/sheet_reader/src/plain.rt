@@ -1,5 +1,5 @@
 // A plain row in a record: two bytes a pixel, unpacked.
-use crate::answers::held;
+use crate::answers::accepted;
 use crate::keep::keep;
 use crate::row::row_fields;
 use row_pixels::any_above;
@@ -38,7 +38,7 @@ pub fn read_plain(
     }
     let pixels = &body[4..];
     keep(pixels, 2 * count as usize, room, content);
-    held(3, row, count, 0, whole, after_row(row, state))
+    accepted(3, row, count, 0, whole, after_row(row, state))
 }
 
 // "Kind 3: 11, 14 unless the bytes are twice the count, 4", and 5 last.

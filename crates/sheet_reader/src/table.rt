@@ -1,5 +1,5 @@
 // A table in a record.
-use crate::answers::held;
+use crate::answers::accepted;
 use row_unpacker::unpack::unpack;
 use sheet_format::RecordRead;
 use sheet_format::SheetState;
@@ -28,7 +28,7 @@ pub fn read_table(body: &[u8], whole: u32, state: SheetState) -> RecordRead
     if number != 0 {
         return refused(number);
     }
-    held(1, 0, (body.len() / 4) as u32, 0, whole, after_table(state))
+    accepted(1, 0, (body.len() / 4) as u32, 0, whole, after_table(state))
 }
 
 // An unpacking of no pixels is refused exactly as its table is. The check is asked for in this way so that its copy of the

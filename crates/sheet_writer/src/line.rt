@@ -12,7 +12,7 @@ ghost use Rattle.answer.specs.Outcome.{outcome};
 ghost use Rattle.sheet_format.specs.Context.{Heading, Context, stateOf};
 ghost use Rattle.sheet_format.specs.Kind.ContourLine.{lineKind};
 ghost use Rattle.sheet_format.specs.Writing.{recordWritten};
-ghost use Rattle.sheet_writer.specs.Judged.{judged};
+ghost use Rattle.sheet_writer.specs.BeforeRoom.{beforeRoom};
 
 // Length 4, kind 2 and count 2.
 const FIELD_BYTES: usize = 8;
@@ -37,7 +37,7 @@ pub fn write_line(content: &[u8], state: SheetState, out: &mut [u8]) -> RecordWr
 
 // The refusals before the one for room: 16 and 11.
 fn line_number(content: &[u8], state: SheetState) -> u32
-    ensures { λ r. ⌜ ((c : Context) (h : Heading) → stateOf c ≡ state → r ≡ judged lineKind h c (now (content .entry))) ⌝ }
+    ensures { λ r. ⌜ ((c : Context) (h : Heading) → stateOf c ≡ state → r ≡ beforeRoom lineKind h c (now (content .entry))) ⌝ }
 {
     let place = line_place(state);
     if place != 0 {

@@ -13,7 +13,7 @@ ghost use Rattle.answer.specs.Outcome.{outcome};
 ghost use Rattle.sheet_format.specs.Context.{Context, stateOf};
 ghost use Rattle.sheet_format.specs.Kind.PlainRow.{plainKind};
 ghost use Rattle.sheet_format.specs.Writing.{recordWritten};
-ghost use Rattle.sheet_writer.specs.Judged.{judged};
+ghost use Rattle.sheet_writer.specs.BeforeRoom.{beforeRoom};
 
 // Length 4, kind 2, row number 2 and pixel count 2.
 const FIELD_BYTES: usize = 10;
@@ -40,7 +40,7 @@ pub fn write_plain(row: u32, content: &[u8], state: SheetState, out: &mut [u8]) 
 
 // The refusals before the one for room: 16, 11, 4.
 fn plain_number(row: u32, content: &[u8], state: SheetState) -> u32
-    ensures { λ r. ⌜ ((c : Context) → stateOf c ≡ state → r ≡ judged plainKind (record { row = row }) c (now (content .entry))) ⌝ }
+    ensures { λ r. ⌜ ((c : Context) → stateOf c ≡ state → r ≡ beforeRoom plainKind (record { row = row }) c (now (content .entry))) ⌝ }
 {
     let place = row_place(row, state);
     if place != 0 {

@@ -4,7 +4,7 @@ use mathlib.Core.Path.{_≡_, refl}
 use mathlib.Core.List.{List}
 use lib.ListN.{length, replicate, length-replicate}
 use Rattle.sheet_format.specs.declared.SheetState.{SheetState}
-use Rattle.sheet_format.specs.Context.{Heading, Context, tableFor, stateOf, contextOf}
+use Rattle.sheet_format.specs.Context.{Heading, tableFor, stateOf, contextOf}
 
 module _ (tb : List ℕ) (st : SheetState) where
   pub tables-contextOf : length (contextOf tb st .tables) ≡ st .«has_table»

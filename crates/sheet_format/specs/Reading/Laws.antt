@@ -9,7 +9,7 @@ use Rattle.answer.specs.Outcome.Laws.{unless-part, unless-number}
 use Rattle.sheet_format.specs.declared.RecordRead.{RecordRead}
 use Rattle.sheet_format.specs.Context.{Context, stateOf}
 use Rattle.sheet_format.specs.Record.{lengthField, kindField, bodyOf, recordNumber}
-use Rattle.sheet_format.specs.Record.Laws.{Read, recordNumber-read}
+use Rattle.sheet_format.specs.Record.Laws.{RecordAccepted, recordNumber-read}
 use Rattle.sheet_format.specs.Kinds.{kindOf}
 use Rattle.sheet_format.specs.Reading.{afterBody, recordHeld, recordContent, contextAfter, refusedRecord, recordJudged, recordRead}
 
@@ -38,10 +38,6 @@ module _ (c : Context) (r : List ℕ) where
   unfolding recordJudged
   recordJudged-done e = rw e
 
-  pub recordJudged-refuses : (e : ℕ) → recordNumber nothing c r ≡ suc e → recordJudged c r ≡ refusedRecord (suc e)
-  unfolding recordJudged
-  recordJudged-refuses e h = rw h
-
 -- ---- reading
 module _ (c : Context) (r m : List ℕ) where
   pub recordRead-answer : recordRead c r m .answer
@@ -68,7 +64,7 @@ module _ (c : Context) (r m : List ℕ) where
 
 -- ---- a record that judging accepts
 module _ (c : Context) (r : List ℕ) (ok : recordJudged c r .number ≡ 0) where
-  pub judged-read : Read nothing c r
+  pub judged-read : RecordAccepted nothing c r
   judged-read = recordNumber-read nothing c r (sym (recordJudged-number c r) ∙ ok)
 
   pub judged-held : recordJudged c r ≡ recordHeld c r

@@ -11,7 +11,7 @@ use borrow.Author.Tests.{le-ltb, lt-ltb}
 use Rattle.bitstream.specs.Bits.{numberOf}
 use Rattle.row_format.specs.Lists.Laws.{field-take}
 use Rattle.answer.specs.Outcome.{outcome, Lent, nothing, lent}
-use Rattle.sheet_format.specs.Context.{Context, stateOf}
+use Rattle.sheet_format.specs.Context.{Context}
 use Rattle.sheet_format.specs.Record.{lengthField, kindField, bodyOf, lengthNumber, recordNumber, recordSpan}
 use Rattle.sheet_format.specs.Record.Laws.{RightLength, right-length, lengthNumber-right, lengthNumber-wrong}
 use Rattle.sheet_format.specs.Reading.{recordHeld, recordContent, contextAfter, refusedRecord, recordJudged, recordRead}

@@ -1,13 +1,12 @@
 -- A refused call moves nothing, and a done write changes only the bytes that it counts. Assumes nothing.
-use Prim.Native.Nat.{ℕ, zero, suc, _≤_}
+use Prim.Native.Nat.{ℕ, zero, suc}
 use mathlib.Core.Path.{_≡_, refl}
 use mathlib.Core.List.{List}
 use lib.ListN.{length}
-use Rattle.answer.specs.Outcome.{Outcome, outcome, writes, nothing, lent, Kept, Within}
+use Rattle.answer.specs.Outcome.{writes, nothing, lent, Kept, Within}
 use Rattle.answer.specs.Outcome.Laws.{unless-in, unless-kept, writes-within}
-use Rattle.sheet_format.specs.declared.RecordRead.{RecordRead}
 use Rattle.sheet_format.specs.declared.RecordWritten.{RecordWritten}
-use Rattle.sheet_format.specs.Context.{Heading, Context, stateOf}
+use Rattle.sheet_format.specs.Context.{Heading, Context}
 use Rattle.sheet_format.specs.Record.{recordNumber}
 use Rattle.sheet_format.specs.Reading.{refusedRecord, recordHeld, recordContent, recordJudged, recordRead}
 use Rattle.sheet_format.specs.Reading.Laws.{readNumber}

@@ -11,7 +11,7 @@ use Rattle.sheet_format.specs.declared.RecordWritten.{RecordWritten}
 use Rattle.sheet_format.specs.Context.{Context, newSheet}
 use Rattle.sheet_format.specs.Kinds.{kindOf}
 use Rattle.sheet_format.specs.Reading.{contextAfter, recordContent, recordJudged}
-use Rattle.sheet_format.specs.Writing.{writeNumber, recordFor, recordDone, Writable}
+use Rattle.sheet_format.specs.Writing.{writeNumber, recordFor, recordDone, RecordWritable}
 use Rattle.sheet_format.specs.Writing.Laws.{length-recordBytes, writable, recordWritten-number, recordWritten-done, recordWritten-front}
 use Rattle.sheet_format.specs.Sheet.{SheetRead, putFirst, recordHere, restNext, records, sheetRead}
 use Rattle.sheet_format.specs.Sheet.Laws.{records-end, records-more}
@@ -42,7 +42,7 @@ module _ (c : Context) (w : Write) (d : Done c w) where
   number : writeNumber (w .kind) (w .heading) c (w .content) (length (w .memory)) ≡ 0
   number = sym (recordWritten-number (w .kind) (w .heading) c (w .content) (w .memory)) ∙ d .done
 
-  can : Writable (w .kind) (w .heading) c (w .content)
+  can : RecordWritable (w .kind) (w .heading) c (w .content)
   can = writable (w .kind) (w .heading) c (w .content) (length (w .memory)) number
 
   bytes-written : bytesWritten c w ≡ whole c w

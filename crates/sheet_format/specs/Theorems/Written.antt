@@ -14,7 +14,7 @@ use Rattle.sheet_format.specs.Kind.{contentGiven}
 use Rattle.sheet_format.specs.Kinds.{kindOf}
 use Rattle.sheet_format.specs.Reading.{recordJudged, recordRead}
 use Rattle.sheet_format.specs.Reading.Laws.{judged-length}
-use Rattle.sheet_format.specs.Writing.{writeNumber, recordDone, recordFor, recordWritten, Writable}
+use Rattle.sheet_format.specs.Writing.{writeNumber, recordDone, recordFor, recordWritten, RecordWritable}
 use Rattle.sheet_format.specs.Writing.Laws.{recordWritten-number, recordWritten-done, recordWritten-front, recordBytes-table, writable, writeNumber-writable}
 use Rattle.sheet_format.specs.Given.{recordGiven}
 use Rattle.sheet_format.specs.Theorems.ReadBack.{recordRead-back, recordJudged-back}
@@ -30,7 +30,7 @@ module _ (code : ℕ) (h : Heading) (c : Context) (x m : List ℕ) (bytes : Belo
   number : writeNumber code h c x (length m) ≡ 0
   number = sym (recordWritten-number code h c x m) ∙ done
 
-  can : Writable code h c x
+  can : RecordWritable code h c x
   can = writable code h c x (length m) number
 
   whole : front ≡ recordFor code h c x
@@ -57,7 +57,7 @@ module _ (code : ℕ) (h : Heading) (c : Context) (x m : List ℕ) (bytes : Belo
       omega (arith, within .0, within .1)
 
 -- ---- room
-module _ (code : ℕ) (h : Heading) (c : Context) (x m : List ℕ) (ok : Writable code h c x) where
+module _ (code : ℕ) (h : Heading) (c : Context) (x m : List ℕ) (ok : RecordWritable code h c x) where
   pub granted-written : length (recordFor code h c x) ≤ length m → recordWritten code h c x m .answer .number ≡ 0
   granted-written room =
       recordWritten-number code h c x m

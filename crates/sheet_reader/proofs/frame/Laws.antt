@@ -1,26 +1,23 @@
 -- The ways out of judging a record's length and kind. Assumes nothing.
-use Prim.Native.Nat.{ℕ, zero, suc, _+_, _-_, _≤_, _<_}
+use Prim.Native.Nat.{ℕ, _+_, _-_, _≤_, _<_}
 use native.Mathlib.Omega.{arith}
-use mathlib.Core.Path.{_≡_, refl, sym, ap, _∙_}
+use mathlib.Core.Path.{_≡_, refl, sym, _∙_}
 use mathlib.Core.List.{List}
 use lib.ListN.{length, take, drop, length-take}
 use borrow.Author.Tests.{lt-ltb, le-ltb}
-use Rattle.answer.specs.Outcome.{outcome, lent}
+use Rattle.answer.specs.Outcome.{lent}
 use Rattle.answer.specs.Outcome.Laws.{given-first}
 use Rattle.sheet_format.specs.declared.RecordRead.{RecordRead}
-use Rattle.sheet_format.specs.Context.{Context, stateOf, contextOf}
-use Rattle.sheet_format.specs.Context.Laws.{stateOf-contextOf}
+use Rattle.sheet_format.specs.Context.{Context}
 use Rattle.sheet_format.specs.Kind.Table.{tableOwn, tableKind}
 use Rattle.sheet_format.specs.Kind.PackedRow.{packedKind}
 use Rattle.sheet_format.specs.Kind.PlainRow.{plainKind}
 use Rattle.sheet_format.specs.Kind.ContourLine.{lineKind}
 use Rattle.sheet_format.specs.Kinds.Laws.{kindOf-other}
-use Rattle.sheet_format.specs.Record.{lengthField, kindField, bodyOf, lengthNumber, contentNumber, recordNumber}
+use Rattle.sheet_format.specs.Record.{lengthField, kindField, lengthNumber, contentNumber, recordNumber}
 use Rattle.sheet_format.specs.Record.Laws.{RightLength, lengthNumber-right, right-length}
-use Rattle.sheet_format.specs.Reading.{refusedRecord, held, recordHeld, recordContent, recordJudged, recordRead}
-use Rattle.sheet_format.specs.Reading.Laws.{recordContent-of}
-use Rattle.sheet_format.specs.Theorems.Room.{recordNumber-enough}
-use Rattle.sheet_reader.specs.Leaves.{Leaves, ContentLeaves, BodyLeaves, RecordLeaves, tableJudged}
+use Rattle.sheet_format.specs.Reading.{refusedRecord, bodyHeld, recordHeld, recordContent}
+use Rattle.sheet_reader.specs.Leaves.{ContentLeaves, BodyLeaves, RecordLeaves, tableJudged}
 use Rattle.sheet_reader.specs.Leaves.Laws.{leaves-nothing, refuses}
 
 -- ---- the length
@@ -70,7 +67,7 @@ module _ {room : ℕ} {c : Context} {b m : List ℕ} {x : RecordRead} {code whol
   unfolding contentNumber tableOwn
   table-leaves is judged =
       let number = contentNumber tableKind (lent room) c b in
-      let a = held tableKind 1 whole c b in
+      let a = bodyHeld tableKind 1 whole c b in
       record {
         leaves = rw is (record { answer = judged; memory = λ enough. rw judged (leaves-nothing number m a) });
       }

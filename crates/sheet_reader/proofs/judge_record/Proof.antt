@@ -12,9 +12,9 @@ use Rattle.sheet_reader.specs.Leaves.{RecordLeaves}
 use Rattle.sheet_reader.proofs.judge_record.Statement.{statement}
 use Rattle.sheet_reader.proofs.judge_record.Tie as tie
 
-judged : {c : Context} {r m : List ℕ} {x : RecordRead} {m′ : List ℕ} → RecordLeaves 16384 c r m x m′ → x ≡ recordJudged c r
+answer-judged : {c : Context} {r m : List ℕ} {x : RecordRead} {m′ : List ℕ} → RecordLeaves 16384 c r m x m′ → x ≡ recordJudged c r
 unfolding recordJudged
-judged {c} {r} l = l .leaves .answer ∙ rw (recordNumber-enough 16384 (omega arith) c r)
+answer-judged {c} {r} l = l .leaves .answer ∙ rw (recordNumber-enough 16384 (omega arith) c r)
 
 slice-aggregate-read : tie.Need-slice-aggregate-read
 slice-aggregate-read c = search needs
@@ -23,7 +23,7 @@ read-requires : tie.Need-read-requires
 read-requires c κs = search needs
 
 returns : tie.Need-returns
-returns c = judged (c .before .read .ensures)
+returns c = answer-judged (c .before .read .ensures)
 
 pub judge-record-spec : {M : Type 1} → statement M
 judge-record-spec = tie.close (tie.spec slice-aggregate-read read-requires returns)

@@ -8,7 +8,7 @@ use lib.Dec.{ltb}
 use borrow.Author.Tests.{lt-ltb, le-ltb}
 use Rattle.bitstream.specs.Memory.Part.{partFrom, part-is}
 use Rattle.answer.specs.Outcome.{_orElse_, refuseIf, lent, roomNumber}
-use Rattle.answer.specs.Outcome.Laws.{lessNumber-zero, orElse-assoc, orElse-zero-left, orElse-zero-right, given-first, given-next}
+use Rattle.answer.specs.Outcome.Laws.{lessNumber-zero, orElse-zero-left, orElse-zero-right, given-first, given-next}
 use Rattle.row_format.specs.Row.{tooMany}
 use Rattle.sheet_format.specs.declared.SheetState.{SheetState}
 use Rattle.sheet_format.specs.declared.RecordRead.{RecordRead}
@@ -17,7 +17,7 @@ use Rattle.sheet_format.specs.Line.{Line, readLine}
 use Rattle.sheet_format.specs.Kind.ContourLine.{numberCount, lineContent, lineOf, faultNumber, bytesOfLine, lineNumber, lineOwn, numberBytes, readNumbers, linePlace, lineKind}
 use Rattle.sheet_format.specs.Kind.ContourLine.Laws.{line-lawful}
 use Rattle.sheet_format.specs.Record.{contentNumber}
-use Rattle.sheet_format.specs.Record.Laws.{Passed, passed}
+use Rattle.sheet_format.specs.Record.Laws.{content-passed}
 use Rattle.sheet_format.specs.Reading.{refusedRecord}
 use Rattle.sheet_format.specs.Theorems.Room.{own-content}
 use Rattle.sheet_reader.specs.declared.numbers.LineJudged.{LineJudged}
@@ -102,7 +102,7 @@ line-accepted b c {room} there place-is placed count-is judged right =
 
 module _ {b : List ℕ} {room count : ℕ} {c : Context} (ok : LineAccepted b c room count) where
   line-passed : lineOwn (lent room) c b ≡ 0
-  line-passed = passed lineKind (lent room) c b (ok .zero) .own
+  line-passed = content-passed lineKind (lent room) c b (ok .zero) .own
 
   content : (length (readNumbers c b) ≡ 4 * numberCount b) × (roomNumber (lent room) (4 * numberCount b) ≡ 0)
   content = own-content line-lawful c b (lent room) line-passed

@@ -16,10 +16,9 @@ use Rattle.bitstream.specs.Memory.Part.{partFrom, part-is}
 use Rattle.answer.specs.declared.Answer.{Answer}
 use Rattle.answer.specs.Outcome.{Outcome, outcome, wrote, _orElse_, refuseIf, nothing, lent, roomNumber}
 use Rattle.answer.specs.Outcome.Laws.{lessNumber-zero, lessNumber-none, lessNumber-given, unequalNumber-none, unequalNumber-given, orElse-assoc, orElse-none, orElse-zero-right, orElse-same, given-first, given-next}
-use Rattle.row_format.specs.Table.{tableNumber}
 use Rattle.row_format.specs.Row.{Item, fresh, pixelsOf, pixelBytes, tooMany}
 use Rattle.row_format.specs.Row.Laws.{length-pixelsOf, tooMany-zero}
-use Rattle.row_format.specs.Reading.{Run, done, stop, runNumber, bitsOfRun, pixelsOfRun, firstNumber, rowReading}
+use Rattle.row_format.specs.Reading.{Run, done, stop, runNumber, bitsOfRun, firstNumber, rowReading}
 use Rattle.row_format.specs.Reading.Laws.{rowReading-room}
 use Rattle.row_format.specs.Calls.{rowOutcome, unpacked}
 use Rattle.row_format.specs.Calls.Laws.{rowOutcome-number}
@@ -27,22 +26,22 @@ use Rattle.row_format.specs.Theorems.Numbers.{StopIn, rowReading-stops}
 use Rattle.row_format.specs.Theorems.Done.{Gives, rowReading-gives, rowReading-reads}
 use Rattle.sheet_format.specs.declared.SheetState.{SheetState}
 use Rattle.sheet_format.specs.declared.RecordRead.{RecordRead}
-use Rattle.sheet_format.specs.Context.{Heading, Context, tableFor, stateOf, contextOf}
+use Rattle.sheet_format.specs.Context.{Context, tableFor, stateOf, contextOf}
 use Rattle.sheet_format.specs.Context.Laws.{stateOf-contextOf, tables-contextOf, tableFor-contextOf}
-use Rattle.sheet_format.specs.Fields.{shorterThan, notWords}
+use Rattle.sheet_format.specs.Fields.{shorterThan}
 use Rattle.sheet_format.specs.Kind.{aRow, afterRecord}
 use Rattle.sheet_format.specs.Kind.Row.{rowHeading, pixelCount, rowContent, rowPlace}
 use Rattle.sheet_format.specs.Kind.Row.Laws.{rowPlace-table}
 use Rattle.sheet_format.specs.Kind.PackedRow.{packedReading, packedLeftover, packedOwn, packedBits, packedContent, packedKind}
 use Rattle.sheet_format.specs.Kind.PackedRow.Laws.{packed-lawful}
 use Rattle.sheet_format.specs.Record.{contentNumber}
-use Rattle.sheet_format.specs.Record.Laws.{Passed, passed}
+use Rattle.sheet_format.specs.Record.Laws.{content-passed}
 use Rattle.sheet_format.specs.Reading.{refusedRecord}
 use Rattle.sheet_format.specs.Theorems.Room.{own-content}
 use Rattle.sheet_reader.specs.declared.row.RowFields.{RowFields}
 use Rattle.sheet_reader.specs.Leaves.{ContentLeaves}
 use Rattle.sheet_reader.specs.Leaves.Laws.{refuses, holds}
-use Rattle.sheet_reader.specs.Row.{Fields, FieldsOf}
+use Rattle.sheet_reader.specs.Row.{HasRowFields, RowFieldsOf}
 use Rattle.sheet_reader.specs.Packed.{bodyReading, RowHeld, RowRead}
 
 -- ---- room for more than 4096 pixels is as good as room for 4096
@@ -176,7 +175,7 @@ packed-not-words {b = b} odd is = record {
 }
 
 -- the number after that of the fields and of the place
-module _ (tb : List ℕ) {b : List ℕ} {st : SheetState} {f : RowFields} (words : length b % 4 ≡ 0) (fields : FieldsOf b st f) where
+module _ (tb : List ℕ) {b : List ℕ} {st : SheetState} {f : RowFields} (words : length b % 4 ≡ 0) (fields : RowFieldsOf b st f) where
   packed-chain : (room : ℕ)
       → contentNumber packedKind (lent room) (contextOf tb st) b ≡ f .number orElse packedOwn (lent room) (contextOf tb st) b
   unfolding contentNumber
@@ -207,13 +206,13 @@ module _ (tb : List ℕ) {b : List ℕ} {st : SheetState} {f : RowFields} (words
 
 -- what is known of an accepted record with the body b, whose fields are f
 pub record PackedAccepted (tb b : List ℕ) (st : SheetState) (room : ℕ) (f : RowFields) (a : Answer) (out : List ℕ) : Type 0 where
-  pub fields : Fields b f
+  pub fields : HasRowFields b f
   pub row : RowHeld tb b (a .count) out
   pub table : tableFor (contextOf tb st) (rowHeading b) ≡ tb
   pub zero : contentNumber packedKind (lent room) (contextOf tb st) b ≡ 0
 
 module _ {tb b : List ℕ} {st : SheetState} {room : ℕ} {f : RowFields} {a : Answer} {out : List ℕ} where
-  pub packed-accepted : length b % 4 ≡ 0 → FieldsOf b st f → f .number ≡ 0 → RowRead room tb b a out → a .number ≡ 0
+  pub packed-accepted : length b % 4 ≡ 0 → RowFieldsOf b st f → f .number ≡ 0 → RowRead room tb b a out → a .number ≡ 0
       → PackedAccepted tb b st room f a out
   packed-accepted words fields placed row right =
       let table = table-is tb words fields placed in
@@ -228,7 +227,7 @@ module _ {tb b : List ℕ} {st : SheetState} {room : ℕ} {f : RowFields} {a : A
   module _ (ok : PackedAccepted tb b st room f a out) where
     content : (length (packedContent (contextOf tb st) b) ≡ 2 * pixelCount b) × (roomNumber (lent room) (2 * pixelCount b) ≡ 0)
     content =
-        own-content packed-lawful (contextOf tb st) b (lent room) (passed packedKind (lent room) (contextOf tb st) b (ok .zero) .own)
+        own-content packed-lawful (contextOf tb st) b (lent room) (content-passed packedKind (lent room) (contextOf tb st) b (ok .zero) .own)
 
     pub packed-few : f .count ≤ 4096
     packed-few = rw (ok .fields .count) (ok .row .few)

@@ -13,10 +13,10 @@ use Rattle.sheet_reader.specs.Leaves.{RecordLeaves}
 use Rattle.sheet_reader.proofs.read_record.Statement.{statement}
 use Rattle.sheet_reader.proofs.read_record.Tie as tie
 
-read : {c : Context} {r m : List ℕ} {x : RecordRead} {m′ : List ℕ} → RecordLeaves (length m) c r m x m′
+answer-read : {c : Context} {r m : List ℕ} {x : RecordRead} {m′ : List ℕ} → RecordLeaves (length m) c r m x m′
     → outcome x m′ ≡ recordRead c r m
 unfolding recordRead
-read l = l .leaves .memory (omega arith)
+answer-read l = l .leaves .memory (omega arith)
 
 read-requires : tie.Need-read-requires
 read-requires c κs = search needs
@@ -25,7 +25,7 @@ same-length : tie.Need-same-length
 same-length c = search needs
 
 returns : tie.Need-returns
-returns c = read (c .before .before .read .ensures)
+returns c = answer-read (c .before .before .read .ensures)
 
 pub read-record-spec : {M : Type 1} → statement M
 read-record-spec = tie.close (tie.spec read-requires same-length returns)

@@ -10,15 +10,15 @@ use Rattle.sheet_format.specs.Context.{Context, stateOf, contextOf}
 use Rattle.sheet_format.specs.Context.Laws.{stateOf-contextOf}
 use Rattle.sheet_format.specs.Kind.Row.{rowHeading, pixelCount, rowPlace}
 use Rattle.sheet_format.specs.Kind.Row.Laws.{rowPlace-small}
-use Rattle.sheet_reader.specs.Row.{FieldsOf}
+use Rattle.sheet_reader.specs.Row.{RowFieldsOf}
 
 module _ (b : List ℕ) (st : SheetState) where
-  pub fields-missing : length b < 4 → FieldsOf b st (record { number = 14; row = 0; count = 0 })
+  pub fields-missing : length b < 4 → RowFieldsOf b st (record { number = 14; row = 0; count = 0 })
   fields-missing h = record { number = λ c is. rw (lt-ltb (length b) 4 h); fields = λ e. absurd (omega arith) }
 
   pub fields-there : 4 ≤ length b → {row count place : ℕ} → row ≡ rowHeading b .row → count ≡ pixelCount b
       → ((c : Context) → stateOf c ≡ st → place ≡ rowPlace c (record { row = row }))
-      → FieldsOf b st (record { number = place; row = row; count = count })
+      → RowFieldsOf b st (record { number = place; row = row; count = count })
   fields-there h {row} row-is count-is place-is = record {
     number = λ c is.
         rw (le-ltb (length b) 4 h) (place-is c is ∙ ap (λ (n : ℕ). rowPlace c (record { row = n })) row-is);

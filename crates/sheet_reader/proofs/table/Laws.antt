@@ -10,7 +10,7 @@ use Rattle.sheet_format.specs.declared.RecordRead.{RecordRead}
 use Rattle.sheet_format.specs.Context.{Context, noHeading}
 use Rattle.sheet_format.specs.Kind.Table.{tablePlace, tableOwn, tableKind}
 use Rattle.sheet_format.specs.Record.{contentNumber}
-use Rattle.sheet_format.specs.Reading.{refusedRecord, held}
+use Rattle.sheet_format.specs.Reading.{refusedRecord, bodyHeld}
 use Rattle.sheet_reader.specs.Leaves.{tableJudged}
 use Rattle.sheet_reader.specs.Leaves.Laws.{answer-refused}
 
@@ -40,5 +40,5 @@ module _ (b : List ℕ) (whole : ℕ) (c : Context) where
       unfolding tablePlace
       no-tables = unequalNumber-zero (length (c .tables)) 0 15 (sym place-is ∙ first)
 
-      pub table-held : {x : RecordRead} → n ≡ 0 → x ≡ held tableKind 1 whole c b → x ≡ tableJudged whole c b
+      pub table-held : {x : RecordRead} → n ≡ 0 → x ≡ bodyHeld tableKind 1 whole c b → x ≡ tableJudged whole c b
       table-held none is = rw (sym own ∙ none) is

@@ -1,12 +1,12 @@
 -- The table's kind is lawful. Assumes nothing.
-use Prim.Native.Nat.{ℕ, _*_, _/_, _%_, _≤_, _<_}
+use Prim.Native.Nat.{ℕ, _*_, _/_, _%_, _≤_}
 use native.Mathlib.Omega.{arith}
 use mathlib.Core.Path.{_≡_, refl, sym, _∙_}
 use mathlib.Core.Bool.{not}
-use mathlib.Core.List.{List, []}
+use mathlib.Core.List.{List}
 use lib.ListN.{length}
 use lib.Dec.{eqb}
-use Rattle.bitstream.specs.Bits.{bitsOf, wordsOf, Below}
+use Rattle.bitstream.specs.Bits.{bitsOf, wordsOf}
 use Rattle.bitstream.specs.Bits.Laws.{length-cut}
 use Rattle.answer.specs.Outcome.{_orElse_, Lent, roomNumber}
 use Rattle.answer.specs.Outcome.Laws.{unequalNumber-zero, unequalNumber-none, refuseIf-in, orElse-none, roomNumber-none}

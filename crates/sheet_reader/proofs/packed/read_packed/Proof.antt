@@ -74,8 +74,8 @@ after-row-requires c κs =
     let fields = at-row-fields .row-fields .ensures .fields (at-if2 .if2 .left) in
     fields .small
 
-held-requires : tie.Need-held-requires
-held-requires c κs = search needs
+accepted-requires : tie.Need-accepted-requires
+accepted-requires c κs = search needs
 
 same-length : tie.Need-same-length
 same-length c = search needs
@@ -91,7 +91,7 @@ returns-4 c =
     let accepted =
     packed-accepted (at-if1 .if1 .left) (at-row-fields .row-fields .ensures) (at-if2 .if2 .left)
     (at-unpack-row .unpack-row .ensures) (at-if3 .if3 .left) in
-    packed-held accepted (c .before .after-row .ensures) (c .held .ensures) (at-keep .keep .ensures)
+    packed-held accepted (c .before .after-row .ensures) (c .accepted .ensures) (at-keep .keep .ensures)
 
 pub read-packed-spec : {M : Type 1} → statement M
 read-packed-spec =
@@ -111,6 +111,6 @@ read-packed-spec =
     mul-keep
     keep-requires
     after-row-requires
-    held-requires
+    accepted-requires
     same-length
     returns-4)

@@ -47,14 +47,14 @@ returns-3 c = λ x shows.
     (at-place .table-place .ensures x noHeading shows) (at-if2 .if2 .left) (at-number .table-number .ensures)
     (c .before .if3 .taken) (c .refused3 .ensures)
 
-cast-held : tie.Need-cast-held
-cast-held c = search needs
+cast-accepted : tie.Need-cast-accepted
+cast-accepted c = search needs
 
 after-table-requires : tie.Need-after-table-requires
 after-table-requires c κs = search needs
 
-held-requires : tie.Need-held-requires
-held-requires c κs = search needs
+accepted-requires : tie.Need-accepted-requires
+accepted-requires c κs = search needs
 
 returns-4 : tie.Need-returns-4
 returns-4 c = λ x shows.
@@ -72,7 +72,7 @@ returns-4 c = λ x shows.
     (at-number .table-number .ensures) in
     table-held b (at-start .args .whole) x (at-if1 .if1 .left) place-is (at-if2 .if2 .left)
     (at-number .table-number .ensures) (at-if3 .if3 .left)
-    (c .held .ensures ∙ rw (at-after .after-table .ensures x noHeading b shows none))
+    (c .accepted .ensures ∙ rw (at-after .after-table .ensures x noHeading b shows none))
 
 pub read-table-spec : {M : Type 1} → statement M
 read-table-spec =
@@ -86,7 +86,7 @@ read-table-spec =
     table-number-requires
     refused-requires-3
     returns-3
-    cast-held
+    cast-accepted
     after-table-requires
-    held-requires
+    accepted-requires
     returns-4)

@@ -12,7 +12,7 @@ use Rattle.sheet_format.specs.Context.{Heading, noHeading, Context, stateOf, co
 use Rattle.sheet_format.specs.Context.Laws.{stateOf-contextOf}
 use Rattle.sheet_format.specs.Line.{lineBytes}
 use Rattle.sheet_format.specs.Kind.ContourLine.{givenNumbers, linePlace, lineKind}
-use Rattle.sheet_writer.specs.Judged.{judged}
+use Rattle.sheet_writer.specs.BeforeRoom.{beforeRoom}
 use Rattle.sheet_writer.proofs.Frame.{frame-refused, frame-full, frame-passed, frame-done}
 use Rattle.sheet_writer.proofs.line.Laws.{line-frame, line-few, line-most}
 use Rattle.sheet_writer.proofs.line.write_line.Statement.{statement}
@@ -23,7 +23,7 @@ abbrev entry : tie.Else1 → tie.Start
 entry c = c .before .before .before .before
 
 passed : (c : tie.Else1) (x : Context) (h : Heading) → stateOf x ≡ entry c .args .state
-    → judged lineKind h x (entry c .args .content .now) ≡ 0
+    → beforeRoom lineKind h x (entry c .args .content .now) ≡ 0
 passed c x h is = sym (c .before .line-number .ensures x h is) ∙ c .if1 .left
 
 -- by any one sheet that the state is kept of

@@ -13,8 +13,8 @@ use Rattle.sheet_format.specs.Context.Laws.{stateOf-contextOf}
 use Rattle.sheet_format.specs.Kind.Row.{rowPlace}
 use Rattle.sheet_format.specs.Kind.Row.Laws.{rowPlace-small}
 use Rattle.sheet_format.specs.Kind.PlainRow.{plainKind}
-use Rattle.sheet_writer.specs.Judged.{judged}
-use Rattle.sheet_writer.proofs.Frame.{copied, frame-refused, frame-full, frame-passed, frame-done}
+use Rattle.sheet_writer.specs.BeforeRoom.{beforeRoom}
+use Rattle.sheet_writer.proofs.Frame.{all-copied, frame-refused, frame-full, frame-passed, frame-done}
 use Rattle.sheet_writer.proofs.plain.Laws.{wholePixels, length-wholePixels, plain-frame, plain-few}
 use Rattle.sheet_writer.proofs.plain.write_plain.Statement.{statement}
 use Rattle.sheet_writer.proofs.plain.write_plain.Tie as tie
@@ -27,14 +27,14 @@ abbrev heading : tie.Start → Heading
 heading c = record { row = c .args .row }
 
 passed : (c : tie.Else1) (x : Context) → stateOf x ≡ entry c .args .state
-    → judged plainKind (heading (entry c)) x (entry c .args .content .now) ≡ 0
+    → beforeRoom plainKind (heading (entry c)) x (entry c .args .content .now) ≡ 0
 passed c x is = sym (c .before .plain-number .ensures x is) ∙ c .if1 .left
 
 -- by any one sheet that the state is kept of
 abbrev any-sheet : tie.Else1 → Context
 any-sheet c = contextOf [] (entry c .args .state)
 
-passed-any : (c : tie.Else1) → judged plainKind (heading (entry c)) (any-sheet c) (entry c .args .content .now) ≡ 0
+passed-any : (c : tie.Else1) → beforeRoom plainKind (heading (entry c)) (any-sheet c) (entry c .args .content .now) ≡ 0
 passed-any c = passed c (any-sheet c) (stateOf-contextOf [] (entry c .args .state))
 
 small : (c : tie.Else1) → entry c .args .row < 65536
@@ -139,7 +139,7 @@ returns-3 c = λ x is.
     (c .before .after-row .ensures x (a .content .now) is) (rw (length-wholePixels (a .content .now)) (c .written .ensures))
     (at-copy .copy .last .1 .0)
     (at-put-row-fields .put-row-fields .last .1 .1 .1 .1 .0)
-    (copied (wholePixels (a .content .now)) _ _ (at-copy .copy .ensures .1)) (at-put-row-fields .put-row-fields .ensures)
+    (all-copied (wholePixels (a .content .now)) _ _ (at-copy .copy .ensures .1)) (at-put-row-fields .put-row-fields .ensures)
 
 pub write-plain-spec : {M : Type 1} → statement M
 write-plain-spec =

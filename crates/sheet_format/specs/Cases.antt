@@ -48,6 +48,6 @@ unfolding numbering recordNumber contentNumber lengthNumber tableOwn packedReadi
 reading = tt
 
 writing : Unit {0}
-unfolding numbering recordWritten writeNumber recordBytes packedGivenNumber packedBody packedTakes plainGivenNumber plainBody lineGivenNumber
-    lineBody itemFor itemsFor bits rowBits lineBytes shortest bytesOf continued laterBytes
+unfolding numbering recordWritten writeNumber recordBytes packedGivenNumber packedBody packedTakes plainGivenNumber plainBody
+    lineGivenNumber lineBody itemFor itemsFor bits rowBits lineBytes shortest bytesOf continued laterBytes
 writing = tt

@@ -43,7 +43,8 @@ pub fn line_place(state: SheetState) -> u32
 
 // The state after the one table.
 pub fn after_table(state: SheetState) -> SheetState
-    ensures { λ r. ⌜ ((c : Context) (h : Heading) (b : List ℕ) → stateOf c ≡ state → length (c .tables) ≡ 0 → r ≡ stateOf (afterRecord aTable h b c)) ⌝ }
+    ensures { λ r. ⌜ ((c : Context) (h : Heading) (b : List ℕ) → stateOf c ≡ state → length (c .tables) ≡ 0
+        → r ≡ stateOf (afterRecord aTable h b c)) ⌝ }
 {
     SheetState {
         has_table: 1,

@@ -24,7 +24,8 @@ pub fn read(
     room: usize,
     content: &mut [u8],
 ) -> RecordRead
-    ensures { λ r. ⌜ RecordLeaves room (contextOf (now (table .entry)) state) (now (sheet .entry)) (now (content .entry)) r (now (content .exit)) ⌝ }
+    ensures { λ r. ⌜ RecordLeaves room (contextOf (now (table .entry)) state) (now (sheet .entry))
+        (now (content .entry)) r (now (content .exit)) ⌝ }
 {
     let number = length_number(sheet);
     if number != 0 {
@@ -68,7 +69,8 @@ fn read_body(
     content: &mut [u8],
 ) -> RecordRead
     requires { ⌜ length (now body) ≤ 32772 ⌝ }
-    ensures { λ r. ⌜ BodyLeaves room kind whole (contextOf (now (table .entry)) state) (now (body .entry)) (now (content .entry)) r (now (content .exit)) ⌝ }
+    ensures { λ r. ⌜ BodyLeaves room kind whole (contextOf (now (table .entry)) state) (now (body .entry))
+        (now (content .entry)) r (now (content .exit)) ⌝ }
 {
     match kind {
         1 => read_table(body, whole, state),

@@ -22,7 +22,8 @@ pub fn read_line(
     room: usize,
     content: &mut [u8],
 ) -> RecordRead
-    ensures { λ r. ⌜ ((c : Context) → stateOf c ≡ state → ContentLeaves lineKind room 4 whole c (now (body .entry)) (now (content .entry)) r (now (content .exit))) ⌝ }
+    ensures { λ r. ⌜ ((c : Context) → stateOf c ≡ state
+        → ContentLeaves lineKind room 4 whole c (now (body .entry)) (now (content .entry)) r (now (content .exit))) ⌝ }
 {
     if body.len() < 2 {
         return refused(14);

@@ -30,7 +30,8 @@ pub fn read_packed(
     room: usize,
     content: &mut [u8],
 ) -> RecordRead
-    ensures { λ r. ⌜ ContentLeaves packedKind room 2 whole (contextOf (now (table .entry)) state) (now (body .entry)) (now (content .entry)) r (now (content .exit)) ⌝ }
+    ensures { λ r. ⌜ ContentLeaves packedKind room 2 whole (contextOf (now (table .entry)) state) (now (body .entry))
+        (now (content .entry)) r (now (content .exit)) ⌝ }
 {
     // a missing field is 14 too, so that the order of the two does not matter
     if body.len() % 4 != 0 {

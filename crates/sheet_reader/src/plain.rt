@@ -23,7 +23,8 @@ pub fn read_plain(
     room: usize,
     content: &mut [u8],
 ) -> RecordRead
-    ensures { λ r. ⌜ ((c : Context) → stateOf c ≡ state → ContentLeaves plainKind room 3 whole c (now (body .entry)) (now (content .entry)) r (now (content .exit))) ⌝ }
+    ensures { λ r. ⌜ ((c : Context) → stateOf c ≡ state
+        → ContentLeaves plainKind room 3 whole c (now (body .entry)) (now (content .entry)) r (now (content .exit))) ⌝ }
 {
     let fields = row_fields(body, state);
     let wrong = fields.number;

@@ -84,7 +84,8 @@ among-later n ns e h = by-test (eqb e n) (λ t. rw t) (λ t. rw t h)
 pub recordJudged-numbers : (c : Context) (r : List ℕ) → AmongNumbers judgedNumbers (recordJudged c r .number)
 unfolding any
 recordJudged-numbers c r =
-    rw (recordJudged-number c r) (recordNumber-in (AmongNumbers judgedNumbers) judged-listed (record { p0 = refl; p16 = refl }) nothing (λ n. refl) c r)
+    let place : ListedPlace (AmongNumbers judgedNumbers) = record { p0 = refl; p16 = refl } in
+    rw (recordJudged-number c r) (recordNumber-in (AmongNumbers judgedNumbers) judged-listed place nothing (λ n. refl) c r)
 
 -- with memory lent it is 5, or what judging may answer
 pub recordRead-numbers : (c : Context) (r m : List ℕ) → AmongNumbers (5 ∷ judgedNumbers) (recordRead c r m .answer .number)

@@ -50,7 +50,8 @@ room-most room n few = by-cases (decLt room (2 * n))
     (λ less. lessNumber-given (min room 8192) (2 * n) 5 (omega arith) ∙ sym (lessNumber-given room (2 * n) 5 less))
     (λ enough. lessNumber-none (min room 8192) (2 * n) 5 (omega arith) ∙ sym (lessNumber-none room (2 * n) 5 (omega arith)))
 
-rowReading-most : (room : ℕ) (tb : List ℕ) (n : ℕ) (wb : List ℕ) → rowReading (lent (min room 8192)) tb n wb ≡ rowReading (lent room) tb n wb
+rowReading-most : (room : ℕ) (tb : List ℕ) (n : ℕ) (wb : List ℕ)
+    → rowReading (lent (min room 8192)) tb n wb ≡ rowReading (lent room) tb n wb
 unfolding rowReading firstNumber
 rowReading-most room tb n wb =
     let same : tooMany n orElse roomNumber (lent (min room 8192)) (2 * n) ≡ tooMany n orElse roomNumber (lent room) (2 * n) =
@@ -227,7 +228,8 @@ module _ {tb b : List ℕ} {st : SheetState} {room : ℕ} {f : RowFields} {a : A
   module _ (ok : PackedAccepted tb b st room f a out) where
     content : (length (packedContent (contextOf tb st) b) ≡ 2 * pixelCount b) × (roomNumber (lent room) (2 * pixelCount b) ≡ 0)
     content =
-        own-content packed-lawful (contextOf tb st) b (lent room) (content-passed packedKind (lent room) (contextOf tb st) b (ok .zero) .own)
+        let c = contextOf tb st in
+        own-content packed-lawful c b (lent room) (content-passed packedKind (lent room) c b (ok .zero) .own)
 
     pub packed-few : f .count ≤ 4096
     packed-few = rw (ok .fields .count) (ok .row .few)
@@ -237,7 +239,8 @@ module _ {tb b : List ℕ} {st : SheetState} {room : ℕ} {f : RowFields} {a : A
 
     pub packed-held : {whole : ℕ} {m : List ℕ} {x : RecordRead} {m′ : List ℕ} {after : SheetState}
         → ((c : Context) (d : List ℕ) → stateOf c ≡ st → after ≡ stateOf (afterRecord aRow (record { row = f .row }) d c))
-        → x ≡ record { number = 0; kind = 2; row = f .row; count = f .count; bits = a .count; words = wordsFor (a .count); length = whole; state = after }
+        → (let n = a .count in
+        x ≡ record { number = 0; kind = 2; row = f .row; count = f .count; bits = n; words = wordsFor n; length = whole; state = after })
         → (room ≤ length m → m′ ≡ take (2 * f .count) out ++ drop (2 * f .count) m)
         → ContentLeaves packedKind room 2 whole (contextOf tb st) b m x m′
     unfolding packedBits packedContent packedReading

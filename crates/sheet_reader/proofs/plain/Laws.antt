@@ -60,7 +60,8 @@ module _ (b : List ℕ) (room : ℕ) {count : ℕ} (is : count ≡ pixelCount b)
       pixels-right none h = past-size (rw (← none, le-ltb room (2 * count) h))
 
 -- ---- the record, in a sheet that holds c
-module _ {b : List ℕ} {st : SheetState} (room : ℕ) {f : RowFields} (fields : RowFieldsOf b st f) (c : Context) (shows : stateOf c ≡ st) where
+module _ {b : List ℕ} {st : SheetState} (room : ℕ) {f : RowFields} (fields : RowFieldsOf b st f) (c : Context)
+    (shows : stateOf c ≡ st) where
   plain-chain : contentNumber plainKind (lent room) c b ≡ f .number orElse plainOwn (lent room) c b
   unfolding contentNumber
   plain-chain =
@@ -83,7 +84,8 @@ pub record PlainAccepted (b : List ℕ) (c : Context) (room : ℕ) (f : RowField
   pub zero : contentNumber plainKind (lent room) c b ≡ 0
 
 module _ {b : List ℕ} {room : ℕ} {f : RowFields} {c : Context} where
-  pub plain-accepted : {st : SheetState} → RowFieldsOf b st f → stateOf c ≡ st → f .number ≡ 0 → {n : ℕ} → n ≡ plainOwn (lent room) c b → n ≡ 0
+  pub plain-accepted : {st : SheetState} → RowFieldsOf b st f → stateOf c ≡ st → f .number ≡ 0
+      → {n : ℕ} → n ≡ plainOwn (lent room) c b → n ≡ 0
       → PlainAccepted b c room f
   plain-accepted fields shows placed judged right =
       record {

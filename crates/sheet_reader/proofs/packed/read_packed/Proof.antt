@@ -22,8 +22,8 @@ returns-2 : tie.Need-returns-2
 returns-2 c =
     let at-row-fields = c .before .before in
     let at-if1 = at-row-fields .before in
-    packed-misplaced (at-if1 .before .before .before .before .args .table .now) (at-if1 .if1 .left) (at-row-fields .row-fields .ensures) (c .refused2 .ensures)
-    (c .before .if2 .taken)
+    packed-misplaced (at-if1 .before .before .before .before .args .table .now) (at-if1 .if1 .left)
+    (at-row-fields .row-fields .ensures) (c .refused2 .ensures) (c .before .if2 .taken)
 
 slice-aggregate-unpack-row : tie.Need-slice-aggregate-unpack-row
 slice-aggregate-unpack-row c = search needs
@@ -43,8 +43,9 @@ returns-3 c =
     let at-if2 = at-unpack-row .before .before in
     let at-row-fields = at-if2 .before in
     let at-if1 = at-row-fields .before in
-    packed-refused (at-if1 .before .before .before .before .args .table .now) (at-if1 .if1 .left) (at-row-fields .row-fields .ensures) (at-if2 .if2 .left)
-    (at-unpack-row .unpack-row .ensures) (c .refused3 .ensures) (c .before .if3 .taken)
+    packed-refused (at-if1 .before .before .before .before .args .table .now) (at-if1 .if1 .left)
+    (at-row-fields .row-fields .ensures) (at-if2 .if2 .left) (at-unpack-row .unpack-row .ensures) (c .refused3 .ensures)
+    (c .before .if3 .taken)
 
 slice-aggregate-keep : tie.Need-slice-aggregate-keep
 slice-aggregate-keep c = search needs
@@ -69,7 +70,8 @@ keep-requires c κs =
 
 after-row-requires : tie.Need-after-row-requires
 after-row-requires c κs =
-    let at-if2 = c .before .before .before .before .before .before .before .before .before in
+    let at-if3 = c .before .before .before .before .before .before in
+    let at-if2 = at-if3 .before .before .before in
     let at-row-fields = at-if2 .before in
     let fields = at-row-fields .row-fields .ensures .fields (at-if2 .if2 .left) in
     fields .small

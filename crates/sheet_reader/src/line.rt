@@ -3,6 +3,7 @@ use crate::answers::accepted;
 use crate::numbers::judge_numbers;
 use crate::numbers::keep_numbers;
 use bitstream::number::read_u16;
+use row_format::MAX_PIXELS;
 use sheet_format::RecordRead;
 use sheet_format::SheetState;
 use sheet_format::place::line_place;
@@ -48,7 +49,7 @@ fn numbers_number(body: &[u8], count: u32, room: usize) -> u32
     requires { ⌜ count ≡ numberCount (now body) ⌝ }
     ensures { λ r. ⌜ ((c : Context) → r ≡ lineOwn (lent room) c (now (body .entry))) ⌝ }
 {
-    if 4096 < count {
+    if MAX_PIXELS < count as u64 {
         return 11;
     }
     let line = &body[2..];

@@ -2,6 +2,7 @@
 use crate::answers::accepted;
 use crate::keep::keep;
 use crate::row::row_fields;
+use row_format::MAX_PIXELS;
 use row_pixels::any_above;
 use sheet_format::RecordRead;
 use sheet_format::SheetState;
@@ -48,7 +49,7 @@ fn pixels_number(body: &[u8], count: u32, room: usize) -> u32
     requires { ⌜ count ≡ pixelCount (now body) ⌝ }
     ensures { λ r. ⌜ ((c : Context) → r ≡ plainOwn (lent room) c (now (body .entry))) ⌝ }
 {
-    if 4096 < count {
+    if MAX_PIXELS < count as u64 {
         return 11;
     }
     let pixels = &body[4..];

@@ -4,6 +4,7 @@ use crate::done::written;
 use crate::fields::put_line_fields;
 use crate::numbers::line_bytes;
 use crate::numbers::put_numbers;
+use row_format::MAX_PIXELS;
 use sheet_format::RecordWritten;
 use sheet_format::SheetState;
 use sheet_format::place::line_place;
@@ -43,7 +44,7 @@ fn line_number(content: &[u8], state: SheetState) -> u32
     if place != 0 {
         return place;
     }
-    if 4096 < content.len() / 4 {
+    if MAX_PIXELS < (content.len() / 4) as u64 {
         return 11;
     }
     0

@@ -3,6 +3,7 @@ use crate::done::refused;
 use crate::done::written;
 use crate::fields::put_row_fields;
 use bytes::copy;
+use row_format::MAX_PIXELS;
 use row_pixels::any_above;
 use sheet_format::RecordWritten;
 use sheet_format::SheetState;
@@ -46,7 +47,7 @@ fn plain_number(row: u32, content: &[u8], state: SheetState) -> u32
     if place != 0 {
         return place;
     }
-    if 4096 < content.len() / 2 {
+    if MAX_PIXELS < (content.len() / 2) as u64 {
         return 11;
     }
     if any_above(content) {

@@ -143,7 +143,8 @@ pub extern "C" fn tahliruz_write_record(
     state: SheetState,
     out: &mut [u8],
 ) -> RecordWritten
-    ensures { λ r. ⌜ outcome r (now (out .exit)) ≡ recordWritten kind (record { row = row }) (contextOf (now (table .entry)) state) (now (content .entry)) (now (out .entry)) ⌝ }
+    ensures { λ r. ⌜ outcome r (now (out .exit)) ≡ recordWritten kind (record { row = row })
+        (contextOf (now (table .entry)) state) (now (content .entry)) (now (out .entry)) ⌝ }
 {
     sheet_writer::write_record(kind, row, content, table, state, out)
 }

@@ -1,7 +1,7 @@
 /*
  * Writes a small sheet to standard output: the plain table, two packed rows and
  * a contour line. The sheet is built record by record in memory; each call is
- * given the state that the call before it answered.
+ * given the state that the last done call answered.
  */
 #include <stdint.h>
 #include <stdio.h>
@@ -20,11 +20,12 @@ static size_t sheet_len;
 static struct tahliruz_sheet state;
 
 /* Appends one record; says on standard error why not, if refused. */
-static int append(uint32_t kind, uint16_t row_number, const uint8_t *content, size_t content_len)
+static int append(uint32_t kind, uint32_t row_number, const uint8_t *content, size_t content_len)
 {
     struct tahliruz_written written =
         tahliruz_write_record(kind, row_number, content, content_len, table, sizeof table, state,
                               sheet + sheet_len, sizeof sheet - sheet_len);
+    /* A refusal answers no state: the sheet's is kept as it is. */
     if (written.number != TAHLIRUZ_DONE) {
         fprintf(stderr, "write_sheet: record of kind %u: refused %u\n", (unsigned)kind,
                 (unsigned)written.number);
@@ -43,7 +44,7 @@ static int within_most(size_t count)
 }
 
 /* Pixels are little-endian bytes, whatever the machine's own order; so are numbers. */
-static int append_row(uint16_t row_number, const uint16_t *pixels, size_t count)
+static int append_row(uint32_t row_number, const uint16_t *pixels, size_t count)
 {
     uint8_t bytes[2 * MOST];
     if (!within_most(count))

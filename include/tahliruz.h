@@ -326,12 +326,14 @@ enum tahliruz_kind {
 
 /*
  * What a sheet holds so far. It is { 0, 0 } before the first record; after that
- * it is the state that the call for the record before has answered. least_row is
- * the least number that the next row may have: the last row's number plus 1, up
- * to 65536, after which no row can come. A record is out of place, 16, if it is
+ * it is the state that the last call that was done has answered. A refused call
+ * answers { 0, 0 }, and the sheet still holds what it held: keep the state that
+ * was given. least_row is the least number that the next row may have: the last
+ * row's number plus 1, up to 65536, after which no row can come. A record is out
+ * of place, 16, if it is
  *  - a table, and has_table is not 0;
  *  - no table, and has_table is 0;
- *  - a row whose number is below least_row.
+ *  - a row whose number is below least_row, or above 65535.
  */
 struct tahliruz_sheet {
     uint32_t has_table;     /* 1 once the sheet has its table, 0 before */
@@ -340,7 +342,7 @@ struct tahliruz_sheet {
 
 /*
  * What judging or reading a record answers. What a kind does not have is 0. A
- * refusal has 0 in all fields but number and state, which is as it was given.
+ * refusal has 0 in all fields but number, in the state's too.
  */
 struct tahliruz_record {
     uint32_t number;
@@ -350,7 +352,7 @@ struct tahliruz_record {
     uint32_t bits;          /* kind 2: the bits used */
     uint32_t words;         /* kind 2: the words used */
     uint32_t length;        /* the bytes of the whole record: the next one starts there */
-    struct tahliruz_sheet state;    /* after the record */
+    struct tahliruz_sheet state;    /* after the record; { 0, 0 } where it is refused */
 };
 
 /*
@@ -419,18 +421,19 @@ struct tahliruz_record tahliruz_read_record(const uint8_t *table, size_t table_l
                                             struct tahliruz_sheet state,
                                             uint8_t *content, size_t content_len);
 
-/* What writing a record answers. A refusal has the count 0 and the state as it was given. */
+/* What writing a record answers. A refusal has 0 in all fields but number, in the state's too. */
 struct tahliruz_written {
     uint32_t number;
     uint32_t count;
-    struct tahliruz_sheet state;    /* after the record */
+    struct tahliruz_sheet state;    /* after the record; { 0, 0 } where it is refused */
 };
 
 /*
  * Writes one record of a sheet.
  *
  *   kind     1 to 4; any other, however large, is 15
- *   row      the row number; looked at for kinds 2 and 3 only
+ *   row      the row number, of which all 32 bits count: above 65535 is 16;
+ *            looked at for kinds 2 and 3 only
  *   content  content_len bytes: a table; or the pixels of a row, 2 bytes each;
  *            or the numbers of a line, 4 bytes each, signed, two's complement,
  *            little-endian
@@ -460,7 +463,7 @@ struct tahliruz_written {
  * Count: the bytes of the whole record, its length field included. It is in the
  * first count bytes of out. After a refusal out is as it was.
  */
-struct tahliruz_written tahliruz_write_record(uint32_t kind, uint16_t row,
+struct tahliruz_written tahliruz_write_record(uint32_t kind, uint32_t row,
                                               const uint8_t *content, size_t content_len,
                                               const uint8_t *table, size_t table_len,
                                               struct tahliruz_sheet state,

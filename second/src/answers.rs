@@ -34,8 +34,7 @@ pub struct Unsigned {
     pub used: u32,
 }
 
-/// A record that was judged or read. Refused: all 0 but the number, and the
-/// state as given.
+/// A record that was judged or read. Refused: all 0 but the number.
 #[repr(C)]
 #[derive(Clone, Copy, PartialEq, Eq, Debug, Default)]
 pub struct Record {
@@ -64,7 +63,8 @@ impl Record {
     }
 }
 
-/// A record that was written: its bytes, and the state after it.
+/// A record that was written: its bytes, and the state after it. Refused: all
+/// 0 but the number.
 #[repr(C)]
 #[derive(Clone, Copy, PartialEq, Eq, Debug, Default)]
 pub struct Written {

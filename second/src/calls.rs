@@ -44,7 +44,7 @@ pub fn read_record(
 
 pub fn write_record(
     kind: u32,
-    row: u16,
+    row: u32,
     content: &[u8],
     table: Result<&Codec, u32>,
     state: State,
@@ -87,7 +87,7 @@ mod tests {
     }
 
     /// Writes a record and judges it, so that both forms are seen.
-    fn judged(kind: u32, row: u16, content: &[u8], before: State) -> Record {
+    fn judged(kind: u32, row: u32, content: &[u8], before: State) -> Record {
         let codec = Codec::open(&plain_table()).unwrap();
         let mut out = vec![0; 5000];
         let written = write_record(kind, row, content, Ok(&codec), before, &mut out);
@@ -115,10 +115,10 @@ mod tests {
     #[test]
     fn refusals_are_bare() {
         let given = state(7, 70_000);
-        let bare = |number| Record { number, state: given, ..Record::default() };
+        let bare = |number| Record { number, ..Record::default() };
         assert_eq!(judge_record(Err(1), &[], given), bare(14));
         assert_eq!(judge_record(Err(1), &[2, 0, 0, 0, 9, 0], given), bare(15));
-        let refused = Written { number: 15, count: 0, state: given };
+        let refused = Written { number: 15, ..Written::default() };
         assert_eq!(write_record(0, 0, &[], Err(1), given, &mut []), refused);
     }
 

@@ -33,21 +33,21 @@ pub struct State {
 
 impl State {
     /// Whether a record of this kind may come next. `row` is looked at only
-    /// for the kinds that have one.
-    fn allows(self, kind: u16, row: u16) -> bool {
+    /// for the kinds that have one; a record has 2 bytes for it.
+    fn allows(self, kind: u16, row: u32) -> bool {
         let has_table = self.has_table != 0;
         match kind {
             KIND_TABLE => !has_table,
             KIND_LINE => has_table,
-            _ => has_table && u32::from(row) >= self.least_row,
+            _ => has_table && (self.least_row..=u16::MAX.into()).contains(&row),
         }
     }
 
     /// The state after such a record, which changes no more than it must.
-    fn after(self, kind: u16, row: u16) -> State {
+    fn after(self, kind: u16, row: u32) -> State {
         match kind {
             KIND_TABLE => State { has_table: 1, ..self },
-            KIND_PACKED | KIND_PLAIN => State { least_row: u32::from(row) + 1, ..self },
+            KIND_PACKED | KIND_PLAIN => State { least_row: row + 1, ..self },
             _ => self,
         }
     }

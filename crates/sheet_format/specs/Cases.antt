@@ -13,9 +13,9 @@ use Rattle.sheet_format.specs.Context.{newSheet, stateOf}
 use Rattle.sheet_format.specs.Line.{lineBytes, readLine}
 use Rattle.sheet_format.specs.Kind.Table.{tablePlace, tableOwn}
 use Rattle.sheet_format.specs.Kind.Row.{rowPlace}
-use Rattle.sheet_format.specs.Kind.PackedRow.{packedReading, packedLeftover, packedOwn, packedBits, packedContent, packedGiven, packedBody, packedTakes}
-use Rattle.sheet_format.specs.Kind.PlainRow.{plainNumber, plainOwn, plainContent, plainGiven, plainBody}
-use Rattle.sheet_format.specs.Kind.ContourLine.{lineNumber, lineOwn, readNumbers, linePlace, lineGiven, lineBody}
+use Rattle.sheet_format.specs.Kind.PackedRow.{packedReading, packedLeftover, packedOwn, packedBits, packedContent, packedGivenNumber, packedBody, packedTakes}
+use Rattle.sheet_format.specs.Kind.PlainRow.{plainNumber, plainOwn, plainContent, plainGivenNumber, plainBody}
+use Rattle.sheet_format.specs.Kind.ContourLine.{lineNumber, lineOwn, readNumbers, linePlace, lineGivenNumber, lineBody}
 use Rattle.sheet_format.specs.Record.{lengthNumber, contentNumber, recordNumber}
 use Rattle.sheet_format.specs.Writing.{recordBytes, writeNumber, recordWritten}
 pub mod Records
@@ -28,12 +28,12 @@ smallTable =
     7 ∷ 0 ∷ 0 ∷ 0 ∷ 253 ∷ 15 ∷ 0 ∷ 0 ∷ 1 ∷ 0 ∷ 0 ∷ 0 ∷ 34 ∷ 0 ∷ 0 ∷ 0 ∷ 99 ∷ 0 ∷ 0 ∷ 0 ∷ 227 ∷ 0 ∷ 0 ∷ 0 ∷ 1 ∷ 0 ∷ 0 ∷ 0 ∷ []
 
 -- a sheet that has nothing yet
-abbrev pub empty : SheetState
-empty = stateOf newSheet
+abbrev pub atStart : SheetState
+atStart = stateOf newSheet
 
 -- a sheet that has its table, and may have row 5 next
-abbrev pub begun : SheetState
-begun = record { tables = 1; least = 5 }
+abbrev pub ready : SheetState
+ready = record { «has_table» = 1; «least_row» = 5 }
 
 -- named on an `unfolding` line, these open all that reading and writing compute with
 numbering : Unit {0}
@@ -48,6 +48,6 @@ unfolding numbering recordNumber contentNumber lengthNumber tableOwn packedReadi
 reading = tt
 
 writing : Unit {0}
-unfolding numbering recordWritten writeNumber recordBytes packedGiven packedBody packedTakes plainGiven plainBody lineGiven
-    lineBody itemFor itemsFor bits rowBits lineBytes shortest bytesOf continued laterBytes
+unfolding numbering recordWritten writeNumber recordBytes packedGivenNumber packedBody packedTakes plainGivenNumber plainBody
+    lineGivenNumber lineBody itemFor itemsFor bits rowBits lineBytes shortest bytesOf continued laterBytes
 writing = tt

@@ -1,6 +1,6 @@
 -- What a written record, and a sheet of written records, is to be read as, from what the writer was given.
 -- Definitions only. Assumes nothing.
-use Prim.Native.Nat.{ℕ, _<_}
+use Prim.Native.Nat.{ℕ}
 use mathlib.Core.Path.{_≡_}
 use mathlib.Core.List.{List, [], _∷_, _++_}
 use lib.ListN.{take}
@@ -48,7 +48,6 @@ abbrev pub bytesWritten : Context → Write → List ℕ
 bytesWritten c w = take (writtenBy c w .answer .count) (writtenBy c w .memory)
 
 pub record Done (c : Context) (w : Write) : Type 0 where
-  pub small : w .heading .row < 65536
   pub bytes : Below 256 (w .content)
   pub done : writtenBy c w .answer .number ≡ 0
 

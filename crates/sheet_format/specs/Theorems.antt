@@ -21,7 +21,7 @@ use Rattle.sheet_format.specs.Kinds.{kindOf}
 use Rattle.sheet_format.specs.Record.{lengthField, kindField, bodyOf, lengthNumber, recordSpan}
 use Rattle.sheet_format.specs.Reading.{answerBytes, contextAfter, recordContent, judgedNumbers, refusedRecord, recordJudged, recordRead}
 use Rattle.sheet_format.specs.Reading.Laws.{judged-length}
-use Rattle.sheet_format.specs.Writing.{writtenNumbers, notWritten, recordFor, recordWritten, Writable}
+use Rattle.sheet_format.specs.Writing.{writtenNumbers, notWritten, recordFor, recordWritten, RecordWritable}
 use Rattle.sheet_format.specs.Sheet.{SheetRecord, ReadFrom, endsWith, putFirst, recordHere, restNext, records, sheetRead, recordHolds, numbersHeld, storedRows, storedLines, absent, present, heightsOf, recordKinds, rowNumbers}
 use Rattle.sheet_format.specs.Sheet.Laws.{records-end, records-refused, records-more}
 use Rattle.sheet_format.specs.Given.{recordGiven, Write, AllDone, sheetBytes, sheetGiven}
@@ -50,29 +50,29 @@ pub mod Stored
 -- ---- what is written is read back
 -- From the bytes that a done write counts, whatever follows them, and with room for the content, reading gives number 0, the
 -- kind, row, count and content that were given, the length that was counted, and the state that the writer answered.
-module _ (code : ℕ) (h : Heading) (c : Context) (x m : List ℕ) (small : h .row < 65536) (bytes : Below 256 x)
+module _ (code : ℕ) (h : Heading) (c : Context) (x m : List ℕ) (bytes : Below 256 x)
     (done : recordWritten code h c x m .answer .number ≡ 0) where
   pub written-read : (rest m′ : List ℕ) → length (contentGiven (kindOf code) x) ≤ length m′
       → let w = recordWritten code h c x m in
       recordRead c (take (w .answer .count) (w .memory) ++ rest) m′
       ≡ writes (recordGiven code h c x (w .answer)) (contentGiven (kindOf code) x) m′
-  written-read = read-written code h c x m small bytes done
+  written-read = read-written code h c x m bytes done
 
   -- and judging accepts it
   pub written-judged : (rest : List ℕ)
       → let w = recordWritten code h c x m in
       recordJudged c (take (w .answer .count) (w .memory) ++ rest) ≡ recordGiven code h c x (w .answer)
-  written-judged = judged-written code h c x m small bytes done
+  written-judged = judged-written code h c x m bytes done
 
   -- a table's bytes are the record's from place 6 on
   pub written-table : code ≡ 1 → let w = recordWritten code h c x m in drop 6 (take (w .answer .count) (w .memory)) ≡ x
-  written-table = table-written code h c x m small bytes done
+  written-table = table-written code h c x m bytes done
 
   -- it is 6 to 32778 bytes
   pub written-length :
       let w = recordWritten code h c x m in
       (6 ≤ w .answer .count) × (w .answer .count ≤ 32778)
-  written-length = length-written code h c x m small bytes done
+  written-length = length-written code h c x m bytes done
 
 -- A sheet of written records, each done in what the one before left, is accepted, and its records are those.
 pub written-sheet : (w : Write) (ws : List Write) → AllDone newSheet (w ∷ ws)
@@ -175,7 +175,7 @@ module _ (c : Context) (r m : List ℕ) (ok : recordJudged c r .number ≡ 0) wh
   read-refused-room = recordRead-full c r m ok
 
 -- Writing, where no other refusal is given, is refused 5 exactly when fewer bytes are lent than the whole record's.
-module _ (code : ℕ) (h : Heading) (c : Context) (x m : List ℕ) (ok : Writable code h c x) where
+module _ (code : ℕ) (h : Heading) (c : Context) (x m : List ℕ) (ok : RecordWritable code h c x) where
   pub written-granted : length (recordFor code h c x) ≤ length m → recordWritten code h c x m .answer .number ≡ 0
   written-granted = granted-written code h c x m ok
 
@@ -194,18 +194,18 @@ pub written-numbers : (code : ℕ) (h : Heading) (c : Context) (x m : List ℕ)
     → any (eqb (recordWritten code h c x m .answer .number)) writtenNumbers ≡ true
 written-numbers = recordWritten-numbers
 
--- "A refused call gives its number, zero for every count and value, and leaves the lent memory as found"; the state as given
+-- "A refused call gives its number, zero for every count and value, and leaves the lent memory as found"
 pub judged-refused-keeps : (c : Context) (r : List ℕ) → (recordJudged c r .number ≡ 0 → ⊥)
-    → recordJudged c r ≡ refusedRecord (stateOf c) (recordJudged c r .number)
+    → recordJudged c r ≡ refusedRecord (recordJudged c r .number)
 judged-refused-keeps = recordJudged-refused
 
 pub read-refused-keeps : (c : Context) (r m : List ℕ) → (recordRead c r m .answer .number ≡ 0 → ⊥)
-    → Kept (refusedRecord (stateOf c) (recordRead c r m .answer .number)) m (recordRead c r m)
+    → Kept (refusedRecord (recordRead c r m .answer .number)) m (recordRead c r m)
 read-refused-keeps = recordRead-kept
 
 pub written-refused-keeps : (code : ℕ) (h : Heading) (c : Context) (x m : List ℕ)
     → (recordWritten code h c x m .answer .number ≡ 0 → ⊥)
-    → Kept (notWritten (stateOf c) (recordWritten code h c x m .answer .number)) m (recordWritten code h c x m)
+    → Kept (notWritten (recordWritten code h c x m .answer .number)) m (recordWritten code h c x m)
 written-refused-keeps = recordWritten-kept
 
 -- "A done call writes only the pixels, words or bytes that it counts"

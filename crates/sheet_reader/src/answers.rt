@@ -5,8 +5,24 @@ ghost use mathlib.Core.Path.{_≡_};
 ghost use Rattle.bitstream.specs.Bits.{wordsFor};
 
 // `whole` is the record's bytes, `after` the state after it.
-pub fn held(kind: u32, row: u32, count: u32, bits: u32, whole: u32, after: SheetState) -> RecordRead
-    ensures { λ r. ⌜ r ≡ record { number = 0; kind = kind; row = row; count = count; bits = bits; words = wordsFor bits; length = whole; state = after } ⌝ }
+pub fn accepted(
+    kind: u32,
+    row: u32,
+    count: u32,
+    bits: u32,
+    whole: u32,
+    after: SheetState,
+) -> RecordRead
+    ensures { λ r. ⌜ r ≡ record {
+      number = 0;
+      kind = kind;
+      row = row;
+      count = count;
+      bits = bits;
+      words = wordsFor bits;
+      length = whole;
+      state = after;
+    } ⌝ }
 {
     let words = ((bits as u64 + 31) / 32) as u32;
     RecordRead {

@@ -10,7 +10,8 @@ ghost use lib.ListN.{length, take, drop};
 pub fn keep(from: &[u8], n: usize, room: usize, content: &mut [u8])
     requires { ⌜ n ≤ length (now from) ⌝ }
     requires { ⌜ n ≤ room ⌝ }
-    ensures { λ _. ⌜ (room ≤ length (now (content .entry)) → now (content .exit) ≡ take n (now (from .entry)) ++ drop n (now (content .entry))) ⌝ }
+    ensures { λ _. ⌜ (room ≤ length (now (content .entry))
+        → now (content .exit) ≡ take n (now (from .entry)) ++ drop n (now (content .entry))) ⌝ }
 {
     if content.len() < room {
         return;

@@ -30,7 +30,8 @@ pub fn judge_record(table: &[u8], sheet: &[u8], state: SheetState) -> RecordRead
 
 // The same, and its content into lent memory: pixels of kinds 2 and 3 as 2 bytes each, numbers of kind 4 as 4 bytes each.
 pub fn read_record(table: &[u8], sheet: &[u8], state: SheetState, content: &mut [u8]) -> RecordRead
-    ensures { λ r. ⌜ outcome r (now (content .exit)) ≡ recordRead (contextOf (now (table .entry)) state) (now (sheet .entry)) (now (content .entry)) ⌝ }
+    ensures { λ r. ⌜ outcome r (now (content .exit))
+        ≡ recordRead (contextOf (now (table .entry)) state) (now (sheet .entry)) (now (content .entry)) ⌝ }
 {
     let room = content.len();
     frame::read(table, sheet, state, room, content)

@@ -1,8 +1,9 @@
 // A contour line in a record.
-use crate::answers::held;
+use crate::answers::accepted;
 use crate::numbers::judge_numbers;
 use crate::numbers::keep_numbers;
 use bitstream::number::read_u16;
+use row_format::MAX_PIXELS;
 use sheet_format::RecordRead;
 use sheet_format::SheetState;
 use sheet_format::place::line_place;
@@ -22,23 +23,24 @@ pub fn read_line(
     room: usize,
     content: &mut [u8],
 ) -> RecordRead
-    ensures { λ r. ⌜ ((c : Context) → stateOf c ≡ state → ContentLeaves lineKind room 4 whole c state (now (body .entry)) (now (content .entry)) r (now (content .exit))) ⌝ }
+    ensures { λ r. ⌜ ((c : Context) → stateOf c ≡ state
+        → ContentLeaves lineKind room 4 whole c (now (body .entry)) (now (content .entry)) r (now (content .exit))) ⌝ }
 {
     if body.len() < 2 {
-        return refused(14, state);
+        return refused(14);
     }
     let place = line_place(state);
     if place != 0 {
-        return refused(place, state);
+        return refused(place);
     }
     let count = read_u16(body, 0);
     let number = numbers_number(body, count, room);
     if number != 0 {
-        return refused(number, state);
+        return refused(number);
     }
     let line = &body[2..];
     keep_numbers(line, count as usize, room, content);
-    held(4, 0, count, 0, whole, state)
+    accepted(4, 0, count, 0, whole, state)
 }
 
 // "Kind 4: 11, then 12 or 13 at the earliest number", then a leftover, and 5 last.
@@ -47,7 +49,7 @@ fn numbers_number(body: &[u8], count: u32, room: usize) -> u32
     requires { ⌜ count ≡ numberCount (now body) ⌝ }
     ensures { λ r. ⌜ ((c : Context) → r ≡ lineOwn (lent room) c (now (body .entry))) ⌝ }
 {
-    if 4096 < count {
+    if MAX_PIXELS < count as u64 {
         return 11;
     }
     let line = &body[2..];

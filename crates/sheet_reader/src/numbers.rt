@@ -44,7 +44,8 @@ pub fn judge_numbers(line: &[u8], count: usize) -> LineJudged
 pub fn keep_numbers(line: &[u8], count: usize, room: usize, content: &mut [u8])
     requires { ⌜ faultNumber (readLine count (now line)) ≡ 0 ⌝ }
     requires { ⌜ 4 * count ≤ room ⌝ }
-    ensures { λ _. ⌜ (room ≤ length (now (content .entry)) → now (content .exit) ≡ numberBytes (readLine count (now (line .entry))) ++ drop (4 * count) (now (content .entry))) ⌝ }
+    ensures { λ _. ⌜ (room ≤ length (now (content .entry)) → now (content .exit)
+        ≡ numberBytes (readLine count (now (line .entry))) ++ drop (4 * count) (now (content .entry))) ⌝ }
 {
     if content.len() < room {
         return;

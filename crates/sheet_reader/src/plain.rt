@@ -1,7 +1,8 @@
 // A plain row in a record: two bytes a pixel, unpacked.
-use crate::answers::held;
+use crate::answers::accepted;
 use crate::keep::keep;
 use crate::row::row_fields;
+use row_format::MAX_PIXELS;
 use row_pixels::any_above;
 use sheet_format::RecordRead;
 use sheet_format::SheetState;
@@ -23,22 +24,23 @@ pub fn read_plain(
     room: usize,
     content: &mut [u8],
 ) -> RecordRead
-    ensures { λ r. ⌜ ((c : Context) → stateOf c ≡ state → ContentLeaves plainKind room 3 whole c state (now (body .entry)) (now (content .entry)) r (now (content .exit))) ⌝ }
+    ensures { λ r. ⌜ ((c : Context) → stateOf c ≡ state
+        → ContentLeaves plainKind room 3 whole c (now (body .entry)) (now (content .entry)) r (now (content .exit))) ⌝ }
 {
     let fields = row_fields(body, state);
     let wrong = fields.number;
     if wrong != 0 {
-        return refused(wrong, state);
+        return refused(wrong);
     }
     let row = fields.row;
     let count = fields.count;
     let number = pixels_number(body, count, room);
     if number != 0 {
-        return refused(number, state);
+        return refused(number);
     }
     let pixels = &body[4..];
     keep(pixels, 2 * count as usize, room, content);
-    held(3, row, count, 0, whole, after_row(row, state))
+    accepted(3, row, count, 0, whole, after_row(row, state))
 }
 
 // "Kind 3: 11, 14 unless the bytes are twice the count, 4", and 5 last.
@@ -47,7 +49,7 @@ fn pixels_number(body: &[u8], count: u32, room: usize) -> u32
     requires { ⌜ count ≡ pixelCount (now body) ⌝ }
     ensures { λ r. ⌜ ((c : Context) → r ≡ plainOwn (lent room) c (now (body .entry))) ⌝ }
 {
-    if 4096 < count {
+    if MAX_PIXELS < count as u64 {
         return 11;
     }
     let pixels = &body[4..];

@@ -2,7 +2,7 @@
 use bitstream::number::read_u16;
 use sheet_format::SheetState;
 use sheet_format::place::row_place;
-ghost use Rattle.sheet_reader.specs.Row.{FieldsOf};
+ghost use Rattle.sheet_reader.specs.Row.{RowFieldsOf};
 
 // number   14 or 16, or 0 where the fields are there and the row may stand here
 // row      its row number
@@ -14,7 +14,7 @@ pub struct RowFields {
 }
 
 pub fn row_fields(body: &[u8], state: SheetState) -> RowFields
-    ensures { λ r. ⌜ FieldsOf (now (body .entry)) state r ⌝ }
+    ensures { λ r. ⌜ RowFieldsOf (now (body .entry)) state r ⌝ }
 {
     if body.len() < 4 {
         return RowFields {

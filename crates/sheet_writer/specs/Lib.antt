@@ -1,3 +1,3 @@
-pub mod Judged
+pub mod BeforeRoom
 pub mod Fields
 pub mod Numbers

@@ -18,13 +18,13 @@ pub fn put_record_fields(kind: u32, record_bytes: u32, out: &mut [u8])
 }
 
 // Of a row: also its number and its pixel count.
-pub fn put_row_fields(kind: u32, row: u16, pixels: u32, record_bytes: u32, out: &mut [u8])
+pub fn put_row_fields(kind: u32, row: u32, pixels: u32, record_bytes: u32, out: &mut [u8])
     requires { ⌜ 6 ≤ record_bytes ⌝ }
     requires { ⌜ 10 ≤ length (now out) ⌝ }
     ensures { λ _. ⌜ now (out .exit) ≡ rowFields kind row pixels record_bytes ++ drop 10 (now (out .entry)) ⌝ }
 {
     put_record_fields(kind, record_bytes, out);
-    put_u16(out, 6, row as u32);
+    put_u16(out, 6, row);
     put_u16(out, 8, pixels);
 }
 

@@ -4,6 +4,7 @@ use crate::done::written;
 use crate::fields::put_line_fields;
 use crate::numbers::line_bytes;
 use crate::numbers::put_numbers;
+use row_format::MAX_PIXELS;
 use sheet_format::RecordWritten;
 use sheet_format::SheetState;
 use sheet_format::place::line_place;
@@ -12,7 +13,7 @@ ghost use Rattle.answer.specs.Outcome.{outcome};
 ghost use Rattle.sheet_format.specs.Context.{Heading, Context, stateOf};
 ghost use Rattle.sheet_format.specs.Kind.ContourLine.{lineKind};
 ghost use Rattle.sheet_format.specs.Writing.{recordWritten};
-ghost use Rattle.sheet_writer.specs.Judged.{judged};
+ghost use Rattle.sheet_writer.specs.BeforeRoom.{beforeRoom};
 
 // Length 4, kind 2 and count 2.
 const FIELD_BYTES: usize = 8;
@@ -23,12 +24,12 @@ pub fn write_line(content: &[u8], state: SheetState, out: &mut [u8]) -> RecordWr
 {
     let number = line_number(content, state);
     if number != 0 {
-        return refused(number, state);
+        return refused(number);
     }
     let numbers = content.len() / 4;
     let record_bytes = FIELD_BYTES + line_bytes(content);
     if out.len() < record_bytes {
-        return refused(5, state);
+        return refused(5);
     }
     put_numbers(content, &mut out[FIELD_BYTES..]);
     put_line_fields(4, numbers as u32, record_bytes as u32, out);
@@ -37,13 +38,13 @@ pub fn write_line(content: &[u8], state: SheetState, out: &mut [u8]) -> RecordWr
 
 // The refusals before the one for room: 16 and 11.
 fn line_number(content: &[u8], state: SheetState) -> u32
-    ensures { λ r. ⌜ ((c : Context) (h : Heading) → stateOf c ≡ state → r ≡ judged lineKind h c (now (content .entry))) ⌝ }
+    ensures { λ r. ⌜ ((c : Context) (h : Heading) → stateOf c ≡ state → r ≡ beforeRoom lineKind h c (now (content .entry))) ⌝ }
 {
     let place = line_place(state);
     if place != 0 {
         return place;
     }
-    if 4096 < content.len() / 4 {
+    if MAX_PIXELS < (content.len() / 4) as u64 {
         return 11;
     }
     0

@@ -17,7 +17,7 @@ ghost use Rattle.sheet_format.specs.Writing.{recordWritten};
 const FIELD_BYTES: usize = 10;
 
 pub fn write_packed(
-    row: u16,
+    row: u32,
     content: &[u8],
     table: &[u8],
     state: SheetState,
@@ -26,25 +26,25 @@ pub fn write_packed(
     ensures { λ r. ⌜ outcome r (now (out .exit)) ≡ recordWritten 2 (record { row = row })
         (contextOf (now (table .entry)) state) (now (content .entry)) (now (out .entry)) ⌝ }
 {
-    let place = row_place(row as u32, state);
+    let place = row_place(row, state);
     if place != 0 {
-        return refused(place, state);
+        return refused(place);
     }
     // The words are packed straight to their place behind the fields. Memory that is too small for these lends its empty
     // end: packing then gives the numbers that come before 5, and writes nothing.
     let start = lesser(FIELD_BYTES, out.len());
     let packed = pack(table, content, &mut out[start..]);
     if packed.number != 0 {
-        return refused(packed.number, state);
+        return refused(packed.number);
     }
     if start < FIELD_BYTES {
-        return refused(5, state);
+        return refused(5);
     }
     let pixels = content.len() / 2;
     let words = ((packed.count + 31) / 32) as usize;
     let record_bytes = FIELD_BYTES + 4 * words;
     put_row_fields(2, row, pixels as u32, record_bytes as u32, out);
-    written(record_bytes as u32, after_row(row as u32, state))
+    written(record_bytes as u32, after_row(row, state))
 }
 
 fn lesser(a: usize, b: usize) -> usize

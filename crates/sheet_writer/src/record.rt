@@ -17,7 +17,7 @@ ghost use Rattle.sheet_format.specs.Writing.{recordWritten};
 // 1 to 3, 11, 4, 5, with the memory as it was.
 pub fn write_record(
     kind: u32,
-    row: u16,
+    row: u32,
     content: &[u8],
     table: &[u8],
     state: SheetState,
@@ -31,6 +31,6 @@ pub fn write_record(
         2 => write_packed(row, content, table, state, out),
         3 => write_plain(row, content, state, out),
         4 => write_line(content, state, out),
-        _ => refused(15, state),
+        _ => refused(15),
     }
 }

@@ -13,7 +13,7 @@ ghost use Rattle.answer.specs.Outcome.{outcome};
 ghost use Rattle.sheet_format.specs.Context.{Heading, Context, stateOf};
 ghost use Rattle.sheet_format.specs.Kind.Table.{tableKind};
 ghost use Rattle.sheet_format.specs.Writing.{recordWritten};
-ghost use Rattle.sheet_writer.specs.Judged.{judged};
+ghost use Rattle.sheet_writer.specs.BeforeRoom.{beforeRoom};
 
 // Length 4 and kind 2.
 const FIELD_BYTES: usize = 6;
@@ -24,11 +24,11 @@ pub fn write_table(content: &[u8], state: SheetState, out: &mut [u8]) -> RecordW
 {
     let number = table_number(content, state);
     if number != 0 {
-        return refused(number, state);
+        return refused(number);
     }
     let record_bytes = FIELD_BYTES + content.len();
     if out.len() < record_bytes {
-        return refused(5, state);
+        return refused(5);
     }
     copy(content, &mut out[FIELD_BYTES..]);
     put_record_fields(1, record_bytes as u32, out);
@@ -37,7 +37,7 @@ pub fn write_table(content: &[u8], state: SheetState, out: &mut [u8]) -> RecordW
 
 // The refusals before the one for room: 16, and 1 to 3.
 fn table_number(content: &[u8], state: SheetState) -> u32
-    ensures { λ r. ⌜ ((c : Context) (h : Heading) → stateOf c ≡ state → r ≡ judged tableKind h c (now (content .entry))) ⌝ }
+    ensures { λ r. ⌜ ((c : Context) (h : Heading) → stateOf c ≡ state → r ≡ beforeRoom tableKind h c (now (content .entry))) ⌝ }
 {
     let place = table_place(state);
     if place != 0 {

@@ -139,13 +139,14 @@ pub extern "C" fn tahliruz_read_record(
 #[no_mangle]
 pub extern "C" fn tahliruz_write_record(
     kind: u32,
-    row: u16,
+    row: u32,
     content: &[u8],
     table: &[u8],
     state: SheetState,
     out: &mut [u8],
 ) -> RecordWritten
-    ensures { λ r. ⌜ outcome r (now (out .exit)) ≡ recordWritten kind (record { row = row }) (contextOf (now (table .entry)) state) (now (content .entry)) (now (out .entry)) ⌝ }
+    ensures { λ r. ⌜ outcome r (now (out .exit)) ≡ recordWritten kind (record { row = row })
+        (contextOf (now (table .entry)) state) (now (content .entry)) (now (out .entry)) ⌝ }
 {
     sheet_writer::write_record(kind, row, content, table, state, out)
 }

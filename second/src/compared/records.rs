@@ -58,7 +58,7 @@ impl Place<'_> {
 #[derive(Clone, Copy)]
 pub struct Writing<'a> {
     pub kind: u32,
-    pub row: u16,
+    pub row: u32,
     pub content: &'a Given,
     pub table: &'a Opened,
     pub state: State,

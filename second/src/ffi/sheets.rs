@@ -30,7 +30,7 @@ extern "C" {
     ) -> Record;
     fn tahliruz_write_record(
         kind: u32,
-        row: u16,
+        row: u32,
         content: *const u8,
         content_len: usize,
         table: *const u8,
@@ -79,7 +79,7 @@ pub fn read_record(table: &[u8], sheet: &[u8], state: State, content: &mut [u8])
 
 pub fn write_record(
     kind: u32,
-    row: u16,
+    row: u32,
     content: &[u8],
     table: &[u8],
     state: State,

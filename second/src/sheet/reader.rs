@@ -24,7 +24,7 @@ pub struct RecordAnswer {
     pub content: Option<Content>,
     /// The record's bytes, its length field included.
     pub used: usize,
-    /// The state after the record; as given when refused.
+    /// The state after the record; all 0 when refused.
     pub state: State,
 }
 
@@ -53,18 +53,19 @@ fn answer(
 ) -> RecordAnswer {
     let judged = frame(bytes).and_then(|record| {
         let fields = fixed_fields(record)?;
-        if !state.allows(fields.kind, fields.row) {
+        let row = u32::from(fields.row);
+        if !state.allows(fields.kind, row) {
             return Err(PLACE);
         }
         let content = body_content(&fields, codec, lent)?;
         let used = LENGTH_BYTES + record.len();
-        Ok((content, used, state.after(fields.kind, fields.row)))
+        Ok((content, used, state.after(fields.kind, row)))
     });
     match judged {
         Ok((content, used, state)) => {
             RecordAnswer { number: DONE, content: Some(content), used, state }
         }
-        Err(number) => RecordAnswer { number, content: None, used: 0, state },
+        Err(number) => RecordAnswer { number, content: None, used: 0, state: State::default() },
     }
 }
 

@@ -27,7 +27,7 @@ fn number(state: State, bytes: &[u8]) -> u32 {
     let mut lent = vec![0xA5; 4 * 4096];
     assert_eq!(read_record(state, Ok(&codec), bytes, &mut lent), judged);
     if judged.number != 0 {
-        let refused = RecordAnswer { number: judged.number, content: None, used: 0, state };
+        let refused = RecordAnswer { number: judged.number, content: None, used: 0, state: EMPTY };
         assert_eq!(judged, refused);
         assert!(lent.iter().all(|&byte| byte == 0xA5));
     }
@@ -140,13 +140,13 @@ fn lent_memory() {
 }
 
 /// Writes with ample room and checks that the record reads back in order.
-fn written(state: State, kind: u32, row: u16, content: &[u8]) -> (u32, Vec<u8>) {
+fn written(state: State, kind: u32, row: u32, content: &[u8]) -> (u32, Vec<u8>) {
     let mut out = vec![0xA5; 40_000];
     let codec = Codec::open(&plain_table()).unwrap();
     let answer = write_record(state, Ok(&codec.table), kind, row, content, &mut out);
     assert!(out[answer.bytes..].iter().all(|&byte| byte == 0xA5));
     if answer.number != 0 {
-        assert_eq!((answer.bytes, answer.state), (0, state));
+        assert_eq!((answer.bytes, answer.state), (0, EMPTY));
         return (answer.number, vec![]);
     }
     out.truncate(answer.bytes);
@@ -199,12 +199,20 @@ fn writer_refuses_in_order() {
 
 #[test]
 fn states() {
-    let after = |state, kind, row| written(state, kind, row, &[]).0;
+    let after = |state, kind, row: u32| written(state, kind, row, &[]).0;
     let state = |has_table, least_row| State { has_table, least_row };
     assert_eq!(after(state(1, 65535), 3, 65535), 0);
     for least in [65536, 65537, 1 << 31] {
         assert_eq!(after(state(1, least), 3, 65535), 16, "no row may follow");
         assert_eq!(after(state(1, least), 4, 0), 0);
+    }
+    // No row number is cut down to its low 16 bits; other kinds have none.
+    for row in [65536, 70_000, 1 << 31, u32::MAX] {
+        assert_eq!(after(state(1, 0), 2, row), 16);
+        assert_eq!(after(state(1, 0), 3, row), 16);
+        assert_eq!(after(state(1, row), 3, row), 16);
+        assert_eq!(after(state(1, 0), 4, row), 0);
+        assert_eq!(written(EMPTY, 1, row, &plain_table()).0, 0);
     }
     // Any number but 0 says that there is a table, and stays.
     assert_eq!(after(state(2, 0), 3, 0), 0);

@@ -11,7 +11,7 @@ pub struct WriteAnswer {
     pub number: u32,
     /// The record's bytes, its length field included.
     pub bytes: usize,
-    /// The state after the record; as given when refused.
+    /// The state after the record; all 0 when refused.
     pub state: State,
 }
 
@@ -22,7 +22,7 @@ pub fn write_record(
     state: State,
     table: Result<&Table, u32>,
     kind: u32,
-    row: u16,
+    row: u32,
     content: &[u8],
     out: &mut [u8],
 ) -> WriteAnswer {
@@ -34,7 +34,7 @@ pub fn write_record(
     });
     match written {
         Ok((bytes, state)) => WriteAnswer { number: DONE, bytes, state },
-        Err(number) => WriteAnswer { number, bytes: 0, state },
+        Err(number) => WriteAnswer { number, bytes: 0, state: State::default() },
     }
 }
 
@@ -43,7 +43,7 @@ fn body_of(
     state: State,
     table: Result<&Table, u32>,
     kind: u32,
-    row: u16,
+    row: u32,
     content: &[u8],
 ) -> Result<(u16, Vec<u8>), u32> {
     let known = |kind: &u16| (KIND_TABLE..=KIND_LINE).contains(kind);
@@ -61,11 +61,12 @@ fn body_of(
     body.map(|body| (kind, body))
 }
 
-fn row_fields(row: u16, pixels: usize) -> Vec<u8> {
-    [row.to_le_bytes(), (pixels as u16).to_le_bytes()].concat()
+/// Both fit 2 bytes: the place was judged, and the pixels counted.
+fn row_fields(row: u32, pixels: usize) -> Vec<u8> {
+    [(row as u16).to_le_bytes(), (pixels as u16).to_le_bytes()].concat()
 }
 
-fn packed_body(table: &Table, row: u16, content: &[u8]) -> Result<Vec<u8>, u32> {
+fn packed_body(table: &Table, row: u32, content: &[u8]) -> Result<Vec<u8>, u32> {
     let count = content.len() / 2;
     let (number, room) = room_under(table, count as u64);
     if number != DONE {
@@ -80,7 +81,7 @@ fn packed_body(table: &Table, row: u16, content: &[u8]) -> Result<Vec<u8>, u32> 
     Ok([row_fields(row, count), words].concat())
 }
 
-fn plain_body(row: u16, content: &[u8]) -> Result<Vec<u8>, u32> {
+fn plain_body(row: u32, content: &[u8]) -> Result<Vec<u8>, u32> {
     let (pixels, _) = content.as_chunks::<2>();
     if pixels.len() > MAX_PIXELS {
         return Err(TOO_MANY);

@@ -7,7 +7,7 @@ use Rattle.sheet_format.specs.declared.SheetState.{SheetState}
 use Rattle.answer.specs.Outcome.{Lent, nothing, lent}
 use Rattle.sheet_format.specs.Context.{contextOf}
 use Rattle.sheet_format.specs.Record.{recordNumber}
-use Rattle.sheet_format.specs.Cases.{smallTable, empty, begun, reading}
+use Rattle.sheet_format.specs.Cases.{smallTable, atStart, ready, reading}
 
 pub record RecordCase : Type 0 where
   pub number : ℕ
@@ -17,13 +17,13 @@ pub record RecordCase : Type 0 where
 
 infix 80 _of_
 abbrev pub _of_ : ℕ → List ℕ → RecordCase
-n of r = record { number = n; state = begun; memory = nothing; bytes = r }
+n of r = record { number = n; state = ready; memory = nothing; bytes = r }
 
-abbrev pub first : ℕ → List ℕ → RecordCase
-first n r = record { number = n; state = empty; memory = nothing; bytes = r }
+abbrev pub ofFirst : ℕ → List ℕ → RecordCase
+ofFirst n r = record { number = n; state = atStart; memory = nothing; bytes = r }
 
-abbrev pub read : ℕ → ℕ → List ℕ → RecordCase
-read n m r = record { number = n; state = begun; memory = lent m; bytes = r }
+abbrev pub ofLent : ℕ → ℕ → List ℕ → RecordCase
+ofLent n m r = record { number = n; state = ready; memory = lent m; bytes = r }
 
 abbrev pub recordCases : List RecordCase
 recordCases =
@@ -37,26 +37,26 @@ recordCases =
     -- kind, before fixed fields and place
     15 of (2 ∷ 0 ∷ 0 ∷ 0 ∷ 0 ∷ 0 ∷ []) ∷
     15 of (2 ∷ 0 ∷ 0 ∷ 0 ∷ 5 ∷ 0 ∷ []) ∷
-    first 15 (2 ∷ 0 ∷ 0 ∷ 0 ∷ 4 ∷ 1 ∷ []) ∷
+    ofFirst 15 (2 ∷ 0 ∷ 0 ∷ 0 ∷ 4 ∷ 1 ∷ []) ∷
     -- fixed fields missing, or not whole words, before place
-    first 14 (5 ∷ 0 ∷ 0 ∷ 0 ∷ 2 ∷ 0 ∷ 5 ∷ 0 ∷ 0 ∷ []) ∷
-    first 14 (7 ∷ 0 ∷ 0 ∷ 0 ∷ 2 ∷ 0 ∷ 5 ∷ 0 ∷ 0 ∷ 0 ∷ 0 ∷ []) ∷
-    first 14 (5 ∷ 0 ∷ 0 ∷ 0 ∷ 3 ∷ 0 ∷ 5 ∷ 0 ∷ 0 ∷ []) ∷
-    first 14 (3 ∷ 0 ∷ 0 ∷ 0 ∷ 4 ∷ 0 ∷ 0 ∷ []) ∷
+    ofFirst 14 (5 ∷ 0 ∷ 0 ∷ 0 ∷ 2 ∷ 0 ∷ 5 ∷ 0 ∷ 0 ∷ []) ∷
+    ofFirst 14 (7 ∷ 0 ∷ 0 ∷ 0 ∷ 2 ∷ 0 ∷ 5 ∷ 0 ∷ 0 ∷ 0 ∷ 0 ∷ []) ∷
+    ofFirst 14 (5 ∷ 0 ∷ 0 ∷ 0 ∷ 3 ∷ 0 ∷ 5 ∷ 0 ∷ 0 ∷ []) ∷
+    ofFirst 14 (3 ∷ 0 ∷ 0 ∷ 0 ∷ 4 ∷ 0 ∷ 0 ∷ []) ∷
     14 of (3 ∷ 0 ∷ 0 ∷ 0 ∷ 1 ∷ 0 ∷ 7 ∷ []) ∷
     -- place: no table first, a second table before its content is looked at, a row number not risen before 11 and 6
-    first 16 (6 ∷ 0 ∷ 0 ∷ 0 ∷ 2 ∷ 0 ∷ 5 ∷ 0 ∷ 0 ∷ 0 ∷ []) ∷
-    first 16 (6 ∷ 0 ∷ 0 ∷ 0 ∷ 3 ∷ 0 ∷ 5 ∷ 0 ∷ 0 ∷ 0 ∷ []) ∷
-    first 16 (4 ∷ 0 ∷ 0 ∷ 0 ∷ 4 ∷ 0 ∷ 0 ∷ 0 ∷ []) ∷
+    ofFirst 16 (6 ∷ 0 ∷ 0 ∷ 0 ∷ 2 ∷ 0 ∷ 5 ∷ 0 ∷ 0 ∷ 0 ∷ []) ∷
+    ofFirst 16 (6 ∷ 0 ∷ 0 ∷ 0 ∷ 3 ∷ 0 ∷ 5 ∷ 0 ∷ 0 ∷ 0 ∷ []) ∷
+    ofFirst 16 (4 ∷ 0 ∷ 0 ∷ 0 ∷ 4 ∷ 0 ∷ 0 ∷ 0 ∷ []) ∷
     16 of (2 ∷ 0 ∷ 0 ∷ 0 ∷ 1 ∷ 0 ∷ []) ∷
     16 of (6 ∷ 0 ∷ 0 ∷ 0 ∷ 2 ∷ 0 ∷ 4 ∷ 0 ∷ 1 ∷ 16 ∷ []) ∷
     16 of (6 ∷ 0 ∷ 0 ∷ 0 ∷ 3 ∷ 0 ∷ 4 ∷ 0 ∷ 1 ∷ 0 ∷ []) ∷
     0 of (6 ∷ 0 ∷ 0 ∷ 0 ∷ 3 ∷ 0 ∷ 5 ∷ 0 ∷ 0 ∷ 0 ∷ []) ∷
     -- kind 1: no word at all is 1; the table itself
-    first 1 (2 ∷ 0 ∷ 0 ∷ 0 ∷ 1 ∷ 0 ∷ []) ∷
-    first 0 (30 ∷ 0 ∷ 0 ∷ 0 ∷ 1 ∷ 0 ∷ smallTable) ∷
+    ofFirst 1 (2 ∷ 0 ∷ 0 ∷ 0 ∷ 1 ∷ 0 ∷ []) ∷
+    ofFirst 0 (30 ∷ 0 ∷ 0 ∷ 0 ∷ 1 ∷ 0 ∷ smallTable) ∷
     -- a table with an extra word is 1, never leftover
-    first 1 (34 ∷ 0 ∷ 0 ∷ 0 ∷ 1 ∷ 0 ∷ smallTable ++ (0 ∷ 0 ∷ 0 ∷ 0 ∷ [])) ∷
+    ofFirst 1 (34 ∷ 0 ∷ 0 ∷ 0 ∷ 1 ∷ 0 ∷ smallTable ++ (0 ∷ 0 ∷ 0 ∷ 0 ∷ [])) ∷
     -- kind 2: 11; no words; one pixel 0; a bit above it; a word after the last used one, also where there is no pixel
     11 of (6 ∷ 0 ∷ 0 ∷ 0 ∷ 2 ∷ 0 ∷ 5 ∷ 0 ∷ 1 ∷ 16 ∷ []) ∷
     6 of (6 ∷ 0 ∷ 0 ∷ 0 ∷ 2 ∷ 0 ∷ 5 ∷ 0 ∷ 1 ∷ 0 ∷ []) ∷
@@ -79,15 +79,15 @@ recordCases =
     0 of (7 ∷ 0 ∷ 0 ∷ 0 ∷ 4 ∷ 0 ∷ 2 ∷ 0 ∷ 127 ∷ 128 ∷ 3 ∷ []) ∷
     14 of (7 ∷ 0 ∷ 0 ∷ 0 ∷ 4 ∷ 0 ∷ 1 ∷ 0 ∷ 127 ∷ 128 ∷ 3 ∷ []) ∷
     -- room: of a packed row after 11 and before its items, of a plain row and of a line last
-    read 11 0 (6 ∷ 0 ∷ 0 ∷ 0 ∷ 2 ∷ 0 ∷ 5 ∷ 0 ∷ 1 ∷ 16 ∷ []) ∷
-    read 5 1 (6 ∷ 0 ∷ 0 ∷ 0 ∷ 2 ∷ 0 ∷ 5 ∷ 0 ∷ 1 ∷ 0 ∷ []) ∷
-    read 6 2 (6 ∷ 0 ∷ 0 ∷ 0 ∷ 2 ∷ 0 ∷ 5 ∷ 0 ∷ 1 ∷ 0 ∷ []) ∷
-    read 4 1 (8 ∷ 0 ∷ 0 ∷ 0 ∷ 3 ∷ 0 ∷ 5 ∷ 0 ∷ 1 ∷ 0 ∷ 0 ∷ 16 ∷ []) ∷
-    read 5 1 (8 ∷ 0 ∷ 0 ∷ 0 ∷ 3 ∷ 0 ∷ 5 ∷ 0 ∷ 1 ∷ 0 ∷ 255 ∷ 15 ∷ []) ∷
-    read 0 2 (8 ∷ 0 ∷ 0 ∷ 0 ∷ 3 ∷ 0 ∷ 5 ∷ 0 ∷ 1 ∷ 0 ∷ 255 ∷ 15 ∷ []) ∷
-    read 14 7 (7 ∷ 0 ∷ 0 ∷ 0 ∷ 4 ∷ 0 ∷ 1 ∷ 0 ∷ 127 ∷ 128 ∷ 3 ∷ []) ∷
-    read 5 7 (7 ∷ 0 ∷ 0 ∷ 0 ∷ 4 ∷ 0 ∷ 2 ∷ 0 ∷ 127 ∷ 128 ∷ 3 ∷ []) ∷
-    read 0 8 (7 ∷ 0 ∷ 0 ∷ 0 ∷ 4 ∷ 0 ∷ 2 ∷ 0 ∷ 127 ∷ 128 ∷ 3 ∷ []) ∷ []
+    ofLent 11 0 (6 ∷ 0 ∷ 0 ∷ 0 ∷ 2 ∷ 0 ∷ 5 ∷ 0 ∷ 1 ∷ 16 ∷ []) ∷
+    ofLent 5 1 (6 ∷ 0 ∷ 0 ∷ 0 ∷ 2 ∷ 0 ∷ 5 ∷ 0 ∷ 1 ∷ 0 ∷ []) ∷
+    ofLent 6 2 (6 ∷ 0 ∷ 0 ∷ 0 ∷ 2 ∷ 0 ∷ 5 ∷ 0 ∷ 1 ∷ 0 ∷ []) ∷
+    ofLent 4 1 (8 ∷ 0 ∷ 0 ∷ 0 ∷ 3 ∷ 0 ∷ 5 ∷ 0 ∷ 1 ∷ 0 ∷ 0 ∷ 16 ∷ []) ∷
+    ofLent 5 1 (8 ∷ 0 ∷ 0 ∷ 0 ∷ 3 ∷ 0 ∷ 5 ∷ 0 ∷ 1 ∷ 0 ∷ 255 ∷ 15 ∷ []) ∷
+    ofLent 0 2 (8 ∷ 0 ∷ 0 ∷ 0 ∷ 3 ∷ 0 ∷ 5 ∷ 0 ∷ 1 ∷ 0 ∷ 255 ∷ 15 ∷ []) ∷
+    ofLent 14 7 (7 ∷ 0 ∷ 0 ∷ 0 ∷ 4 ∷ 0 ∷ 1 ∷ 0 ∷ 127 ∷ 128 ∷ 3 ∷ []) ∷
+    ofLent 5 7 (7 ∷ 0 ∷ 0 ∷ 0 ∷ 4 ∷ 0 ∷ 2 ∷ 0 ∷ 127 ∷ 128 ∷ 3 ∷ []) ∷
+    ofLent 0 8 (7 ∷ 0 ∷ 0 ∷ 0 ∷ 4 ∷ 0 ∷ 2 ∷ 0 ∷ 127 ∷ 128 ∷ 3 ∷ []) ∷ []
 
 unfoldable pub numbersOf : List RecordCase → List ℕ
 numbersOf [] = []

@@ -8,14 +8,14 @@ use Rattle.sheet_format.specs.declared.RecordRead.{RecordRead}
 use Rattle.sheet_format.specs.Context.{Context, contextOf}
 use Rattle.sheet_format.specs.Reading.{recordHeld, recordContent, contextAfter, recordJudged, recordRead}
 use Rattle.sheet_format.specs.Sheet.{SheetRead, recordsFrom, sheetRead, absent, present, storedRows, storedLines, heightsOf}
-use Rattle.sheet_format.specs.Cases.{smallTable, begun, reading}
-use Rattle.sheet_format.specs.Cases.Writes.{lineNumbers, tableBytes, packedBytes, plainBytes, contourBytes}
+use Rattle.sheet_format.specs.Cases.{smallTable, ready, reading}
+use Rattle.sheet_format.specs.Cases.Writes.{lineNumbers, tableRecord, packedRecord, plainRecord, contourRecord}
 
 abbrev pub wholeSheet : List ℕ
-wholeSheet = tableBytes ++ (packedBytes ++ (plainBytes ++ contourBytes))
+wholeSheet = tableRecord ++ (packedRecord ++ (plainRecord ++ contourRecord))
 
-abbrev pub answer : ℕ → ℕ → ℕ → ℕ → ℕ → ℕ → ℕ → RecordRead
-answer kind row count bits words whole least =
+abbrev pub recordAnswer : ℕ → ℕ → ℕ → ℕ → ℕ → ℕ → ℕ → RecordRead
+recordAnswer kind row count bits words whole least =
     record {
       number = 0;
       kind = kind;
@@ -24,17 +24,17 @@ answer kind row count bits words whole least =
       bits = bits;
       words = words;
       length = whole;
-      state = record { tables = 1; least = least };
+      state = record { «has_table» = 1; «least_row» = least };
     }
 
 abbrev pub wholeRead : SheetRead
 wholeRead = record {
   number = 0;
   records =
-      record { answer = answer 1 0 7 0 0 34 0; content = []; bytes = tableBytes } ∷
-      record { answer = answer 2 5 2 4 1 14 6; content = 0 ∷ 0 ∷ 255 ∷ 15 ∷ []; bytes = packedBytes } ∷
-      record { answer = answer 3 9 1 0 0 12 10; content = 255 ∷ 15 ∷ []; bytes = plainBytes } ∷
-      record { answer = answer 4 0 2 0 0 11 10; content = lineNumbers; bytes = contourBytes } ∷ [];
+      record { answer = recordAnswer 1 0 7 0 0 34 0; content = []; bytes = tableRecord } ∷
+      record { answer = recordAnswer 2 5 2 4 1 14 6; content = 0 ∷ 0 ∷ 255 ∷ 15 ∷ []; bytes = packedRecord } ∷
+      record { answer = recordAnswer 3 9 1 0 0 12 10; content = 255 ∷ 15 ∷ []; bytes = plainRecord } ∷
+      record { answer = recordAnswer 4 0 2 0 0 11 10; content = lineNumbers; bytes = contourRecord } ∷ [];
 }
 
 pub sheet-right : sheetRead wholeSheet ≡ wholeRead
@@ -51,23 +51,23 @@ unfolding storedRows storedLines heightsOf sheetRead recordsFrom recordJudged re
 stored-right = (refl, refl, refl, refl)
 
 -- what is read of its last three records, into 9 bytes of 9
-abbrev pub held : Context
-held = contextOf smallTable begun
+abbrev pub readySheet : Context
+readySheet = contextOf smallTable ready
 
 pub contents-right :
-    (recordRead held packedBytes (replicate 9 9) .memory ≡ 0 ∷ 0 ∷ 255 ∷ 15 ∷ 9 ∷ 9 ∷ 9 ∷ 9 ∷ 9 ∷ [])
-    × (recordRead held plainBytes (replicate 9 9) .memory ≡ 255 ∷ 15 ∷ 9 ∷ 9 ∷ 9 ∷ 9 ∷ 9 ∷ 9 ∷ 9 ∷ [])
-    × (recordRead held contourBytes (replicate 9 9) .memory ≡ lineNumbers ++ (9 ∷ []))
+    (recordRead readySheet packedRecord (replicate 9 9) .memory ≡ 0 ∷ 0 ∷ 255 ∷ 15 ∷ 9 ∷ 9 ∷ 9 ∷ 9 ∷ 9 ∷ [])
+    × (recordRead readySheet plainRecord (replicate 9 9) .memory ≡ 255 ∷ 15 ∷ 9 ∷ 9 ∷ 9 ∷ 9 ∷ 9 ∷ 9 ∷ 9 ∷ [])
+    × (recordRead readySheet contourRecord (replicate 9 9) .memory ≡ lineNumbers ++ (9 ∷ []))
 unfolding recordRead recordHeld recordContent reading
 contents-right = (refl, refl, refl)
 
 -- no bytes at all; one byte; the same row twice, at record 2; one byte too many, at record 4
-abbrev pub refusedAt : List ℕ → List ℕ
-refusedAt s = sheetRead s .number ∷ length (sheetRead s .records) ∷ []
+abbrev pub sheetRefused : List ℕ → List ℕ
+sheetRefused s = sheetRead s .number ∷ length (sheetRead s .records) ∷ []
 
 pub refused-right :
-    (refusedAt [] ≡ 16 ∷ 0 ∷ []) × (refusedAt (30 ∷ []) ≡ 14 ∷ 0 ∷ [])
-    × (refusedAt (tableBytes ++ (packedBytes ++ packedBytes)) ≡ 16 ∷ 2 ∷ [])
-    × (refusedAt (wholeSheet ++ (0 ∷ [])) ≡ 14 ∷ 4 ∷ [])
+    (sheetRefused [] ≡ 16 ∷ 0 ∷ []) × (sheetRefused (30 ∷ []) ≡ 14 ∷ 0 ∷ [])
+    × (sheetRefused (tableRecord ++ (packedRecord ++ packedRecord)) ≡ 16 ∷ 2 ∷ [])
+    × (sheetRefused (wholeSheet ++ (0 ∷ [])) ≡ 14 ∷ 4 ∷ [])
 unfolding sheetRead recordsFrom recordJudged recordHeld contextAfter reading
 refused-right = (refl, refl, refl, refl)

@@ -59,8 +59,8 @@ linePlace c h = noTable c
 abbrev pub givenNumbers : List ℕ → List ℤ
 givenNumbers x = map signedOf (wordsOf x)
 
-unfoldable pub lineGiven : Heading → Context → List ℕ → ℕ
-lineGiven h c x = tooMany (length (givenNumbers x))
+unfoldable pub lineGivenNumber : Heading → Context → List ℕ → ℕ
+lineGivenNumber h c x = tooMany (length (givenNumbers x))
 
 unfoldable pub lineBody : Heading → Context → List ℕ → List ℕ
 lineBody h c x = twoBytes (length (givenNumbers x)) ++ lineBytes (givenNumbers x)
@@ -78,7 +78,7 @@ lineKind = record {
   bits = λ c b. 0;
   content = readNumbers;
   each = 4;
-  given = lineGiven;
+  given = lineGivenNumber;
   body = lineBody;
   givenCount = λ x. length (givenNumbers x);
   givenBits = λ h c x. 0;

@@ -1,5 +1,5 @@
 -- What every kind of record owes, so that all that is proved of records is proved once, over a lawful kind. Assumes nothing.
-use Prim.Native.Nat.{ℕ, _*_, _≤_, _<_}
+use Prim.Native.Nat.{ℕ, _*_, _≤_}
 use mathlib.Core.Path.{_≡_}
 use mathlib.Core.List.{List}
 use lib.ListN.{length}
@@ -9,7 +9,7 @@ use Rattle.sheet_format.specs.Context.{Heading, Context}
 use Rattle.sheet_format.specs.Kind.{Kind, aTable, aRow, afterRecord, headingKept, contentGiven}
 
 -- the numbers that document 01 lists for a record's kind and body, for its place, and for what the writer is given
-pub record Listed (P : ℕ → Type 0) : Type 0 where
+pub record ListedBody (P : ℕ → Type 0) : Type 0 where
   pub p0 : P 0
   pub p1 : P 1
   pub p2 : P 2
@@ -27,7 +27,7 @@ pub record Listed (P : ℕ → Type 0) : Type 0 where
   pub p15 : P 15
 
 -- what holds of such numbers, and whatever follows from it
-pub listed-in : {P Q : ℕ → Type 0} → ((e : ℕ) → P e → Q e) → Listed P → Listed Q
+pub listed-in : {P Q : ℕ → Type 0} → ((e : ℕ) → P e → Q e) → ListedBody P → ListedBody Q
 listed-in f l = record {
   p0 = f 0 (l .p0);
   p1 = f 1 (l .p1);
@@ -86,14 +86,14 @@ pub record Lawful (k : Kind) : Type 1 where
       → length (c .tables) ≡ 0 → ⊥
   pub row-risen : k .holds ≡ aRow → (c : Context) (h : Heading) → k .place c h ≡ 0 → c .least ≤ h .row
   -- ---- numbers: what document 01 lists, and nothing else
-  pub readable-in : (P : ℕ → Type 0) → Listed P → P (k .readable)
+  pub readable-in : (P : ℕ → Type 0) → ListedBody P → P (k .readable)
   pub writable-in : (P : ℕ → Type 0) → ListedGiven P → P (k .writable)
-  pub fixed-in : (P : ℕ → Type 0) → Listed P → (b : List ℕ) → P (k .fixed b)
+  pub fixed-in : (P : ℕ → Type 0) → ListedBody P → (b : List ℕ) → P (k .fixed b)
   pub place-in : (P : ℕ → Type 0) → ListedPlace P → (c : Context) (h : Heading) → P (k .place c h)
-  pub own-in : (P : ℕ → Type 0) → Listed P → (m : Lent) → ((n : ℕ) → P (roomNumber m n)) → (c : Context) (b : List ℕ)
+  pub own-in : (P : ℕ → Type 0) → ListedBody P → (m : Lent) → ((n : ℕ) → P (roomNumber m n)) → (c : Context) (b : List ℕ)
       → P (k .own m c b)
   pub given-in : (P : ℕ → Type 0) → ListedGiven P → (h : Heading) (c : Context) (x : List ℕ) → P (k .given h c x)
   -- ---- what is written is read back
   pub readable-back : k .writable ≡ 0 → k .readable ≡ 0
-  pub back : (h : Heading) (c : Context) (x : List ℕ) → h .row < 65536 → Below 256 x → k .writable ≡ 0
+  pub back : (h : Heading) (c : Context) (x : List ℕ) → Below 256 x → k .writable ≡ 0 → k .place c h ≡ 0
       → k .given h c x ≡ 0 → Back k h c x (k .body h c x)

@@ -34,8 +34,8 @@ packedContent c b = pixelBytes (pixelsOfRun (packedReading nothing c b))
 
 -- ---- in writing
 -- "1, 2, 3 for the table .. packed under, then 11, 4"
-unfoldable pub packedGiven : Heading → Context → List ℕ → ℕ
-packedGiven h c x = tableNumber (tableFor c h) orElse tooMany (length (givenPixels x)) orElse tooHigh (givenPixels x)
+unfoldable pub packedGivenNumber : Heading → Context → List ℕ → ℕ
+packedGivenNumber h c x = tableNumber (tableFor c h) orElse tooMany (length (givenPixels x)) orElse tooHigh (givenPixels x)
 
 -- "for kind 2 it packs the pixels under the sheet's table"
 unfoldable pub packedBody : Heading → Context → List ℕ → List ℕ
@@ -57,7 +57,7 @@ packedKind = record {
   bits = packedBits;
   content = packedContent;
   each = 2;
-  given = packedGiven;
+  given = packedGivenNumber;
   body = packedBody;
   givenCount = λ x. length (givenPixels x);
   givenBits = packedTakes;

@@ -28,8 +28,8 @@ unfoldable pub plainContent : Context → List ℕ → List ℕ
 plainContent c b = rowContent b
 
 -- ---- in writing: "11, 4"
-unfoldable pub plainGiven : Heading → Context → List ℕ → ℕ
-plainGiven h c x = tooMany (length (givenPixels x)) orElse tooHigh (givenPixels x)
+unfoldable pub plainGivenNumber : Heading → Context → List ℕ → ℕ
+plainGivenNumber h c x = tooMany (length (givenPixels x)) orElse tooHigh (givenPixels x)
 
 unfoldable pub plainBody : Heading → Context → List ℕ → List ℕ
 plainBody h c x = rowBody h x (take (2 * length (givenPixels x)) x)
@@ -47,7 +47,7 @@ plainKind = record {
   bits = λ c b. 0;
   content = plainContent;
   each = 2;
-  given = plainGiven;
+  given = plainGivenNumber;
   body = plainBody;
   givenCount = λ x. length (givenPixels x);
   givenBits = λ h c x. 0;

@@ -20,12 +20,13 @@ pixelCount b = twoAt 2 b
 abbrev pub rowContent : List ℕ → List ℕ
 rowContent b = drop 4 b
 
--- "place (16)": a row comes after the table, and "Row numbers rise strictly"
+-- "place (16)": a row comes after the table, "Row numbers rise strictly", and none is above 65535, which two bytes hold: of a
+-- record that is read this is always so, in writing it is asked
 abbrev pub noTable : Context → ℕ
 noTable c = refuseIf (eqb (length (c .tables)) 0) 16
 
 unfoldable pub rowPlace : Context → Heading → ℕ
-rowPlace c h = noTable c orElse refuseIf (ltb (h .row) (c .least)) 16
+rowPlace c h = noTable c orElse refuseIf (ltb (h .row) (c .least)) 16 orElse refuseIf (ltb 65535 (h .row)) 16
 
 -- ---- in writing; an incomplete pixel at the end counts for nothing
 abbrev pub givenPixels : List ℕ → List ℕ

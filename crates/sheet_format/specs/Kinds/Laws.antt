@@ -34,7 +34,7 @@ unknown-lawful = record {
   own-in = λ P l m room c b. l .p0;
   given-in = λ P l h c x. l .p0;
   readable-back = λ e. e;
-  back = λ h c x small bytes writable given. absurd (omega arith);
+  back = λ h c x bytes writable place given. absurd (omega arith);
 }
 
 pub lawful : (code : ℕ) → Lawful (kindOf code)

@@ -10,7 +10,6 @@ use mathlib.Core.List.{List, [], _∷_, _++_, append-assoc, map}
 use lib.ListN.{length, take, drop, length-append, length-drop}
 use lib.Seq.{drop-append-seam, length-take-le}
 use lib.IntN.{ℤ, pos, negsuc}
-use lib.Signed.{mag}
 use borrow.Author.Tests.{lt-ltb, le-ltb, le-leb}
 use Rattle.bitstream.specs.Bits.{flat, bitsOf, bytesOf, wordsOf, Below}
 use Rattle.bitstream.specs.Bits.Laws.{below-head, below-tail, below-take, below-flat, length-flat, length-cut, flat-take, flat-cut}
@@ -36,10 +35,6 @@ pub signedOf-range : (w : ℕ) → w < 4294967296 → signed .inRange (signedOf 
 signedOf-range w h = signed-range (signedOf w) ∙ by-cases (decLt w 2147483648)
     (λ low. rw (low-word w low) (le-leb w 2147483647 (omega arith)))
     (λ high. rw (high-word w (omega arith)) (le-leb (4294967295 - w) 2147483647 (omega arith)))
-
-pub signedOf-wordOf : (v : ℤ) → mag v < 2147483648 → signedOf (wordOf v) ≡ v
-signedOf-wordOf (pos m) h = low-word m h
-signedOf-wordOf (negsuc m) h = high-word (4294967295 - m) (omega arith) ∙ ap negsuc (omega arith)
 
 pub map-wordOf-signedOf : (ws : List ℕ) → Below 4294967296 ws → map wordOf (map signedOf ws) ≡ ws
 map-wordOf-signedOf [] low = refl
@@ -97,22 +92,22 @@ pub record Numbers (n : ℕ) (s : List ℕ) (vs : List ℤ) (u : ℕ) : Type 0 w
   pub count : length vs ≡ n
   pub there : u ≤ length s
 
-abbrev pub Gives : ℕ → List ℕ → Line → Type 0
-Gives n s (numbers vs u) = Numbers n s vs u
-Gives n s (faulty e) = 0 < e
+abbrev pub GivesLine : ℕ → List ℕ → Line → Type 0
+GivesLine n s (numbers vs u) = Numbers n s vs u
+GivesLine n s (faulty e) = 0 < e
 
-prepend-gives : (n : ℕ) (s : List ℕ) (v : ℤ) (u : ℕ) (x : Line) → u ≤ length s → Gives n (drop u s) x
-    → Gives (suc n) s (prepend v u x)
+prepend-gives : (n : ℕ) (s : List ℕ) (v : ℤ) (u : ℕ) (x : Line) → u ≤ length s → GivesLine n (drop u s) x
+    → GivesLine (suc n) s (prepend v u x)
 prepend-gives n s v u (numbers vs w) h g =
     record { count = ap suc (g .count); there = omega (arith, g .there, length-drop u s) }
 prepend-gives n s v u (faulty e) h g = g
 
-pub readLine-gives : (n : ℕ) (s : List ℕ) → Gives n s (readLine n s)
+pub readLine-gives : (n : ℕ) (s : List ℕ) → GivesLine n s (readLine n s)
 unfolding readLine
 readLine-gives zero s = record { count = refl; there = omega arith }
 readLine-gives (suc n) s = by-reading (readAs signed s) refl (λ u. readLine-gives n (drop u s))
   where
-    by-reading : (x : Reading ℤ) → readAs signed s ≡ x → ((u : ℕ) → Gives n (drop u s) (readLine n (drop u s)))
-        → Gives (suc n) s (follow x (λ u. readLine n (drop u s)))
+    by-reading : (x : Reading ℤ) → readAs signed s ≡ x → ((u : ℕ) → GivesLine n (drop u s) (readLine n (drop u s)))
+        → GivesLine (suc n) s (follow x (λ u. readLine n (drop u s)))
     by-reading (accepted v u) e ih = prepend-gives n s v u (readLine n (drop u s)) (readAs-used signed s v u e .2) (ih u)
     by-reading (rejected e) q ih = readAs-rejected signed s e q

@@ -16,9 +16,9 @@ use Rattle.sheet_format.specs.Line.{wordOf, lineBytes, Line, numbers, fa
 
 -- ---- reading
 -- a line after the numbers vs, of u bytes
-abbrev pub after : List ℤ → ℕ → Line → Line
-after vs u (numbers ws w) = numbers (vs ++ ws) (u + w)
-after vs u (faulty e) = faulty e
+abbrev pub afterNumbers : List ℤ → ℕ → Line → Line
+afterNumbers vs u (numbers ws w) = numbers (vs ++ ws) (u + w)
+afterNumbers vs u (faulty e) = faulty e
 
 -- by the call that reads one number
 readLine-one : (n : ℕ) (s : List ℕ) (x : Reading ℤ) → readAs signed s ≡ x → signedAnswer x .number ≡ 0
@@ -43,21 +43,21 @@ pub readLine-fault : (n : ℕ) (s : List ℕ) → (signedRead s .number ≡ 0 �
 unfolding signedRead
 readLine-fault n s wrong = readLine-none n s (readAs signed s) refl wrong
 
-after-prepend : (vs : List ℤ) (u : ℕ) (v : ℤ) (w : ℕ) (x : Line)
-    → after vs u (prepend v w x) ≡ after (vs ++ (v ∷ [])) (u + w) x
-after-prepend vs u v w (numbers ws k) = ap₂ numbers (sym (append-assoc vs (v ∷ []) ws)) (sym (add-assoc u w k))
-after-prepend vs u v w (faulty e) = refl
+afterNumbers-prepend : (vs : List ℤ) (u : ℕ) (v : ℤ) (w : ℕ) (x : Line)
+    → afterNumbers vs u (prepend v w x) ≡ afterNumbers (vs ++ (v ∷ [])) (u + w) x
+afterNumbers-prepend vs u v w (numbers ws k) = ap₂ numbers (sym (append-assoc vs (v ∷ []) ws)) (sym (add-assoc u w k))
+afterNumbers-prepend vs u v w (faulty e) = refl
 
-after-nil : (x : Line) → after [] 0 x ≡ x
-after-nil (numbers ws w) = ap (numbers ws) (zero-add w)
-after-nil (faulty e) = refl
+afterNumbers-nil : (x : Line) → afterNumbers [] 0 x ≡ x
+afterNumbers-nil (numbers ws w) = ap (numbers ws) (zero-add w)
+afterNumbers-nil (faulty e) = refl
 
 -- n numbers of s are the numbers vs, which take u bytes, and then k more
 pub record LineSoFar (n : ℕ) (s : List ℕ) (vs : List ℤ) (u k : ℕ) : Type 0 where
-  pub line : readLine n s ≡ after vs u (readLine k (drop u s))
+  pub line : readLine n s ≡ afterNumbers vs u (readLine k (drop u s))
 
 pub line-start : (n : ℕ) (s : List ℕ) → LineSoFar n s [] 0 n
-line-start n s = record { line = sym (after-nil (readLine n s)) }
+line-start n s = record { line = sym (afterNumbers-nil (readLine n s)) }
 
 module _ {n : ℕ} {s : List ℕ} {vs : List ℤ} {u : ℕ} where
   pub line-more : {k : ℕ} → LineSoFar n s vs u (suc k) → signedRead (drop u s) .number ≡ 0
@@ -67,14 +67,14 @@ module _ {n : ℕ} {s : List ℕ} {vs : List ℤ} {u : ℕ} where
       record {
         line =
             h .line
-            ∙ ap (after vs u) (readLine-suc k (drop u s) ok)
-            ∙ after-prepend vs u (a .value) (a .used) (readLine k (drop (a .used) (drop u s)))
-            ∙ ap (λ (l : List ℕ). after (vs ++ (a .value ∷ [])) (u + a .used) (readLine k l)) (drop-drop (a .used) u s);
+            ∙ ap (afterNumbers vs u) (readLine-suc k (drop u s) ok)
+            ∙ afterNumbers-prepend vs u (a .value) (a .used) (readLine k (drop (a .used) (drop u s)))
+            ∙ ap (λ (l : List ℕ). afterNumbers (vs ++ (a .value ∷ [])) (u + a .used) (readLine k l)) (drop-drop (a .used) u s);
       }
 
   pub line-fault : {k : ℕ} → LineSoFar n s vs u (suc k) → (signedRead (drop u s) .number ≡ 0 → ⊥)
       → readLine n s ≡ faulty (signedRead (drop u s) .number)
-  line-fault {k} h wrong = h .line ∙ ap (after vs u) (readLine-fault k (drop u s) wrong)
+  line-fault {k} h wrong = h .line ∙ ap (afterNumbers vs u) (readLine-fault k (drop u s) wrong)
 
   pub line-all : LineSoFar n s vs u 0 → readLine n s ≡ numbers vs u
   unfolding readLine
@@ -100,7 +100,3 @@ unfolding lineBytes
 lineBytes-append [] ws = refl
 lineBytes-append (v ∷ vs) ws =
     rw (lineBytes-append vs ws) (sym (append-assoc (shortest signed v) (lineBytes vs) (lineBytes ws)))
-
-pub lineBytes-more : (vs : List ℤ) (v : ℤ) → lineBytes (vs ++ (v ∷ [])) ≡ lineBytes vs ++ shortest signed v
-unfolding lineBytes
-lineBytes-more vs v = lineBytes-append vs (v ∷ []) ∙ ap (lineBytes vs ++_) (append-nil (shortest signed v))

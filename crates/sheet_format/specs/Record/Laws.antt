@@ -1,10 +1,9 @@
 -- The laws of a record's number: it is 0 exactly where each of its parts is. Assumes nothing.
-use Prim.Native.Nat.{ℕ, suc, _+_, _-_, _≤_, _<_}
+use Prim.Native.Nat.{ℕ, _+_, _-_, _≤_, _<_}
 use native.Mathlib.Decide.{decLt}
 use native.Mathlib.Omega.{arith}
-use mathlib.Core.Path.{_≡_, refl, ap, _∙_}
+use mathlib.Core.Path.{_≡_, ap, _∙_}
 use mathlib.Core.Logic.{by-cases}
-use mathlib.Core.Bool.{Bool, true, false}
 use mathlib.Core.List.{List}
 use lib.ListN.{length, take, drop}
 use lib.Dec.{ltb}
@@ -48,24 +47,6 @@ right-length r e =
       there = lessNumber-zero (length r) (4 + lengthField r) 13 (orElse-zero-right large past e2);
     }
 
--- fewer than four bytes for it, or more than the bytes left
-pub lengthNumber-short : (r : List ℕ) → length r < 4 → lengthNumber r ≡ 14
-unfolding lengthNumber
-lengthNumber-short r h = rw (lt-ltb (length r) 4 h)
-
-orElse-both : (e : ℕ) (b : Bool) → refuseIf b (suc e) orElse suc e ≡ suc e
-orElse-both e true = refl
-orElse-both e false = refl
-
-pub lengthNumber-past : (r : List ℕ) → length r < 4 + lengthField r → lengthNumber r ≡ 14
-unfolding lengthNumber
-lengthNumber-past r h =
-    rw (
-      lt-ltb (length r) (4 + lengthField r) h,
-      orElse-both 13 (ltb 32774 (lengthField r)),
-      orElse-both 13 (ltb (lengthField r) 2),
-    ) (orElse-both 13 (ltb (length r) 4))
-
 -- a length outside its limits is refused whatever follows
 pub lengthNumber-wrong : (r : List ℕ) → (2 ≤ lengthField r → 32774 < lengthField r) → lengthNumber r ≡ 14
 unfolding lengthNumber
@@ -86,19 +67,19 @@ bodyOf-whole r =
     drop-take 6 (4 + lengthField r) r ∙ ap (λ (k : ℕ). take k (drop 6 r)) same
 
 -- ---- the parts after the kind
-pub record Passed (k : Kind) (m : Lent) (c : Context) (b : List ℕ) : Type 0 where
+pub record ContentPassed (k : Kind) (m : Lent) (c : Context) (b : List ℕ) : Type 0 where
   pub fixed : k .fixed b ≡ 0
   pub place : k .place c (k .heading b) ≡ 0
   pub own : k .own m c b ≡ 0
 
 module _ (k : Kind) (m : Lent) (c : Context) (b : List ℕ) where
-  pub contentNumber-passed : Passed k m c b → contentNumber k m c b ≡ 0
+  pub contentNumber-passed : ContentPassed k m c b → contentNumber k m c b ≡ 0
   unfolding contentNumber
   contentNumber-passed p = rw (p .fixed, p .place, p .own)
 
-  pub passed : contentNumber k m c b ≡ 0 → Passed k m c b
+  pub content-passed : contentNumber k m c b ≡ 0 → ContentPassed k m c b
   unfolding contentNumber
-  passed e =
+  content-passed e =
       let place = k .place c (k .heading b) in
       let own = k .own m c b in
       let rest = orElse-zero-right (k .fixed b) (place orElse own) e in
@@ -109,12 +90,12 @@ module _ (k : Kind) (m : Lent) (c : Context) (b : List ℕ) where
       }
 
 -- ---- the whole record
-pub record Read (m : Lent) (c : Context) (r : List ℕ) : Type 0 where
+pub record RecordAccepted (m : Lent) (c : Context) (r : List ℕ) : Type 0 where
   pub size : RightLength r
   pub readable : kindOf (kindField r) .readable ≡ 0
-  pub parts : Passed (kindOf (kindField r)) m c (bodyOf r)
+  pub parts : ContentPassed (kindOf (kindField r)) m c (bodyOf r)
 
-pub recordNumber-read : (m : Lent) (c : Context) (r : List ℕ) → recordNumber m c r ≡ 0 → Read m c r
+pub recordNumber-read : (m : Lent) (c : Context) (r : List ℕ) → recordNumber m c r ≡ 0 → RecordAccepted m c r
 unfolding recordNumber
 recordNumber-read m c r e =
     let k = kindOf (kindField r) in
@@ -122,10 +103,10 @@ recordNumber-read m c r e =
     record {
       size = right-length r (orElse-zero-left (lengthNumber r) _ e);
       readable = orElse-zero-left (k .readable) _ rest;
-      parts = passed k m c (bodyOf r) (orElse-zero-right (k .readable) _ rest);
+      parts = content-passed k m c (bodyOf r) (orElse-zero-right (k .readable) _ rest);
     }
 
-pub read-recordNumber : (m : Lent) (c : Context) (r : List ℕ) → Read m c r → recordNumber m c r ≡ 0
+pub read-recordNumber : (m : Lent) (c : Context) (r : List ℕ) → RecordAccepted m c r → recordNumber m c r ≡ 0
 unfolding recordNumber
 read-recordNumber m c r h =
     rw (lengthNumber-right r (h .size), h .readable)

@@ -11,7 +11,7 @@ use borrow.Author.Tests.{le-ltb, lt-ltb}
 use Rattle.bitstream.specs.Bits.{numberOf}
 use Rattle.row_format.specs.Lists.Laws.{field-take}
 use Rattle.answer.specs.Outcome.{outcome, Lent, nothing, lent}
-use Rattle.sheet_format.specs.Context.{Context, stateOf}
+use Rattle.sheet_format.specs.Context.{Context}
 use Rattle.sheet_format.specs.Record.{lengthField, kindField, bodyOf, lengthNumber, recordNumber, recordSpan}
 use Rattle.sheet_format.specs.Record.Laws.{RightLength, right-length, lengthNumber-right, lengthNumber-wrong}
 use Rattle.sheet_format.specs.Reading.{recordHeld, recordContent, contextAfter, refusedRecord, recordJudged, recordRead}
@@ -89,11 +89,11 @@ pub data Same (r s : List ℕ) : Type 0 where
   unfit : lengthNumber r ≡ 14 → lengthNumber s ≡ 14 → Same r s
 
 module _ (c : Context) where
-  refused-read : (s m : List ℕ) → lengthNumber s ≡ 14 → recordRead c s m ≡ outcome (refusedRecord (stateOf c) 14) m
+  refused-read : (s m : List ℕ) → lengthNumber s ≡ 14 → recordRead c s m ≡ outcome (refusedRecord 14) m
   unfolding recordRead recordNumber
   refused-read s m e = rw e
 
-  refused-judged : (s : List ℕ) → lengthNumber s ≡ 14 → recordJudged c s ≡ refusedRecord (stateOf c) 14
+  refused-judged : (s : List ℕ) → lengthNumber s ≡ 14 → recordJudged c s ≡ refusedRecord 14
   unfolding recordJudged recordNumber
   refused-judged s e = rw e
 

@@ -3,7 +3,7 @@
 use Prim.Native.Nat.{ℕ, _+_}
 use mathlib.Core.Path.{_≡_, refl}
 use mathlib.Core.Bool.{true}
-use mathlib.Core.List.{List, [], _∷_}
+use mathlib.Core.List.{List, _∷_}
 use lib.ListN.{length}
 use lib.Dec.{ltb, eqb}
 use Rattle.answer.specs.Outcome.{refuseIf, Lent, nothing, lent, roomNumber}
@@ -11,7 +11,7 @@ use Rattle.answer.specs.Outcome.Laws.{refuseIf-in, orElse-in}
 use Rattle.row_format.specs.Lists.{any}
 use Rattle.row_format.specs.Lists.Laws.{by-test}
 use Rattle.sheet_format.specs.Context.{Heading, Context}
-use Rattle.sheet_format.specs.Kind.Lawful.{Listed, ListedPlace, ListedGiven, listed-in}
+use Rattle.sheet_format.specs.Kind.Lawful.{ListedBody, ListedPlace, ListedGiven, listed-in}
 use Rattle.sheet_format.specs.Kinds.{kindOf}
 use Rattle.sheet_format.specs.Kinds.Laws.{lawful}
 use Rattle.sheet_format.specs.Record.{lengthField, kindField, bodyOf, lengthNumber, contentNumber, recordNumber}
@@ -29,7 +29,7 @@ module _ (P : ℕ → Type 0) where
       (orElse-in P (refuseIf (ltb 32774 (lengthField r)) 14) _ (refuseIf-in P (ltb 32774 (lengthField r)) 14 p0 p14)
       (refuseIf-in P (ltb (length r) (4 + lengthField r)) 14 p0 p14)))
 
-  recordNumber-in : Listed P → ListedPlace P → (m : Lent) → ((n : ℕ) → P (roomNumber m n)) → (c : Context) (r : List ℕ)
+  recordNumber-in : ListedBody P → ListedPlace P → (m : Lent) → ((n : ℕ) → P (roomNumber m n)) → (c : Context) (r : List ℕ)
       → P (recordNumber m c r)
   unfolding recordNumber contentNumber
   recordNumber-in l place m room c r =
@@ -54,10 +54,10 @@ module _ (P : ℕ → Type 0) where
       (refuseIf-in P (ltb roomBytes (length (recordFor code h c x))) 5 (l .p0) p5)))
 
 -- ---- the calls' own: that a number is among those listed is computed
-abbrev Among : List ℕ → ℕ → Type 0
-Among ns e = any (eqb e) ns ≡ true
+abbrev AmongNumbers : List ℕ → ℕ → Type 0
+AmongNumbers ns e = any (eqb e) ns ≡ true
 
-judged-listed : Listed (Among judgedNumbers)
+judged-listed : ListedBody (AmongNumbers judgedNumbers)
 unfolding any
 judged-listed = record {
   p0 = refl;
@@ -77,29 +77,30 @@ judged-listed = record {
   p15 = refl;
 }
 
-among-later : (n : ℕ) (ns : List ℕ) (e : ℕ) → Among ns e → Among (n ∷ ns) e
+among-later : (n : ℕ) (ns : List ℕ) (e : ℕ) → AmongNumbers ns e → AmongNumbers (n ∷ ns) e
 unfolding any
 among-later n ns e h = by-test (eqb e n) (λ t. rw t) (λ t. rw t h)
 
-pub recordJudged-numbers : (c : Context) (r : List ℕ) → Among judgedNumbers (recordJudged c r .number)
+pub recordJudged-numbers : (c : Context) (r : List ℕ) → AmongNumbers judgedNumbers (recordJudged c r .number)
 unfolding any
 recordJudged-numbers c r =
-    rw (recordJudged-number c r) (recordNumber-in (Among judgedNumbers) judged-listed (record { p0 = refl; p16 = refl }) nothing (λ n. refl) c r)
+    let place : ListedPlace (AmongNumbers judgedNumbers) = record { p0 = refl; p16 = refl } in
+    rw (recordJudged-number c r) (recordNumber-in (AmongNumbers judgedNumbers) judged-listed place nothing (λ n. refl) c r)
 
 -- with memory lent it is 5, or what judging may answer
-pub recordRead-numbers : (c : Context) (r m : List ℕ) → Among (5 ∷ judgedNumbers) (recordRead c r m .answer .number)
+pub recordRead-numbers : (c : Context) (r m : List ℕ) → AmongNumbers (5 ∷ judgedNumbers) (recordRead c r m .answer .number)
 unfolding any
 recordRead-numbers c r m =
-    let P : ℕ → Type 0 = Among (5 ∷ judgedNumbers) in
-    let later : (e : ℕ) → Among judgedNumbers e → P e = among-later 5 judgedNumbers in
+    let P : ℕ → Type 0 = AmongNumbers (5 ∷ judgedNumbers) in
+    let later : (e : ℕ) → AmongNumbers judgedNumbers e → P e = among-later 5 judgedNumbers in
     rw (recordRead-number c r m)
     (recordNumber-in P (listed-in later judged-listed) (record { p0 = refl; p16 = refl }) (lent (length m))
     (λ n. refuseIf-in P (ltb (length m) n) 5 refl refl) c r)
 
 pub recordWritten-numbers : (code : ℕ) (h : Heading) (c : Context) (x m : List ℕ)
-    → Among writtenNumbers (recordWritten code h c x m .answer .number)
+    → AmongNumbers writtenNumbers (recordWritten code h c x m .answer .number)
 unfolding any
 recordWritten-numbers code h c x m =
-    let P : ℕ → Type 0 = Among writtenNumbers in
+    let P : ℕ → Type 0 = AmongNumbers writtenNumbers in
     let given : ListedGiven P = record { p0 = refl; p1 = refl; p2 = refl; p3 = refl; p4 = refl; p11 = refl; p15 = refl } in
     rw (recordWritten-number code h c x m) (writeNumber-in P given (record { p0 = refl; p16 = refl }) refl code h c x (length m))

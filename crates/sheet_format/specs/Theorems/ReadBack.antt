@@ -1,14 +1,14 @@
 -- What is written is read back, whatever follows it. Assumes nothing.
-use Prim.Native.Nat.{ℕ, _+_, _*_, _≤_, _<_}
+use Prim.Native.Nat.{ℕ, _+_, _*_, _≤_}
 use native.Mathlib.Omega.{arith}
-use mathlib.Core.Path.{_≡_, refl, ap, _∙_}
+use mathlib.Core.Path.{_≡_, refl, _∙_}
 use mathlib.Core.List.{List, _++_}
 use lib.ListN.{length}
 use lib.Seq.{length-take-le}
 use Rattle.bitstream.specs.Bits.{Below}
 use Rattle.answer.specs.Outcome.{writes, Lent, nothing, lent, roomNumber}
 use Rattle.answer.specs.Outcome.Laws.{lessNumber-none}
-use Rattle.sheet_format.specs.Context.{Heading, Context, stateOf}
+use Rattle.sheet_format.specs.Context.{Heading, Context}
 use Rattle.sheet_format.specs.Kind.{Kind, afterRecord, contentGiven}
 use Rattle.sheet_format.specs.Kind.Lawful.{Back}
 use Rattle.sheet_format.specs.Kinds.{kindOf}
@@ -17,12 +17,12 @@ use Rattle.sheet_format.specs.Record.{recordNumber}
 use Rattle.sheet_format.specs.Record.Laws.{contentNumber-passed}
 use Rattle.sheet_format.specs.Reading.{recordHeld, recordContent, contextAfter, recordJudged, recordRead}
 use Rattle.sheet_format.specs.Reading.Laws.{recordContent-of, contextAfter-of}
-use Rattle.sheet_format.specs.Writing.{recordFor, recordDone, Writable}
-use Rattle.sheet_format.specs.Writing.Laws.{Fields, fields-recordBytes, length-recordBytes}
+use Rattle.sheet_format.specs.Writing.{recordFor, recordDone, RecordWritable}
+use Rattle.sheet_format.specs.Writing.Laws.{RecordParts, parts-recordBytes, length-recordBytes}
 use Rattle.sheet_format.specs.Given.{recordGiven}
 
-module _ (code : ℕ) (h : Heading) (c : Context) (x : List ℕ) (small : h .row < 65536) (bytes : Below 256 x)
-    (w : Writable code h c x) (rest : List ℕ) where
+module _ (code : ℕ) (h : Heading) (c : Context) (x : List ℕ) (bytes : Below 256 x) (w : RecordWritable code h c x)
+    (rest : List ℕ) where
   abbrev k : Kind
   k = kindOf code
 
@@ -30,13 +30,13 @@ module _ (code : ℕ) (h : Heading) (c : Context) (x : List ℕ) (small : h .row
   body = k .body h c x
 
   back : Back k h c x body
-  back = lawful code .back h c x small bytes (w .writable) (w .given)
+  back = lawful code .back h c x bytes (w .writable) (w .place) (w .given)
 
   readable : k .readable ≡ 0
   readable = lawful code .readable-back (w .writable)
 
-  found : Fields (recordFor code h c x ++ rest) code body
-  found = fields-recordBytes code body rest (omega (arith, readable-code code readable)) (back .short)
+  found : RecordParts (recordFor code h c x ++ rest) code body
+  found = parts-recordBytes code body rest (omega (arith, readable-code code readable)) (back .short)
 
   pub recordNumber-back : (m : Lent) → roomNumber m (k .each * k .givenCount x) ≡ 0
       → recordNumber m c (recordFor code h c x ++ rest) ≡ 0

@@ -12,7 +12,7 @@ use Rattle.sheet_format.specs.Kinds.Laws.{lawful}
 use Rattle.sheet_format.specs.Record.{bodyOf, kindField}
 use Rattle.sheet_format.specs.Reading.{contextAfter, recordHeld, recordJudged}
 use Rattle.sheet_format.specs.Reading.Laws.{judged-read, judged-held}
-use Rattle.sheet_format.specs.Sheet.{SheetRecord, StoredRow, rowOf, recordHolds, recordHere, withRow, storedRows, recordsFrom, sheetRead, rowNumbers}
+use Rattle.sheet_format.specs.Sheet.{StoredRow, rowOf, recordHolds, recordHere, withRow, storedRows, recordsFrom, sheetRead, rowNumbers}
 use Rattle.sheet_format.specs.Sheet.Laws.{recordsFrom-all}
 
 -- rows whose numbers rise strictly from low on

@@ -7,13 +7,13 @@ use mathlib.Core.List.{List}
 use lib.ListN.{length}
 use Rattle.answer.specs.Outcome.{_orElse_, unless, Lent, nothing, lent, roomNumber, writes, Within}
 use Rattle.answer.specs.Outcome.Laws.{lessNumber-zero, lessNumber-none, lessNumber-given, orElse-zero-left, orElse-zero-right, orElse-same, writes-within}
-use Rattle.sheet_format.specs.Context.{Context, stateOf}
+use Rattle.sheet_format.specs.Context.{Context}
 use Rattle.sheet_format.specs.Kind.{Kind}
 use Rattle.sheet_format.specs.Kind.Lawful.{Lawful}
 use Rattle.sheet_format.specs.Kinds.{kindOf}
 use Rattle.sheet_format.specs.Kinds.Laws.{lawful}
 use Rattle.sheet_format.specs.Record.{kindField, bodyOf, contentNumber, recordNumber}
-use Rattle.sheet_format.specs.Record.Laws.{lengthNumber-right, Passed, Read, recordNumber-read, read-recordNumber}
+use Rattle.sheet_format.specs.Record.Laws.{lengthNumber-right, ContentPassed, recordNumber-read, read-recordNumber}
 use Rattle.sheet_format.specs.Reading.{answerBytes, recordHeld, recordContent, refusedRecord, recordJudged, recordRead}
 use Rattle.sheet_format.specs.Reading.Laws.{judged-read, judged-held, recordRead-answer, recordRead-number, recordRead-done, recordRead-refuses}
 
@@ -59,11 +59,11 @@ pub recordRead-judged : (c : Context) (r m : List ℕ) → 16384 ≤ length m �
 unfolding recordJudged
 recordRead-judged c r m enough =
     recordRead-answer c r m
-    ∙ ap (λ (e : ℕ). unless e (refusedRecord (stateOf c)) (recordHeld c r)) (recordNumber-enough (length m) enough c r)
+    ∙ ap (λ (e : ℕ). unless e refusedRecord (recordHeld c r)) (recordNumber-enough (length m) enough c r)
 
 -- ---- of a record that judging accepts
 module _ (c : Context) (r m : List ℕ) (ok : recordJudged c r .number ≡ 0) where
-  parts : Passed (kindOf (kindField r)) nothing c (bodyOf r)
+  parts : ContentPassed (kindOf (kindField r)) nothing c (bodyOf r)
   parts = judged-read c r ok .parts
 
   need : answerBytes (recordJudged c r) ≡ kindOf (kindField r) .each * kindOf (kindField r) .count (bodyOf r)

@@ -11,7 +11,7 @@ use Rattle.sheet_format.specs.declared.RecordWritten.{RecordWritten}
 use Rattle.sheet_format.specs.Context.{Context, newSheet}
 use Rattle.sheet_format.specs.Kinds.{kindOf}
 use Rattle.sheet_format.specs.Reading.{contextAfter, recordContent, recordJudged}
-use Rattle.sheet_format.specs.Writing.{writeNumber, recordFor, recordDone, Writable}
+use Rattle.sheet_format.specs.Writing.{writeNumber, recordFor, recordDone, RecordWritable}
 use Rattle.sheet_format.specs.Writing.Laws.{length-recordBytes, writable, recordWritten-number, recordWritten-done, recordWritten-front}
 use Rattle.sheet_format.specs.Sheet.{SheetRead, putFirst, recordHere, restNext, records, sheetRead}
 use Rattle.sheet_format.specs.Sheet.Laws.{records-end, records-more}
@@ -42,7 +42,7 @@ module _ (c : Context) (w : Write) (d : Done c w) where
   number : writeNumber (w .kind) (w .heading) c (w .content) (length (w .memory)) ≡ 0
   number = sym (recordWritten-number (w .kind) (w .heading) c (w .content) (w .memory)) ∙ d .done
 
-  can : Writable (w .kind) (w .heading) c (w .content)
+  can : RecordWritable (w .kind) (w .heading) c (w .content)
   can = writable (w .kind) (w .heading) c (w .content) (length (w .memory)) number
 
   bytes-written : bytesWritten c w ≡ whole c w
@@ -56,19 +56,19 @@ module _ (c : Context) (w : Write) (d : Done c w) where
   module _ (rest : List ℕ) where
     back : recordJudged c (whole c w ++ rest) ≡ recordGiven (w .kind) (w .heading) c (w .content) (writtenBy c w .answer)
     back =
-        recordJudged-back (w .kind) (w .heading) c (w .content) (d .small) (d .bytes) can rest
+        recordJudged-back (w .kind) (w .heading) c (w .content) (d .bytes) can rest
         ∙ ap (recordGiven (w .kind) (w .heading) c (w .content)) (sym answered)
 
     size : writtenBy c w .answer .count ≡ length (whole c w)
     size = ap (λ (a : RecordWritten). a .count) answered
 
     next : contextAfter c (whole c w ++ rest) ≡ contextWritten c w
-    next = contextAfter-back (w .kind) (w .heading) c (w .content) (d .small) (d .bytes) can rest
+    next = contextAfter-back (w .kind) (w .heading) c (w .content) (d .bytes) can rest
 
     written-first : records c (whole c w ++ rest) ≡ putFirst (givenBy c w) (records (contextWritten c w) rest)
     written-first =
         let r = whole c w ++ rest in
-        let content = recordContent-back (w .kind) (w .heading) c (w .content) (d .small) (d .bytes) can rest in
+        let content = recordContent-back (w .kind) (w .heading) c (w .content) (d .bytes) can rest in
         records-accepted c r (whole-some c w rest) (ap (λ (a : RecordRead). a .number) back)
         ∙ ap (fromHere r (recordContent c r) (contextAfter c r)) back
         ∙ rw (content, next, bytes-written, size, take-append-seam (whole c w) rest, drop-append-seam (whole c w) rest)

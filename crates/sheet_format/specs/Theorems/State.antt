@@ -1,12 +1,11 @@
 -- What a caller keeps, a state of two numbers and the bytes of the table, is enough: it says what the sheet holds after an
 -- accepted or written record. Assumes nothing.
-use Prim.Native.Nat.{ℕ, zero, suc}
-use native.Mathlib.Omega.{arith}
+use Prim.Native.Nat.{ℕ}
 use mathlib.Core.Path.{_≡_, refl, sym, ap, _∙_}
 use mathlib.Core.List.{List}
 use Rattle.sheet_format.specs.declared.SheetState.{SheetState}
-use Rattle.sheet_format.specs.Context.{Heading, Context, stateOf, contextOf}
-use Rattle.sheet_format.specs.Context.Laws.{tables-contextOf, stateOf-contextOf}
+use Rattle.sheet_format.specs.Context.{Heading, stateOf, contextOf}
+use Rattle.sheet_format.specs.Context.Laws.{tables-contextOf}
 use Rattle.sheet_format.specs.Kind.{Payload, aTable, aRow, aLine, noPayload, Kind, afterRecord, tableKept}
 use Rattle.sheet_format.specs.Kind.Lawful.{Lawful}
 use Rattle.sheet_format.specs.Kinds.{kindOf}
@@ -16,7 +15,7 @@ use Rattle.sheet_format.specs.Reading.{contextAfter, recordJudged}
 use Rattle.sheet_format.specs.Reading.Laws.{contextAfter-of, judged-read, judged-state}
 
 -- a table comes where none is counted
-afterRecord-kept : (s : Payload) (h : Heading) (b tb : List ℕ) (st : SheetState) → (s ≡ aTable → st .tables ≡ 0)
+afterRecord-kept : (s : Payload) (h : Heading) (b tb : List ℕ) (st : SheetState) → (s ≡ aTable → st .«has_table» ≡ 0)
     → afterRecord s h b (contextOf tb st) ≡ contextOf (tableKept s tb b) (stateOf (afterRecord s h b (contextOf tb st)))
 afterRecord-kept aTable h b tb st first = rw (first refl)
 afterRecord-kept aRow h b tb st first = rw (tables-contextOf tb st)

@@ -1,7 +1,7 @@
 -- Every row of a sheet stands under its number with the heights that reading its record gives. Assumes nothing.
-use Prim.Native.Nat.{ℕ, zero, suc, _≤_, _<_}
+use Prim.Native.Nat.{ℕ, zero, suc, _≤_}
 use native.Mathlib.Omega.{arith}
-use mathlib.Core.Path.{_≡_, refl, sym, ap, _∙_, subst}
+use mathlib.Core.Path.{_≡_, refl, sym, ap}
 use mathlib.Core.Logic.{⊎-elim}
 use mathlib.Core.List.{List, [], _∷_, List·Memᴰ, List·Memᴰ·head, List·Memᴰ·tail, List·Memᴰ·not-nil, List·Memᴰ·cases-cons}
 use lib.ListN.{length}
@@ -12,7 +12,7 @@ use Rattle.bitstream.specs.Bits.{halvesOf}
 use Rattle.sheet_format.specs.Context.{Context, newSheet}
 use Rattle.sheet_format.specs.Kind.{Payload, aTable, aRow, aLine, noPayload}
 use Rattle.sheet_format.specs.Reading.{answerBytes, contextAfter, recordJudged, recordRead}
-use Rattle.sheet_format.specs.Sheet.{SheetRecord, Reaches, there, onward, ReadFrom, recordHere, restNext, recordHolds, recordsFrom, sheetRead, StoredRow, rowOf, withRow, storedRows, numbersHeld, withLine, storedLines, absent, present, heightsOf}
+use Rattle.sheet_format.specs.Sheet.{SheetRecord, there, onward, ReadFrom, recordHere, restNext, recordHolds, recordsFrom, sheetRead, StoredRow, rowOf, withRow, storedRows, numbersHeld, withLine, storedLines, absent, present, heightsOf}
 use Rattle.sheet_format.specs.Sheet.Laws.{fromRecord-cases}
 use Rattle.sheet_format.specs.Theorems.Rising.{Rising, sheetRead-rows}
 use Rattle.sheet_format.specs.Theorems.Room.{recordRead-granted}

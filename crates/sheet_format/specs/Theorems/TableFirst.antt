@@ -102,12 +102,12 @@ recordsFrom-placed =
     recordsFrom-all Placed (λ c e. (λ has. tt, λ none. tt))
     (λ c r rest ok h. (
       λ has. (other-kind c r ok has, h .0 (kept c r ok has)),
-      λ none. (judged-kind c r ok ∙ first-kind c r ok none, h .0 (begun c r ok none)),
+      λ none. (judged-kind c r ok ∙ first-kind c r ok none, h .0 (has-table c r ok none)),
     ))
   where
-    begun : (c : Context) (r : List ℕ) → recordJudged c r .number ≡ 0 → length (c .tables) ≡ 0
+    has-table : (c : Context) (r : List ℕ) → recordJudged c r .number ≡ 0 → length (c .tables) ≡ 0
         → length (contextAfter c r .tables) ≡ 0 → ⊥
-    begun c r ok none e =
+    has-table c r ok none e =
         let one = first-kind c r ok none in
         let tables : length (contextAfter c r .tables) ≡ length (c .tables ++ (bodyOf r ∷ [])) =
         ap (λ (d : Context). length (d .tables)) (contextAfter-of c r one refl) in

@@ -14,12 +14,12 @@ use Rattle.sheet_format.specs.Kind.{contentGiven}
 use Rattle.sheet_format.specs.Kinds.{kindOf}
 use Rattle.sheet_format.specs.Reading.{recordJudged, recordRead}
 use Rattle.sheet_format.specs.Reading.Laws.{judged-length}
-use Rattle.sheet_format.specs.Writing.{writeNumber, recordDone, recordFor, recordWritten, Writable}
+use Rattle.sheet_format.specs.Writing.{writeNumber, recordDone, recordFor, recordWritten, RecordWritable}
 use Rattle.sheet_format.specs.Writing.Laws.{recordWritten-number, recordWritten-done, recordWritten-front, recordBytes-table, writable, writeNumber-writable}
 use Rattle.sheet_format.specs.Given.{recordGiven}
 use Rattle.sheet_format.specs.Theorems.ReadBack.{recordRead-back, recordJudged-back}
 
-module _ (code : ℕ) (h : Heading) (c : Context) (x m : List ℕ) (small : h .row < 65536) (bytes : Below 256 x)
+module _ (code : ℕ) (h : Heading) (c : Context) (x m : List ℕ) (bytes : Below 256 x)
     (done : recordWritten code h c x m .answer .number ≡ 0) where
   abbrev written : Outcome RecordWritten
   written = recordWritten code h c x m
@@ -30,7 +30,7 @@ module _ (code : ℕ) (h : Heading) (c : Context) (x m : List ℕ) (small : h .r
   number : writeNumber code h c x (length m) ≡ 0
   number = sym (recordWritten-number code h c x m) ∙ done
 
-  can : Writable code h c x
+  can : RecordWritable code h c x
   can = writable code h c x (length m) number
 
   whole : front ≡ recordFor code h c x
@@ -41,10 +41,10 @@ module _ (code : ℕ) (h : Heading) (c : Context) (x m : List ℕ) (small : h .r
 
   pub read-written : (rest m′ : List ℕ) → length (contentGiven (kindOf code) x) ≤ length m′
       → recordRead c (front ++ rest) m′ ≡ writes (recordGiven code h c x (written .answer)) (contentGiven (kindOf code) x) m′
-  read-written rest m′ room = rw (whole, answered) (recordRead-back code h c x small bytes can rest m′ room)
+  read-written rest m′ room = rw (whole, answered) (recordRead-back code h c x bytes can rest m′ room)
 
   pub judged-written : (rest : List ℕ) → recordJudged c (front ++ rest) ≡ recordGiven code h c x (written .answer)
-  judged-written rest = rw (whole, answered) (recordJudged-back code h c x small bytes can rest)
+  judged-written rest = rw (whole, answered) (recordJudged-back code h c x bytes can rest)
 
   pub table-written : code ≡ 1 → drop 6 front ≡ x
   table-written one = rw whole (recordBytes-table code h c x one)
@@ -57,7 +57,7 @@ module _ (code : ℕ) (h : Heading) (c : Context) (x m : List ℕ) (small : h .r
       omega (arith, within .0, within .1)
 
 -- ---- room
-module _ (code : ℕ) (h : Heading) (c : Context) (x m : List ℕ) (ok : Writable code h c x) where
+module _ (code : ℕ) (h : Heading) (c : Context) (x m : List ℕ) (ok : RecordWritable code h c x) where
   pub granted-written : length (recordFor code h c x) ≤ length m → recordWritten code h c x m .answer .number ≡ 0
   granted-written room =
       recordWritten-number code h c x m

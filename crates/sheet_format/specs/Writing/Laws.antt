@@ -10,12 +10,12 @@ use borrow.Author.Tests.{le-ltb}
 use Rattle.answer.specs.Outcome.{Outcome, outcome, writes, refuseIf}
 use Rattle.answer.specs.Outcome.Laws.{lessNumber-zero, orElse-zero-left, orElse-zero-right, unless-number}
 use Rattle.sheet_format.specs.declared.RecordWritten.{RecordWritten}
-use Rattle.sheet_format.specs.Context.{Heading, Context, stateOf}
+use Rattle.sheet_format.specs.Context.{Heading, Context}
 use Rattle.sheet_format.specs.Fields.{twoBytes, fourBytes}
 use Rattle.sheet_format.specs.Fields.Laws.{numberOf-twoBytes, numberOf-fourBytes, length-twoBytes, length-fourBytes, take-twoBytes, drop-twoBytes}
 use Rattle.sheet_format.specs.Kinds.{kindOf}
 use Rattle.sheet_format.specs.Record.{lengthField, kindField, bodyOf, lengthNumber}
-use Rattle.sheet_format.specs.Writing.{recordBytes, recordFor, writeNumber, Writable, notWritten, recordDone, recordWritten}
+use Rattle.sheet_format.specs.Writing.{recordBytes, recordFor, writeNumber, RecordWritable, notWritten, recordDone, recordWritten}
 
 pub length-recordBytes : (code : ℕ) (b : List ℕ) → length (recordBytes code b) ≡ 6 + length b
 unfolding recordBytes
@@ -24,7 +24,7 @@ length-recordBytes code b =
     ∙ rw (length-append (twoBytes code) b, length-fourBytes (2 + length b), length-twoBytes code) (omega arith)
 
 -- what the fields of the bytes r are
-pub record Fields (r : List ℕ) (code : ℕ) (b : List ℕ) : Type 0 where
+pub record RecordParts (r : List ℕ) (code : ℕ) (b : List ℕ) : Type 0 where
   pub size : lengthField r ≡ 2 + length b
   pub kind : kindField r ≡ code
   pub body : bodyOf r ≡ b
@@ -72,8 +72,8 @@ module _ (code : ℕ) (b rest : List ℕ) (small : code < 65536) (short : length
         le-ltb (6 + length b + length rest) (4 + (2 + length b)) (omega arith),
       )
 
-  pub fields-recordBytes : Fields (recordBytes code b ++ rest) code b
-  fields-recordBytes = record {
+  pub parts-recordBytes : RecordParts (recordBytes code b ++ rest) code b
+  parts-recordBytes = record {
     size = lengthField-recordBytes;
     kind = kindField-recordBytes;
     body = bodyOf-recordBytes;
@@ -91,7 +91,7 @@ recordBytes-table code h c x one =
 
 -- ---- what a done write passed
 module _ (code : ℕ) (h : Heading) (c : Context) (x : List ℕ) where
-  pub writable : (room : ℕ) → writeNumber code h c x room ≡ 0 → Writable code h c x
+  pub writable : (room : ℕ) → writeNumber code h c x room ≡ 0 → RecordWritable code h c x
   unfolding writeNumber
   writable room e =
       let k = kindOf code in
@@ -104,7 +104,7 @@ module _ (code : ℕ) (h : Heading) (c : Context) (x : List ℕ) where
       }
 
   -- then only room is left to ask for
-  pub writeNumber-writable : (room : ℕ) → Writable code h c x
+  pub writeNumber-writable : (room : ℕ) → RecordWritable code h c x
       → writeNumber code h c x room ≡ refuseIf (ltb room (length (recordFor code h c x))) 5
   unfolding writeNumber
   writeNumber-writable room w = rw (w .writable, w .place, w .given)
@@ -118,7 +118,7 @@ module _ (code : ℕ) (h : Heading) (c : Context) (x : List ℕ) where
     pub recordWritten-number : recordWritten code h c x m .answer .number ≡ writeNumber code h c x (length m)
     unfolding recordWritten
     recordWritten-number =
-        unless-number (λ (o : Outcome RecordWritten). o .answer .number) (λ e. outcome (notWritten (stateOf c) e) m)
+        unless-number (λ (o : Outcome RecordWritten). o .answer .number) (λ e. outcome (notWritten e) m)
         (writes (recordDone code h c x) (recordFor code h c x) m) (λ k. refl) (writeNumber code h c x (length m)) refl
 
     pub recordWritten-done : writeNumber code h c x (length m) ≡ 0
@@ -127,7 +127,7 @@ module _ (code : ℕ) (h : Heading) (c : Context) (x : List ℕ) where
     recordWritten-done e = rw e
 
     pub recordWritten-refused : (e : ℕ) → writeNumber code h c x (length m) ≡ suc e
-        → recordWritten code h c x m ≡ outcome (notWritten (stateOf c) (suc e)) m
+        → recordWritten code h c x m ≡ outcome (notWritten (suc e)) m
     unfolding recordWritten
     recordWritten-refused e h = rw h
 

@@ -17,10 +17,9 @@ use Rattle.bitstream.specs.Memory.Part.{partFrom, part-is}
 use Rattle.adaptive.specs.declared.SignedRead.{SignedRead}
 use Rattle.adaptive.specs.Calls.{signedRead}
 use Rattle.adaptive.specs.Calls.Laws.{signedRead-used}
-use Rattle.sheet_format.specs.Line.{Line, numbers, wordOf, readLine}
+use Rattle.sheet_format.specs.Line.{numbers, wordOf, readLine}
 use Rattle.sheet_format.specs.Line.Steps.{LineSoFar, line-start, line-more, line-fault, line-all, bytesOf-more}
 use Rattle.sheet_format.specs.Kind.ContourLine.{faultNumber, numberBytes}
-use Rattle.sheet_reader.specs.declared.numbers.LineJudged.{LineJudged}
 use Rattle.sheet_reader.specs.Line.{lineJudged}
 
 -- i of n numbers of the bytes s are read, and the next is at a place

@@ -16,10 +16,9 @@ use Rattle.bitstream.specs.Memory.Part.{partFrom, part-is}
 use Rattle.answer.specs.declared.Answer.{Answer}
 use Rattle.answer.specs.Outcome.{Outcome, outcome, wrote, _orElse_, refuseIf, nothing, lent, roomNumber}
 use Rattle.answer.specs.Outcome.Laws.{lessNumber-zero, lessNumber-none, lessNumber-given, unequalNumber-none, unequalNumber-given, orElse-assoc, orElse-none, orElse-zero-right, orElse-same, given-first, given-next}
-use Rattle.row_format.specs.Table.{tableNumber}
 use Rattle.row_format.specs.Row.{Item, fresh, pixelsOf, pixelBytes, tooMany}
 use Rattle.row_format.specs.Row.Laws.{length-pixelsOf, tooMany-zero}
-use Rattle.row_format.specs.Reading.{Run, done, stop, runNumber, bitsOfRun, pixelsOfRun, firstNumber, rowReading}
+use Rattle.row_format.specs.Reading.{Run, done, stop, runNumber, bitsOfRun, firstNumber, rowReading}
 use Rattle.row_format.specs.Reading.Laws.{rowReading-room}
 use Rattle.row_format.specs.Calls.{rowOutcome, unpacked}
 use Rattle.row_format.specs.Calls.Laws.{rowOutcome-number}
@@ -27,22 +26,22 @@ use Rattle.row_format.specs.Theorems.Numbers.{StopIn, rowReading-stops}
 use Rattle.row_format.specs.Theorems.Done.{Gives, rowReading-gives, rowReading-reads}
 use Rattle.sheet_format.specs.declared.SheetState.{SheetState}
 use Rattle.sheet_format.specs.declared.RecordRead.{RecordRead}
-use Rattle.sheet_format.specs.Context.{Heading, Context, tableFor, stateOf, contextOf}
+use Rattle.sheet_format.specs.Context.{Context, tableFor, stateOf, contextOf}
 use Rattle.sheet_format.specs.Context.Laws.{stateOf-contextOf, tables-contextOf, tableFor-contextOf}
-use Rattle.sheet_format.specs.Fields.{shorterThan, notWords}
+use Rattle.sheet_format.specs.Fields.{shorterThan}
 use Rattle.sheet_format.specs.Kind.{aRow, afterRecord}
 use Rattle.sheet_format.specs.Kind.Row.{rowHeading, pixelCount, rowContent, rowPlace}
 use Rattle.sheet_format.specs.Kind.Row.Laws.{rowPlace-table}
 use Rattle.sheet_format.specs.Kind.PackedRow.{packedReading, packedLeftover, packedOwn, packedBits, packedContent, packedKind}
 use Rattle.sheet_format.specs.Kind.PackedRow.Laws.{packed-lawful}
 use Rattle.sheet_format.specs.Record.{contentNumber}
-use Rattle.sheet_format.specs.Record.Laws.{Passed, passed}
+use Rattle.sheet_format.specs.Record.Laws.{content-passed}
 use Rattle.sheet_format.specs.Reading.{refusedRecord}
 use Rattle.sheet_format.specs.Theorems.Room.{own-content}
 use Rattle.sheet_reader.specs.declared.row.RowFields.{RowFields}
 use Rattle.sheet_reader.specs.Leaves.{ContentLeaves}
 use Rattle.sheet_reader.specs.Leaves.Laws.{refuses, holds}
-use Rattle.sheet_reader.specs.Row.{Fields, FieldsOf}
+use Rattle.sheet_reader.specs.Row.{HasRowFields, RowFieldsOf}
 use Rattle.sheet_reader.specs.Packed.{bodyReading, RowHeld, RowRead}
 
 -- ---- room for more than 4096 pixels is as good as room for 4096
@@ -51,7 +50,8 @@ room-most room n few = by-cases (decLt room (2 * n))
     (λ less. lessNumber-given (min room 8192) (2 * n) 5 (omega arith) ∙ sym (lessNumber-given room (2 * n) 5 less))
     (λ enough. lessNumber-none (min room 8192) (2 * n) 5 (omega arith) ∙ sym (lessNumber-none room (2 * n) 5 (omega arith)))
 
-rowReading-most : (room : ℕ) (tb : List ℕ) (n : ℕ) (wb : List ℕ) → rowReading (lent (min room 8192)) tb n wb ≡ rowReading (lent room) tb n wb
+rowReading-most : (room : ℕ) (tb : List ℕ) (n : ℕ) (wb : List ℕ)
+    → rowReading (lent (min room 8192)) tb n wb ≡ rowReading (lent room) tb n wb
 unfolding rowReading firstNumber
 rowReading-most room tb n wb =
     let same : tooMany n orElse roomNumber (lent (min room 8192)) (2 * n) ≡ tooMany n orElse roomNumber (lent room) (2 * n) =
@@ -168,16 +168,15 @@ own-number : (c : Context) (room : ℕ) (tb b : List ℕ) → tableFor c (rowHea
 unfolding packedOwn packedLeftover packedReading
 own-number c room tb b table = rw table
 
-module _ (tb : List ℕ) {b : List ℕ} {st : SheetState} {room whole : ℕ} {m : List ℕ} {x : RecordRead} where
-  pub packed-not-words : (length b % 4 ≡ 0 → ⊥) → x ≡ refusedRecord st 14
-      → ContentLeaves packedKind room 2 whole (contextOf tb st) st b m x m
-  unfolding contentNumber
-  packed-not-words odd is = record {
-    leaves = refuses is (rw (unequalNumber-given (length b % 4) 0 14 odd) (sym (either (ltb (length b) 4) _))) (λ e. omega arith);
-  }
+pub packed-not-words : {c : Context} {b : List ℕ} {room whole : ℕ} {m : List ℕ} {x : RecordRead} → (length b % 4 ≡ 0 → ⊥)
+    → x ≡ refusedRecord 14 → ContentLeaves packedKind room 2 whole c b m x m
+unfolding contentNumber
+packed-not-words {b = b} odd is = record {
+  leaves = refuses is (rw (unequalNumber-given (length b % 4) 0 14 odd) (sym (either (ltb (length b) 4) _))) (λ e. omega arith);
+}
 
 -- the number after that of the fields and of the place
-module _ (tb : List ℕ) {b : List ℕ} {st : SheetState} {f : RowFields} (words : length b % 4 ≡ 0) (fields : FieldsOf b st f) where
+module _ (tb : List ℕ) {b : List ℕ} {st : SheetState} {f : RowFields} (words : length b % 4 ≡ 0) (fields : RowFieldsOf b st f) where
   packed-chain : (room : ℕ)
       → contentNumber packedKind (lent room) (contextOf tb st) b ≡ f .number orElse packedOwn (lent room) (contextOf tb st) b
   unfolding contentNumber
@@ -195,26 +194,26 @@ module _ (tb : List ℕ) {b : List ℕ} {st : SheetState} {f : RowFields} (words
       (λ none. rowPlace-table c (rowHeading b) (orElse-zero-right (shorterThan 4 b) _ both) (tables-contextOf tb st ∙ none))
 
   module _ {room whole : ℕ} {m : List ℕ} {x : RecordRead} where
-    pub packed-misplaced : x ≡ refusedRecord st (f .number) → (f .number ≡ 0 → ⊥)
-        → ContentLeaves packedKind room 2 whole (contextOf tb st) st b m x m
+    pub packed-misplaced : x ≡ refusedRecord (f .number) → (f .number ≡ 0 → ⊥)
+        → ContentLeaves packedKind room 2 whole (contextOf tb st) b m x m
     packed-misplaced is some =
         record { leaves = refuses is (given-first (f .number) _ refl some ∙ sym (packed-chain room)) some }
 
-    pub packed-refused : f .number ≡ 0 → {a : Answer} {out : List ℕ} → RowRead room tb b a out → x ≡ refusedRecord st (a .number)
-        → (a .number ≡ 0 → ⊥) → ContentLeaves packedKind room 2 whole (contextOf tb st) st b m x m
+    pub packed-refused : f .number ≡ 0 → {a : Answer} {out : List ℕ} → RowRead room tb b a out → x ≡ refusedRecord (a .number)
+        → (a .number ≡ 0 → ⊥) → ContentLeaves packedKind room 2 whole (contextOf tb st) b m x m
     packed-refused placed row is some =
         let own = row .number ∙ sym (own-number (contextOf tb st) room tb b (table-is placed)) in
         record { leaves = refuses is (given-next placed own ∙ sym (packed-chain room)) some }
 
 -- what is known of an accepted record with the body b, whose fields are f
 pub record PackedAccepted (tb b : List ℕ) (st : SheetState) (room : ℕ) (f : RowFields) (a : Answer) (out : List ℕ) : Type 0 where
-  pub fields : Fields b f
+  pub fields : HasRowFields b f
   pub row : RowHeld tb b (a .count) out
   pub table : tableFor (contextOf tb st) (rowHeading b) ≡ tb
   pub zero : contentNumber packedKind (lent room) (contextOf tb st) b ≡ 0
 
 module _ {tb b : List ℕ} {st : SheetState} {room : ℕ} {f : RowFields} {a : Answer} {out : List ℕ} where
-  pub packed-accepted : length b % 4 ≡ 0 → FieldsOf b st f → f .number ≡ 0 → RowRead room tb b a out → a .number ≡ 0
+  pub packed-accepted : length b % 4 ≡ 0 → RowFieldsOf b st f → f .number ≡ 0 → RowRead room tb b a out → a .number ≡ 0
       → PackedAccepted tb b st room f a out
   packed-accepted words fields placed row right =
       let table = table-is tb words fields placed in
@@ -229,7 +228,8 @@ module _ {tb b : List ℕ} {st : SheetState} {room : ℕ} {f : RowFields} {a : A
   module _ (ok : PackedAccepted tb b st room f a out) where
     content : (length (packedContent (contextOf tb st) b) ≡ 2 * pixelCount b) × (roomNumber (lent room) (2 * pixelCount b) ≡ 0)
     content =
-        own-content packed-lawful (contextOf tb st) b (lent room) (passed packedKind (lent room) (contextOf tb st) b (ok .zero) .own)
+        let c = contextOf tb st in
+        own-content packed-lawful c b (lent room) (content-passed packedKind (lent room) c b (ok .zero) .own)
 
     pub packed-few : f .count ≤ 4096
     packed-few = rw (ok .fields .count) (ok .row .few)
@@ -239,9 +239,10 @@ module _ {tb b : List ℕ} {st : SheetState} {room : ℕ} {f : RowFields} {a : A
 
     pub packed-held : {whole : ℕ} {m : List ℕ} {x : RecordRead} {m′ : List ℕ} {after : SheetState}
         → ((c : Context) (d : List ℕ) → stateOf c ≡ st → after ≡ stateOf (afterRecord aRow (record { row = f .row }) d c))
-        → x ≡ record { number = 0; kind = 2; row = f .row; count = f .count; bits = a .count; words = wordsFor (a .count); length = whole; state = after }
+        → (let n = a .count in
+        x ≡ record { number = 0; kind = 2; row = f .row; count = f .count; bits = n; words = wordsFor n; length = whole; state = after })
         → (room ≤ length m → m′ ≡ take (2 * f .count) out ++ drop (2 * f .count) m)
-        → ContentLeaves packedKind room 2 whole (contextOf tb st) st b m x m′
+        → ContentLeaves packedKind room 2 whole (contextOf tb st) b m x m′
     unfolding packedBits packedContent packedReading
     packed-held {m = m} {m′ = m′} after-is is kept =
         let c = contextOf tb st in

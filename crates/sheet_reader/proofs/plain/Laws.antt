@@ -23,13 +23,13 @@ use Rattle.sheet_format.specs.Kind.Row.{rowHeading, pixelCount, rowContent, row
 use Rattle.sheet_format.specs.Kind.PlainRow.{plainNumber, plainOwn, plainContent, plainKind}
 use Rattle.sheet_format.specs.Kind.PlainRow.Laws.{plain-lawful}
 use Rattle.sheet_format.specs.Record.{contentNumber}
-use Rattle.sheet_format.specs.Record.Laws.{passed}
+use Rattle.sheet_format.specs.Record.Laws.{content-passed}
 use Rattle.sheet_format.specs.Reading.{refusedRecord}
 use Rattle.sheet_format.specs.Theorems.Room.{own-content}
 use Rattle.sheet_reader.specs.declared.row.RowFields.{RowFields}
 use Rattle.sheet_reader.specs.Leaves.{ContentLeaves}
 use Rattle.sheet_reader.specs.Leaves.Laws.{refuses, holds}
-use Rattle.sheet_reader.specs.Row.{Fields, FieldsOf}
+use Rattle.sheet_reader.specs.Row.{HasRowFields, RowFieldsOf}
 
 -- ---- the number of the pixels, in any sheet
 module _ (b : List ℕ) (room : ℕ) {count : ℕ} (is : count ≡ pixelCount b) (c : Context) where
@@ -60,30 +60,32 @@ module _ (b : List ℕ) (room : ℕ) {count : ℕ} (is : count ≡ pixelCount b)
       pixels-right none h = past-size (rw (← none, le-ltb room (2 * count) h))
 
 -- ---- the record, in a sheet that holds c
-module _ {b : List ℕ} {st : SheetState} (room : ℕ) {f : RowFields} (fields : FieldsOf b st f) (c : Context) (shows : stateOf c ≡ st) where
+module _ {b : List ℕ} {st : SheetState} (room : ℕ) {f : RowFields} (fields : RowFieldsOf b st f) (c : Context)
+    (shows : stateOf c ≡ st) where
   plain-chain : contentNumber plainKind (lent room) c b ≡ f .number orElse plainOwn (lent room) c b
   unfolding contentNumber
   plain-chain =
       rw (fields .number c shows) (sym (orElse-assoc (shorterThan 4 b) (rowPlace c (rowHeading b)) _))
 
 module _ {b : List ℕ} {st : SheetState} {room whole : ℕ} {m : List ℕ} {x : RecordRead} {f : RowFields} {c : Context}
-    (fields : FieldsOf b st f) (shows : stateOf c ≡ st) where
-  pub plain-misplaced : x ≡ refusedRecord st (f .number) → (f .number ≡ 0 → ⊥) → ContentLeaves plainKind room 3 whole c st b m x m
+    (fields : RowFieldsOf b st f) (shows : stateOf c ≡ st) where
+  pub plain-misplaced : x ≡ refusedRecord (f .number) → (f .number ≡ 0 → ⊥) → ContentLeaves plainKind room 3 whole c b m x m
   plain-misplaced is some =
       record { leaves = refuses is (given-first (f .number) _ refl some ∙ sym (plain-chain room fields c shows)) some }
 
-  pub plain-refused : f .number ≡ 0 → {n : ℕ} → n ≡ plainOwn (lent room) c b → x ≡ refusedRecord st n → (n ≡ 0 → ⊥)
-      → ContentLeaves plainKind room 3 whole c st b m x m
+  pub plain-refused : f .number ≡ 0 → {n : ℕ} → n ≡ plainOwn (lent room) c b → x ≡ refusedRecord n → (n ≡ 0 → ⊥)
+      → ContentLeaves plainKind room 3 whole c b m x m
   plain-refused placed judged is some =
       record { leaves = refuses is (given-next placed judged ∙ sym (plain-chain room fields c shows)) some }
 
 -- what is known of an accepted record with the body b, whose fields are f
 pub record PlainAccepted (b : List ℕ) (c : Context) (room : ℕ) (f : RowFields) : Type 0 where
-  pub fields : Fields b f
+  pub fields : HasRowFields b f
   pub zero : contentNumber plainKind (lent room) c b ≡ 0
 
 module _ {b : List ℕ} {room : ℕ} {f : RowFields} {c : Context} where
-  pub plain-accepted : {st : SheetState} → FieldsOf b st f → stateOf c ≡ st → f .number ≡ 0 → {n : ℕ} → n ≡ plainOwn (lent room) c b → n ≡ 0
+  pub plain-accepted : {st : SheetState} → RowFieldsOf b st f → stateOf c ≡ st → f .number ≡ 0
+      → {n : ℕ} → n ≡ plainOwn (lent room) c b → n ≡ 0
       → PlainAccepted b c room f
   plain-accepted fields shows placed judged right =
       record {
@@ -93,7 +95,7 @@ module _ {b : List ℕ} {room : ℕ} {f : RowFields} {c : Context} where
 
   module _ (ok : PlainAccepted b c room f) where
     content : (length (plainContent c b) ≡ 2 * pixelCount b) × (roomNumber (lent room) (2 * pixelCount b) ≡ 0)
-    content = own-content plain-lawful c b (lent room) (passed plainKind (lent room) c b (ok .zero) .own)
+    content = own-content plain-lawful c b (lent room) (content-passed plainKind (lent room) c b (ok .zero) .own)
 
     pub plain-fits : 2 * f .count ≤ room
     plain-fits = rw (ok .fields .count) (lessNumber-zero room (2 * pixelCount b) 4 (content .1))
@@ -109,7 +111,7 @@ module _ {b : List ℕ} {room : ℕ} {f : RowFields} {c : Context} where
         → ((c : Context) (d : List ℕ) → stateOf c ≡ st → after ≡ stateOf (afterRecord aRow (record { row = f .row }) d c))
         → x ≡ record { number = 0; kind = 3; row = f .row; count = f .count; bits = 0; words = 0; length = whole; state = after }
         → (room ≤ length m → m′ ≡ take (2 * f .count) (partFrom 4 b) ++ drop (2 * f .count) m)
-        → ContentLeaves plainKind room 3 whole c st b m x m′
+        → ContentLeaves plainKind room 3 whole c b m x m′
     unfolding plainContent
     plain-held {st} shows {m = m} {m′ = m′} after-is is kept =
         let front : take (2 * f .count) (partFrom 4 b) ≡ rowContent b =

@@ -9,7 +9,7 @@ use Rattle.row_format.specs.Row.Laws.{tooMany-zero}
 use Rattle.sheet_format.specs.Context.{Heading, Context}
 use Rattle.sheet_format.specs.Line.{lineBytes}
 use Rattle.sheet_format.specs.Line.Laws.{length-lineBytes}
-use Rattle.sheet_format.specs.Kind.ContourLine.{givenNumbers, lineGiven, lineBody}
+use Rattle.sheet_format.specs.Kind.ContourLine.{givenNumbers, lineGivenNumber, lineBody}
 use Rattle.sheet_writer.specs.Fields.{lineFields}
 use Rattle.sheet_writer.specs.Fields.Laws.{length-lineFields, line-fields}
 use Rattle.sheet_writer.proofs.Frame.{Frame}
@@ -27,16 +27,16 @@ module _ (h : Heading) (c : Context) (x : List ℕ) where
   }
 
   -- ---- its numbers
-  pub line-many : 4096 < length x / 4 → 11 ≡ lineGiven h c x
-  unfolding lineGiven
+  pub line-many : 4096 < length x / 4 → 11 ≡ lineGivenNumber h c x
+  unfolding lineGivenNumber
   line-many many = rw (length-given x, lt-ltb 4096 (length x / 4) many)
 
-  pub line-right : length x / 4 ≤ 4096 → 0 ≡ lineGiven h c x
-  unfolding lineGiven
+  pub line-right : length x / 4 ≤ 4096 → 0 ≡ lineGivenNumber h c x
+  unfolding lineGivenNumber
   line-right few = rw (length-given x, le-ltb 4096 (length x / 4) few)
 
-  pub line-few : lineGiven h c x ≡ 0 → length x / 4 ≤ 4096
-  unfolding lineGiven
+  pub line-few : lineGivenNumber h c x ≡ 0 → length x / 4 ≤ 4096
+  unfolding lineGivenNumber
   line-few e = omega (arith, length-given x, tooMany-zero (length (givenNumbers x)) e)
 
 pub line-most : (x : List ℕ) → length x / 4 ≤ 4096 → length (lineBytes (givenNumbers x)) ≤ 20480

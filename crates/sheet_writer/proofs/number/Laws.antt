@@ -19,8 +19,8 @@ use Rattle.sheet_format.specs.Line.{signedOf}
 use Rattle.sheet_format.specs.Kind.ContourLine.{givenNumbers}
 
 -- ---- an i32 is held as its bits
-pub held : (v : ℤ) → mag v < 2147483648 → toZ w32 (ofZ w32 v) ≡ v
-held v small = toZ-ofZ (record { sfits = small })
+pub same-i32 : (v : ℤ) → mag v < 2147483648 → toZ w32 (ofZ w32 v) ≡ v
+same-i32 v small = toZ-ofZ (record { sfits = small })
 
 -- ---- the numbers given
 pub length-given : (x : List ℕ) → length (givenNumbers x) ≡ length x / 4
@@ -40,5 +40,5 @@ pub wrote-number : (v : ℤ) (m y : List ℕ) (r : Answer) → mag v < 214748364
     → length (shortest signed v) ≤ length m → Wrote v m r y
 unfolding signedWritten
 wrote-number v m y r small e fits =
-    let done = e ∙ ap (λ z. written (shortest signed z) m) (held v small) ∙ written-done (shortest signed v) m fits in
+    let done = e ∙ ap (λ z. written (shortest signed z) m) (same-i32 v small) ∙ written-done (shortest signed v) m fits in
     record { count = ap (λ x. x .answer .count) done; memory = ap (λ x. x .memory) done }

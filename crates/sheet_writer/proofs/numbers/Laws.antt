@@ -17,7 +17,7 @@ abbrev pub bytesAt : List ℤ → ℕ → List ℕ
 bytesAt vs i = shortest signed (getD vs i (pos 0))
 
 -- the first i of the numbers vs take so many bytes
-pub record Reached (vs : List ℤ) (bytes i : ℕ) : Type 0 where
+pub record NumbersReached (vs : List ℤ) (bytes i : ℕ) : Type 0 where
   pub within : i ≤ length vs
   pub sum : bytes ≡ length (lineBytes (take i vs))
 
@@ -28,8 +28,8 @@ module _ (vs : List ℤ) (i : ℕ) (h : i < length vs) where
       rw (add-one i, take-suc vs i (pos 0) h)
       (lineBytes-append (take i vs) (getD vs i (pos 0) ∷ []) ∙ rw (append-nil (bytesAt vs i)))
 
-  module _ (bytes : ℕ) (r : Reached vs bytes i) where
-    pub reached-more : (n : ℕ) → n ≡ length (bytesAt vs i) → Reached vs (bytes + n) (i + 1)
+  module _ (bytes : ℕ) (r : NumbersReached vs bytes i) where
+    pub reached-more : (n : ℕ) → n ≡ length (bytesAt vs i) → NumbersReached vs (bytes + n) (i + 1)
     reached-more n e = record {
       within = omega arith;
       sum = sym (rw lineBytes-next (length-append (lineBytes (take i vs)) (bytesAt vs i) ∙ omega (arith, r .sum)));
@@ -45,13 +45,13 @@ module _ (vs : List ℤ) (i : ℕ) (h : i < length vs) where
         omega (arith, whole, reached-more (length (bytesAt vs i)) refl .sum)
 
 module _ (vs : List ℤ) where
-  pub reached-none : Reached vs 0 0
+  pub reached-none : NumbersReached vs 0 0
   unfolding lineBytes
   reached-none = record { within = omega arith; sum = refl }
 
-  pub reached-most : (bytes i : ℕ) → Reached vs bytes i → bytes ≤ 5 * i
+  pub reached-most : (bytes i : ℕ) → NumbersReached vs bytes i → bytes ≤ 5 * i
   reached-most bytes i r =
       omega (arith, r .sum, length-lineBytes (take i vs), length-take-le i vs (r .within))
 
-  pub reached-all : (bytes i : ℕ) → Reached vs bytes i → length vs ≤ i → bytes ≡ length (lineBytes vs)
+  pub reached-all : (bytes i : ℕ) → NumbersReached vs bytes i → length vs ≤ i → bytes ≡ length (lineBytes vs)
   reached-all bytes i r g = r .sum ∙ ap (λ l. length (lineBytes l)) (take-all i vs g)

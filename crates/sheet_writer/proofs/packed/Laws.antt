@@ -31,7 +31,7 @@ use Rattle.sheet_format.specs.Context.Laws.{tables-contextOf, tableFor-contextO
 use Rattle.sheet_format.specs.Kind.{aRow, afterRecord}
 use Rattle.sheet_format.specs.Kind.Row.{rowPlace}
 use Rattle.sheet_format.specs.Kind.Row.Laws.{rowPlace-table}
-use Rattle.sheet_format.specs.Kind.PackedRow.{packedGiven, packedBody}
+use Rattle.sheet_format.specs.Kind.PackedRow.{packedGivenNumber, packedBody}
 use Rattle.sheet_format.specs.Writing.{writeNumber, notWritten, recordWritten}
 use Rattle.sheet_writer.specs.Fields.{rowFields}
 use Rattle.sheet_writer.specs.Fields.Laws.{length-rowFields, row-fields}
@@ -51,22 +51,22 @@ table-lent tb st h placed =
 
 -- ---- how the record stands
 -- the words of the content's pixels under the sheet's table
-abbrev packedWords : Heading → Context → List ℕ → List ℕ
-packedWords h c x = rowBytes (wordsOf (tableFor c h)) (halvesOf x)
+abbrev givenWords : Heading → Context → List ℕ → List ℕ
+givenWords h c x = rowBytes (wordsOf (tableFor c h)) (halvesOf x)
 
-abbrev packedBits : Heading → Context → List ℕ → ℕ
-packedBits h c x = length (rowBits (wordsOf (tableFor c h)) (halvesOf x))
+abbrev givenBits : Heading → Context → List ℕ → ℕ
+givenBits h c x = length (rowBits (wordsOf (tableFor c h)) (halvesOf x))
 
-length-packedWords : (h : Heading) (c : Context) (x : List ℕ) → length (packedWords h c x) ≡ 4 * wordsFor (packedBits h c x)
-length-packedWords h c x = length-cut 8 (4 * wordsFor (packedBits h c x)) (rowBits (wordsOf (tableFor c h)) (halvesOf x))
+length-givenWords : (h : Heading) (c : Context) (x : List ℕ) → length (givenWords h c x) ≡ 4 * wordsFor (givenBits h c x)
+length-givenWords h c x = length-cut 8 (4 * wordsFor (givenBits h c x)) (rowBits (wordsOf (tableFor c h)) (halvesOf x))
 
 pub packed-frame : (h : Heading) (c : Context) (x : List ℕ)
-    → Frame 2 h c x (rowFields 2 (h .row) (length x / 2) (10 + length (packedWords h c x))) (packedWords h c x) 10
+    → Frame 2 h c x (rowFields 2 (h .row) (length x / 2) (10 + length (givenWords h c x))) (givenWords h c x) 10
 unfolding packedBody
 packed-frame h c x = record {
   known = refl;
-  bytes = rw (length-halves x) (row-fields 2 (h .row) (length x / 2) (packedWords h c x));
-  fields = length-rowFields 2 (h .row) (length x / 2) (10 + length (packedWords h c x));
+  bytes = rw (length-halves x) (row-fields 2 (h .row) (length x / 2) (givenWords h c x));
+  fields = length-rowFields 2 (h .row) (length x / 2) (10 + length (givenWords h c x));
 }
 
 -- ---- room for w words behind the fields is room for the record
@@ -92,23 +92,23 @@ module _ {h : Heading} {c : Context} {x m : List ℕ} {start : ℕ} {r : Answer}
   -- the number is packing's, and then 5 where the fields have no room
   write-number : writeNumber 2 h c x (length m)
       ≡ packNumber (tableFor c h) (halvesOf x) (length (partFrom start m) / 4) orElse refuseIf (ltb start 10) 5
-  unfolding packedGiven packNumber
+  unfolding packedGivenNumber packNumber
   write-number =
-      let room = room-alike (length m) (wordsFor (packedBits h c x)) start (ran .place) in
+      let room = room-alike (length m) (wordsFor (givenBits h c x)) start (ran .place) in
       frame-number (packed-frame h c x) (length m)
-      ∙ rw (ran .placed, length-packedWords h c x, room, length-part) (simp orElse-assoc)
+      ∙ rw (ran .placed, length-givenWords h c x, room, length-part) (simp orElse-assoc)
 
   pack-number : r .number ≡ packNumber (tableFor c h) (halvesOf x) (length (partFrom start m) / 4)
   pack-number = ap (λ o. o .answer .number) (ran .packs) ∙ packed-number (tableFor c h) x (partFrom start m)
 
   -- packing refused: the memory is as it was
-  pub pack-refused : {st : SheetState} → stateOf c ≡ st → (r .number ≡ 0 → ⊥)
-      → {a : RecordWritten} → a ≡ notWritten st (r .number) → outcome a (withPart start m y) ≡ recordWritten 2 h c x m
-  pack-refused is some {a} e =
+  pub pack-refused : (r .number ≡ 0 → ⊥)
+      → {a : RecordWritten} → a ≡ notWritten (r .number) → outcome a (withPart start m y) ≡ recordWritten 2 h c x m
+  pack-refused some {a} e =
       let kept = packed-kept (tableFor c h) x (partFrom start m) (λ z. some (ap (λ o. o .answer .number) (ran .packs) ∙ z)) in
       let same : y ≡ partFrom start m = ap (λ o. o .memory) (ran .packs) ∙ kept .memory in
       ap (outcome a) (ap (withPart start m) same ∙ put-same start (length m - start) m)
-      ∙ refused-number 2 h c x m is (r .number) (given-first _ _ pack-number some ∙ sym write-number) some e
+      ∙ refused-number 2 h c x m (r .number) (given-first _ _ pack-number some ∙ sym write-number) some e
 
   module _ (done : r .number ≡ 0) where
     none : packNumber (tableFor c h) (halvesOf x) (length (partFrom start m) / 4) ≡ 0
@@ -117,10 +117,10 @@ module _ {h : Heading} {c : Context} {x m : List ℕ} {start : ℕ} {r : Answer}
     fine : Packable (tableFor c h) (halvesOf x)
     fine = packable (tableFor c h) (halvesOf x) (length (partFrom start m) / 4) none
 
-    words-put : outcome r y ≡ wrote (packedBits h c x) (packedWords h c x) (partFrom start m)
+    words-put : outcome r y ≡ wrote (givenBits h c x) (givenWords h c x) (partFrom start m)
     words-put = ran .packs ∙ packed-done (tableFor c h) x (partFrom start m) none
 
-    bits-are : r .count ≡ packedBits h c x
+    bits-are : r .count ≡ givenBits h c x
     bits-are = ap (λ o. o .answer .count) words-put
 
     pub pack-few : length x / 2 ≤ 4096
@@ -130,16 +130,16 @@ module _ {h : Heading} {c : Context} {x m : List ℕ} {start : ℕ} {r : Answer}
     pack-most = rw bits-are (rowBits-most (accepted-table (tableFor c h) (fine .table)) x refl pack-few)
 
     -- no room for the fields: nothing was packed, nor had it room
-    pub pack-short : {st : SheetState} → stateOf c ≡ st → start < 10
-        → {a : RecordWritten} → a ≡ notWritten st 5 → outcome a (withPart start m y) ≡ recordWritten 2 h c x m
-    pack-short is short {a} e =
+    pub pack-short : start < 10
+        → {a : RecordWritten} → a ≡ notWritten 5 → outcome a (withPart start m y) ≡ recordWritten 2 h c x m
+    pack-short short {a} e =
         let size =
         ap (λ o. length (o .memory)) (ran .packs) ∙ packed-within (tableFor c h) x (partFrom start m) .size ∙ length-part in
         let empty : y ≡ [] = sym (take-all 0 y (omega arith)) in
         let same : withPart start m y ≡ m =
         part-back start m y ∙ rw (empty, append-nil (take start m)) (take-all start m (omega arith)) in
         ap (outcome a) same
-        ∙ refused-number 2 h c x m is 5 (sym (write-number ∙ rw (none, lt-ltb start 10 short))) (λ z. omega arith) e
+        ∙ refused-number 2 h c x m 5 (sym (write-number ∙ rw (none, lt-ltb start 10 short))) (λ z. omega arith) e
 
     -- done
     pub pack-done : 10 ≤ start → {st : SheetState} → st ≡ stateOf (afterRecord aRow h x c)
@@ -148,6 +148,6 @@ module _ {h : Heading} {c : Context} {x m : List ℕ} {start : ℕ} {r : Answer}
         → outcome a o ≡ recordWritten 2 h c x m
     pack-done enough after {a} e o fields =
         let ten : start ≡ 10 = omega arith in
-        let size : 4 * wordsFor (r .count) ≡ length (packedWords h c x) = rw bits-are (sym (length-packedWords h c x)) in
+        let size : 4 * wordsFor (r .count) ≡ length (givenWords h c x) = rw bits-are (sym (length-givenWords h c x)) in
         frame-done (packed-frame h c x) m (write-number ∙ rw (none, le-ltb start 10 enough)) (omega arith) after
         (rw size at e) y o (rw ten at (ap (λ o. o .memory) words-put)) (rw (size, ten) at fields)

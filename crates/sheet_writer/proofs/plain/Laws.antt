@@ -15,7 +15,7 @@ use Rattle.row_format.specs.Row.Laws.{tooMany-zero}
 use Rattle.row_pixels.specs.Laws.{length-halves}
 use Rattle.sheet_format.specs.Context.{Heading, Context}
 use Rattle.sheet_format.specs.Kind.Row.{givenPixels}
-use Rattle.sheet_format.specs.Kind.PlainRow.{plainGiven, plainBody}
+use Rattle.sheet_format.specs.Kind.PlainRow.{plainGivenNumber, plainBody}
 use Rattle.sheet_writer.specs.Fields.{rowFields}
 use Rattle.sheet_writer.specs.Fields.Laws.{length-rowFields, row-fields}
 use Rattle.sheet_writer.proofs.Frame.{Frame}
@@ -37,21 +37,21 @@ module _ (h : Heading) (c : Context) (x : List ℕ) where
   }
 
   -- ---- its pixels
-  pub plain-many : 4096 < length x / 2 → 11 ≡ plainGiven h c x
-  unfolding plainGiven
+  pub plain-many : 4096 < length x / 2 → 11 ≡ plainGivenNumber h c x
+  unfolding plainGivenNumber
   plain-many many = rw (length-halves x, lt-ltb 4096 (length x / 2) many)
 
   module _ (few : length x / 2 ≤ 4096) where
-    pub plain-high : any (ltb 4095) (givenPixels x) ≡ true → 4 ≡ plainGiven h c x
-    unfolding plainGiven
+    pub plain-high : any (ltb 4095) (givenPixels x) ≡ true → 4 ≡ plainGivenNumber h c x
+    unfolding plainGivenNumber
     plain-high e = rw (length-halves x, le-ltb 4096 (length x / 2) few, e)
 
-    pub plain-right : any (ltb 4095) (givenPixels x) ≡ false → 0 ≡ plainGiven h c x
-    unfolding plainGiven
+    pub plain-right : any (ltb 4095) (givenPixels x) ≡ false → 0 ≡ plainGivenNumber h c x
+    unfolding plainGivenNumber
     plain-right e = rw (length-halves x, le-ltb 4096 (length x / 2) few, e)
 
-  pub plain-few : plainGiven h c x ≡ 0 → length x / 2 ≤ 4096
-  unfolding plainGiven
+  pub plain-few : plainGivenNumber h c x ≡ 0 → length x / 2 ≤ 4096
+  unfolding plainGivenNumber
   plain-few e =
       let n = length (givenPixels x) in
       omega (arith, length-halves x, tooMany-zero n (orElse-zero-left (tooMany n) _ e))

@@ -21,6 +21,10 @@ pub struct Progress {
     pub tally: Tally,
     pub numbers: u64,
     pub sheets: u64,
+    /// Rows written with a number above 65535.
+    pub past_rows: u64,
+    /// Tables and lines written with one.
+    pub rows_not_looked_at: u64,
     spoiled: Vec<(Flaw, u64)>,
 }
 
@@ -41,6 +45,15 @@ impl Progress {
             println!("{count:>9}  {flaw:?}");
             if count == 0 {
                 missed.push(format!("{flaw:?}"));
+            }
+        }
+        for (count, what) in [
+            (self.past_rows, "rows above 65535 written"),
+            (self.rows_not_looked_at, "row numbers above 65535 not looked at"),
+        ] {
+            println!("{count:>9}  {what}");
+            if count == 0 {
+                missed.push(what.into());
             }
         }
         print!("{}", self.tally.text());

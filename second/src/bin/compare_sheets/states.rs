@@ -29,7 +29,8 @@ pub fn compare(random: &mut Random, progress: &mut Progress) -> Outcome<()> {
     place.judge(&mut progress.tally).map_err(wrong)?;
     place.read(&mut progress.tally, &Lent::new(random, 8)).map_err(wrong)?;
     let content = Given::new(random, &entry.content);
-    let writing = Writing { kind: kind.into(), row, content: &content, table: &table, state };
+    let (kind, row) = (kind.into(), row.into());
+    let writing = Writing { kind, row, content: &content, table: &table, state };
     writing.write(&mut progress.tally, &Lent::new(random, 3000)).map_err(wrong)?;
     Ok(())
 }

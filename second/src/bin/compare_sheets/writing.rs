@@ -7,7 +7,7 @@ use second::generate::entries::Entry;
 use second::generate::sheets::any_state;
 use second::memory::{Given, Lent};
 use second::random::Random;
-use second::refusal::DONE;
+use second::refusal::{DONE, PLACE};
 use second::row::MAX_PIXELS;
 use second::sheet::{State, KIND_LINE, KIND_PACKED, KIND_PLAIN, KIND_TABLE};
 
@@ -23,6 +23,9 @@ pub fn write_sheet(
     for entry in entries {
         if random.one_in(2) {
             write_wrong(random, trial, entry, state, progress)?;
+        }
+        if random.one_in(4) {
+            write_past(random, trial, entry, state, progress)?;
         }
         let (record, after) = write_sound(random, trial, entry, state, progress)?;
         records.push(record);
@@ -45,7 +48,7 @@ fn write_sound(
     let packed = entry.kind == KIND_PACKED;
     let table = if packed { &trial.table } else { trial.any_table(random) };
     let has_row = packed || entry.kind == KIND_PLAIN;
-    let row = if has_row { entry.row } else { random.next_u32() as u16 };
+    let row = if has_row { entry.row.into() } else { random.next_u32() };
     let writing = Writing { kind: entry.kind.into(), row, content: &content, table, state };
     let expected = entry.own_record(trial.model());
     if random.one_in(3) {
@@ -81,7 +84,7 @@ fn write_wrong(
     state: State,
     progress: &mut Progress,
 ) -> Outcome<()> {
-    let (mut kind, mut row, mut state) = (u32::from(entry.kind), entry.row, state);
+    let (mut kind, mut row, mut state) = (entry.kind.into(), entry.row.into(), state);
     let mut table = &trial.table;
     let mut content = entry.content.clone();
     for _ in 0..random.pick(&[1, 1, 2]) {
@@ -90,7 +93,7 @@ fn write_wrong(
                 let any = random.next_u32();
                 kind = random.pick(&[0, 1, 2, 3, 4, 5, kind | 1 << 16, kind << 8, any]);
             }
-            1 => row = random.next_u32() as u16,
+            1 => row = random.next_u32() >> random.pick(&[0, 15, 16, 16]),
             2 => state = any_state(random),
             3 => table = trial.any_table(random),
             4 => content = too_many(random, kind),
@@ -102,6 +105,35 @@ fn write_wrong(
     let needed = writing.bytes_needed();
     let length = random.pick(&[0, needed.saturating_sub(1), needed, needed + 9]);
     writing.write(&mut progress.tally, &Lent::new(random, length)).map(|_| ())
+}
+
+/// Writes a record that is in order but for a row number above 65535, mostly
+/// right in its low 16 bits. Kinds that have no row must not look at it.
+fn write_past(
+    random: &mut Random,
+    trial: &Trial,
+    entry: &Entry,
+    state: State,
+    progress: &mut Progress,
+) -> Outcome<()> {
+    let high = random.within(1..=65_535) as u32;
+    let right = u32::from(entry.row);
+    let row = random.pick(&[right | 1 << 16, right | high << 16, 65_536, u32::MAX]);
+    let content = Given::new(random, &entry.content);
+    let table = &trial.table;
+    let writing = Writing { kind: entry.kind.into(), row, content: &content, table, state };
+    let (answer, _) = writing.write(&mut progress.tally, &Lent::new(random, 40_000))?;
+    let has_row = matches!(entry.kind, KIND_PACKED | KIND_PLAIN);
+    let (wanted, count) = if has_row {
+        (PLACE, &mut progress.past_rows)
+    } else {
+        (DONE, &mut progress.rows_not_looked_at)
+    };
+    *count += 1;
+    if answer.number != wanted {
+        return Err(writing.report(&format!("both answer {answer:?} for a row above 65535")));
+    }
+    Ok(())
 }
 
 /// More than 4096 pixels or numbers.

@@ -60,12 +60,13 @@ pub fn write(random: &mut Random, scene: &Scene, tally: &mut Tally) -> Outcome<(
         let from = random.below(scene.entries.len());
         mutate(random, &mut content, &scene.entries[from].content);
     }
-    let (mut kind, mut row) = (u32::from(entry.kind), entry.row);
+    let (mut kind, mut row) = (u32::from(entry.kind), u32::from(entry.row));
     match random.below(16) {
         0 => kind = any_number(random),
         // Right in its low 16 bits.
         1 => kind |= any_number(random) << 16,
-        2..=3 => row = any_number(random) as u16,
+        2..=3 => row = any_number(random),
+        4 => row |= any_number(random) << 16,
         _ => {}
     }
     let content = Given::new(random, &content);

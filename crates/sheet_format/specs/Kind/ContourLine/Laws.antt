@@ -4,14 +4,13 @@ use native.Mathlib.Nat.{le-refl}
 use native.Mathlib.Omega.{arith}
 use mathlib.Core.Path.{_≡_, refl, sym, ap, _∙_}
 use mathlib.Core.List.{List, [], _∷_, _++_, append-nil, map}
-use lib.ListN.{length, take, drop, length-append, length-map}
-use lib.Seq.{length-take-le}
+use lib.ListN.{length, drop, length-append, length-map}
 use lib.Dec.{ltb, leb}
 use lib.IntN.{ℤ}
 use Rattle.bitstream.specs.Bits.{flat, bitsOf, wordsOf, Below}
 use Rattle.bitstream.specs.Bits.Laws.{below-flat, below-cut, length-cut}
 use Rattle.answer.specs.Outcome.{_orElse_, refuseIf, Lent, nothing, roomNumber}
-use Rattle.answer.specs.Outcome.Laws.{lessNumber-none, lessNumber-zero, refuseIf-in, orElse-in, orElse-none, orElse-zero-left, orElse-zero-right}
+use Rattle.answer.specs.Outcome.Laws.{lessNumber-none, refuseIf-in, orElse-in, orElse-none, orElse-zero-left, orElse-zero-right}
 use Rattle.row_format.specs.Lists.Laws.{by-test}
 use Rattle.row_format.specs.Row.{tooMany}
 use Rattle.row_format.specs.Row.Laws.{tooMany-zero}
@@ -20,11 +19,10 @@ use Rattle.sheet_format.specs.Context.{Heading, Context}
 use Rattle.sheet_format.specs.Fields.{twoBytes}
 use Rattle.sheet_format.specs.Fields.Laws.{numberOf-twoBytes, length-twoBytes, take-twoBytes, drop-twoBytes}
 use Rattle.sheet_format.specs.Line.{Line, numbers, faulty, prepend, follow, wordOf, readLine, lineBytes}
-use Rattle.sheet_format.specs.Line.Laws.{Gives, readLine-gives, in-range-signedOf, readLine-lineBytes, length-lineBytes, map-wordOf-signedOf, bytesOf-wordsOf}
-use Rattle.sheet_format.specs.Kind.Lawful.{Listed, Back, Lawful}
-use Rattle.sheet_format.specs.Kind.Row.{noTable}
+use Rattle.sheet_format.specs.Line.Laws.{GivesLine, readLine-gives, in-range-signedOf, readLine-lineBytes, length-lineBytes, map-wordOf-signedOf, bytesOf-wordsOf}
+use Rattle.sheet_format.specs.Kind.Lawful.{ListedBody, Back, Lawful}
 use Rattle.sheet_format.specs.Kind.Row.Laws.{noTable-zero, noTable-in}
-use Rattle.sheet_format.specs.Kind.ContourLine.{numberCount, lineContent, lineOf, faultNumber, bytesOfLine, lineNumber, lineOwn, numberBytes, readNumbers, linePlace, givenNumbers, lineGiven, lineBody, lineKind}
+use Rattle.sheet_format.specs.Kind.ContourLine.{numberCount, lineContent, lineOf, faultNumber, bytesOfLine, lineNumber, lineOwn, numberBytes, readNumbers, linePlace, givenNumbers, lineGivenNumber, lineBody, lineKind}
 
 -- ---- room is asked last
 line-parts : (m : Lent) (c : Context) (b : List ℕ)
@@ -36,7 +34,7 @@ line-most : (c : Context) (b : List ℕ) → lineNumber b ≡ 0 → 4 * numberCo
 unfolding lineNumber
 line-most c b e = omega (arith, tooMany-zero (numberCount b) (orElse-zero-left (tooMany (numberCount b)) _ e))
 
-line-content : (n : ℕ) (s : List ℕ) (x : Line) → Gives n s x → faultNumber x ≡ 0 → length (numberBytes x) ≡ 4 * n
+line-content : (n : ℕ) (s : List ℕ) (x : Line) → GivesLine n s x → faultNumber x ≡ 0 → length (numberBytes x) ≡ 4 * n
 line-content n s (numbers vs u) g e = length-cut 8 (4 * length vs) (flat 32 (map wordOf vs)) ∙ ap (4 *_) (g .count)
 line-content n s (faulty k) g e = absurd (omega arith)
 
@@ -69,9 +67,6 @@ given-numbers : (x : List ℕ) → 4 * length (givenNumbers x) ≤ length x
 given-numbers x = omega (arith, given-count x, length-cut 32 (length x / 4) (bitsOf x))
 
 module _ (h : Heading) (c : Context) (x : List ℕ) (bytes : Below 256 x) (few : length (givenNumbers x) ≤ 4096) where
-  numbers-size : length (take (4 * length (givenNumbers x)) x) ≡ 4 * length (givenNumbers x)
-  numbers-size = length-take-le (4 * length (givenNumbers x)) x (given-numbers x)
-
   words-low : Below 4294967296 (wordsOf x)
   words-low = below-cut 32 (length x / 4) (bitsOf x) (below-flat 8 x)
 
@@ -105,8 +100,8 @@ module _ (h : Heading) (c : Context) (x : List ℕ) (bytes : Below 256 x) (few :
   unfolding lineBody
   line-written = line-body (lineBody h c x) (line-fields (length (givenNumbers x)) (lineBytes (givenNumbers x)) (omega arith))
 
-line-back : (h : Heading) (c : Context) (x : List ℕ) → Below 256 x → lineGiven h c x ≡ 0 → Back lineKind h c x (lineBody h c x)
-unfolding lineGiven
+line-back : (h : Heading) (c : Context) (x : List ℕ) → Below 256 x → lineGivenNumber h c x ≡ 0 → Back lineKind h c x (lineBody h c x)
+unfolding lineGivenNumber
 line-back h c x bytes given = line-written h c x bytes (tooMany-zero (length (givenNumbers x)) given)
 
 -- ---- numbers: 12 or 13 at a number
@@ -152,7 +147,7 @@ module _ (P : ℕ → Type 0) (p0 : P 0) (p12 : P 12) (p13 : P 13) where
   readLine-in zero s = p0
   readLine-in (suc n) s = follow-in (readAs signed s) _ (readAs-in s) (λ u. readLine-in n (drop u s))
 
-lineOwn-in : (P : ℕ → Type 0) → Listed P → (m : Lent) → ((n : ℕ) → P (roomNumber m n)) → (c : Context) (b : List ℕ)
+lineOwn-in : (P : ℕ → Type 0) → ListedBody P → (m : Lent) → ((n : ℕ) → P (roomNumber m n)) → (c : Context) (b : List ℕ)
     → P (lineOwn m c b)
 unfolding lineOwn lineNumber
 lineOwn-in P l m room c b =
@@ -164,7 +159,7 @@ lineOwn-in P l m room c b =
     (room (4 * n))
 
 pub line-lawful : Lawful lineKind
-unfolding linePlace lineGiven
+unfolding linePlace lineGivenNumber
 line-lawful = record {
   first = λ c b. lineNumber b;
   last = λ c b. 0;
@@ -182,5 +177,5 @@ line-lawful = record {
   own-in = lineOwn-in;
   given-in = λ P l h c x. refuseIf-in P (ltb 4096 (length (givenNumbers x))) 11 (l .p0) (l .p11);
   readable-back = λ e. refl;
-  back = λ h c x small bytes writable given. line-back h c x bytes given;
+  back = λ h c x bytes writable place given. line-back h c x bytes given;
 }

@@ -1,22 +1,22 @@
 -- The packed row's kind is lawful. Assumes nothing.
-use Prim.Native.Nat.{ℕ, zero, suc, _+_, _*_, _%_, _≤_, _<_}
+use Prim.Native.Nat.{ℕ, zero, suc, _*_, _%_, _≤_, _<_}
 use native.Mathlib.Nat.{le-refl, mul-le-mul-left}
 use native.Mathlib.Omega.{arith}
 use mathlib.Core.Path.{_≡_, refl, sym, ap, _∙_}
 use mathlib.Core.Bool.{not, false}
 use mathlib.Core.List.{List, [], append-nil}
-use lib.ListN.{length, take}
+use lib.ListN.{length}
 use lib.Dec.{ltb, eqb}
 use Rattle.bitstream.specs.Bits.{flat, wordsOf, stream, wordsFor, Below}
 use Rattle.bitstream.specs.Bits.Laws.{length-cut}
 use Rattle.answer.specs.Outcome.{_orElse_, unless, Lent, nothing, roomNumber}
-use Rattle.answer.specs.Outcome.Laws.{lessNumber-none, unequalNumber-none, refuseIf-zero, refuseIf-in, orElse-in, orElse-assoc, orElse-zero-left, orElse-zero-right}
+use Rattle.answer.specs.Outcome.Laws.{lessNumber-none, unequalNumber-none, refuseIf-zero, refuseIf-in, orElse-in, orElse-zero-left, orElse-zero-right}
 use Rattle.row_format.specs.Lists.{any}
 use Rattle.row_format.specs.Table.{tableNumber}
 use Rattle.row_format.specs.Table.Laws.{accepted, tableNumber-verdict, maxItemBits-most}
 use Rattle.row_format.specs.Row.{fresh, pixelsOf, itemsFor, rowBits, rowBytes, pixelBytes, tooMany, tooHigh}
 use Rattle.row_format.specs.Row.Laws.{length-pixelsOf, tooMany-zero}
-use Rattle.row_format.specs.Reading.{Run, done, stop, runNumber, bitsOfRun, pixelsOfRun, readItems, withoutStray, firstNumber, rowReading}
+use Rattle.row_format.specs.Reading.{Run, done, stop, runNumber, pixelsOfRun, readItems, withoutStray, firstNumber, rowReading}
 use Rattle.row_format.specs.Theorems.Bounds.{length-rowBits}
 use Rattle.row_format.specs.Theorems.Done.{Gives, rowReading-gives}
 use Rattle.row_format.specs.Theorems.Numbers.{StopIn, tableNumber-in, rowReading-stops, rowReading-number-in}
@@ -25,10 +25,10 @@ use Rattle.row_format.specs.Theorems.Words.{bytesOf-halvesOf}
 use Rattle.sheet_format.specs.Context.{Heading, Context, tableFor}
 use Rattle.sheet_format.specs.Fields.{shorterThan}
 use Rattle.sheet_format.specs.Kind.{aRow, afterRecord}
-use Rattle.sheet_format.specs.Kind.Lawful.{Listed, ListedGiven, Back, Lawful}
+use Rattle.sheet_format.specs.Kind.Lawful.{ListedBody, ListedGiven, Back, Lawful}
 use Rattle.sheet_format.specs.Kind.Row.{rowHeading, pixelCount, rowContent, rowPlace, givenPixels}
-use Rattle.sheet_format.specs.Kind.Row.Laws.{RowFields, row-fields, given-pixels, pixels-size, rowPlace-table, rowPlace-risen, rowPlace-in}
-use Rattle.sheet_format.specs.Kind.PackedRow.{packedReading, packedLeftover, packedOwn, packedBits, packedContent, packedGiven, packedBody, packedTakes, packedKind}
+use Rattle.sheet_format.specs.Kind.Row.Laws.{RowParts, row-parts, given-pixels, rowPlace-table, rowPlace-risen, rowPlace-small, rowPlace-in}
+use Rattle.sheet_format.specs.Kind.PackedRow.{packedReading, packedLeftover, packedOwn, packedBits, packedContent, packedGivenNumber, packedBody, packedTakes, packedKind}
 
 -- ---- where room is asked: after 1, 2, 3 and 11, before the items
 unless-run : (e : ℕ) (x : Run) → runNumber (unless e (λ k. stop k 0 0) x) ≡ e orElse runNumber x
@@ -97,7 +97,7 @@ row-most tb ps ok few =
 module _ (h : Heading) (c : Context) (x : List ℕ) (small : h .row < 65536) (bytes : Below 256 x)
     (ok : tableNumber (tableFor c h) ≡ 0) (few : length (givenPixels x) ≤ 4096)
     (low : any (ltb 4095) (givenPixels x) ≡ false) where
-  packed-body : (b : List ℕ) → RowFields b h (length (givenPixels x)) (rowBytes (wordsOf (tableFor c h)) (givenPixels x))
+  packed-body : (b : List ℕ) → RowParts b h (length (givenPixels x)) (rowBytes (wordsOf (tableFor c h)) (givenPixels x))
       → Back packedKind h c x b
   unfolding packedOwn packedLeftover packedBits packedContent packedTakes packedReading
   packed-body b f = record {
@@ -136,11 +136,11 @@ module _ (h : Heading) (c : Context) (x : List ℕ) (small : h .row < 65536) (by
   packed-written : Back packedKind h c x (packedBody h c x)
   unfolding packedBody
   packed-written = packed-body (packedBody h c x)
-      (row-fields h (length (givenPixels x)) (rowBytes (wordsOf (tableFor c h)) (givenPixels x)) small (omega arith))
+      (row-parts h (length (givenPixels x)) (rowBytes (wordsOf (tableFor c h)) (givenPixels x)) small (omega arith))
 
-packed-back : (h : Heading) (c : Context) (x : List ℕ) → h .row < 65536 → Below 256 x → packedGiven h c x ≡ 0
+packed-back : (h : Heading) (c : Context) (x : List ℕ) → h .row < 65536 → Below 256 x → packedGivenNumber h c x ≡ 0
     → Back packedKind h c x (packedBody h c x)
-unfolding packedGiven
+unfolding packedGivenNumber
 packed-back h c x small bytes given =
     let tb = tableFor c h in
     let n = length (givenPixels x) in
@@ -152,7 +152,7 @@ packed-back h c x small bytes given =
 
 -- ---- numbers
 module _ (P : ℕ → Type 0) where
-  packedOwn-in : Listed P → (m : Lent) → ((n : ℕ) → P (roomNumber m n)) → (c : Context) (b : List ℕ) → P (packedOwn m c b)
+  packedOwn-in : ListedBody P → (m : Lent) → ((n : ℕ) → P (roomNumber m n)) → (c : Context) (b : List ℕ) → P (packedOwn m c b)
   unfolding packedOwn packedReading packedLeftover packedBits
   packedOwn-in l m room c b =
       orElse-in P (runNumber (rowReading m (tableFor c (rowHeading b)) (pixelCount b) (rowContent b))) _
@@ -160,14 +160,14 @@ module _ (P : ℕ → Type 0) where
       (l .p11) (room (2 * pixelCount b)) (l .p6) (l .p7) (l .p8) (l .p9) (l .p10))
       (refuseIf-in P (ltb (4 * wordsFor (packedBits c b)) (length (rowContent b))) 14 (l .p0) (l .p14))
 
-  packedGiven-in : ListedGiven P → (h : Heading) (c : Context) (x : List ℕ) → P (packedGiven h c x)
-  unfolding packedGiven
-  packedGiven-in l h c x =
+  packedGivenNumber-in : ListedGiven P → (h : Heading) (c : Context) (x : List ℕ) → P (packedGivenNumber h c x)
+  unfolding packedGivenNumber
+  packedGivenNumber-in l h c x =
       orElse-in P (tableNumber (tableFor c h)) _ (tableNumber-in P (tableFor c h) (l .p0) (l .p1) (l .p2) (l .p3))
       (orElse-in P (tooMany (length (givenPixels x))) _ (refuseIf-in P (ltb 4096 (length (givenPixels x))) 11 (l .p0) (l .p11))
       (refuseIf-in P (any (ltb 4095) (givenPixels x)) 4 (l .p0) (l .p4)))
 
-packedFixed-in : (P : ℕ → Type 0) → Listed P → (b : List ℕ) → P (packedKind .fixed b)
+packedFixed-in : (P : ℕ → Type 0) → ListedBody P → (b : List ℕ) → P (packedKind .fixed b)
 packedFixed-in P l b =
     orElse-in P (shorterThan 4 b) _ (refuseIf-in P (ltb (length b) 4) 14 (l .p0) (l .p14))
     (refuseIf-in P (not (eqb (length b % 4) 0)) 14 (l .p0) (l .p14))
@@ -188,7 +188,7 @@ packed-lawful = record {
   fixed-in = packedFixed-in;
   place-in = λ P l c h. rowPlace-in c h P (l .p0) (l .p16);
   own-in = packedOwn-in;
-  given-in = packedGiven-in;
+  given-in = packedGivenNumber-in;
   readable-back = λ e. refl;
-  back = λ h c x small bytes writable given. packed-back h c x small bytes given;
+  back = λ h c x bytes writable place given. packed-back h c x (rowPlace-small c h place) bytes given;
 }

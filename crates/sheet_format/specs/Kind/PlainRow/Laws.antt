@@ -1,5 +1,5 @@
 -- The plain row's kind is lawful. Assumes nothing.
-use Prim.Native.Nat.{ℕ, _+_, _*_, _≤_, _<_}
+use Prim.Native.Nat.{ℕ, _*_, _≤_, _<_}
 use native.Mathlib.Omega.{arith}
 use mathlib.Core.Path.{_≡_, refl, ap}
 use mathlib.Core.Bool.{not, false}
@@ -14,10 +14,10 @@ use Rattle.row_format.specs.Row.{tooMany, tooHigh}
 use Rattle.row_format.specs.Row.Laws.{tooMany-zero}
 use Rattle.sheet_format.specs.Context.{Heading, Context}
 use Rattle.sheet_format.specs.Kind.{aRow, afterRecord}
-use Rattle.sheet_format.specs.Kind.Lawful.{Listed, ListedGiven, Back, Lawful}
-use Rattle.sheet_format.specs.Kind.Row.{rowHeading, pixelCount, rowContent, rowPlace, givenPixels}
-use Rattle.sheet_format.specs.Kind.Row.Laws.{RowFields, row-fields, given-pixels, pixels-size, halves-same, rowPlace-table, rowPlace-risen, rowPlace-in}
-use Rattle.sheet_format.specs.Kind.PlainRow.{plainNumber, plainOwn, plainContent, plainGiven, plainBody, plainKind}
+use Rattle.sheet_format.specs.Kind.Lawful.{ListedBody, ListedGiven, Back, Lawful}
+use Rattle.sheet_format.specs.Kind.Row.{pixelCount, rowContent, rowPlace, givenPixels}
+use Rattle.sheet_format.specs.Kind.Row.Laws.{RowParts, row-parts, given-pixels, pixels-size, halves-same, rowPlace-table, rowPlace-risen, rowPlace-small, rowPlace-in}
+use Rattle.sheet_format.specs.Kind.PlainRow.{plainNumber, plainOwn, plainContent, plainGivenNumber, plainBody, plainKind}
 
 -- ---- room is asked last
 plain-parts : (m : Lent) (c : Context) (b : List ℕ)
@@ -42,7 +42,7 @@ plain-size c b e =
 -- ---- a row that was written
 module _ (h : Heading) (c : Context) (x : List ℕ) (small : h .row < 65536) (bytes : Below 256 x)
     (few : length (givenPixels x) ≤ 4096) (low : any (ltb 4095) (givenPixels x) ≡ false) where
-  plain-body : (b : List ℕ) → RowFields b h (length (givenPixels x)) (take (2 * length (givenPixels x)) x) → Back plainKind h c x b
+  plain-body : (b : List ℕ) → RowParts b h (length (givenPixels x)) (take (2 * length (givenPixels x)) x) → Back plainKind h c x b
   unfolding plainOwn plainNumber plainContent
   plain-body b f = record {
     fixed = lessNumber-none (length b) 4 14 (omega (arith, f .size));
@@ -66,11 +66,11 @@ module _ (h : Heading) (c : Context) (x : List ℕ) (small : h .row < 65536) (by
   plain-written : Back plainKind h c x (plainBody h c x)
   unfolding plainBody
   plain-written = plain-body (plainBody h c x)
-      (row-fields h (length (givenPixels x)) (take (2 * length (givenPixels x)) x) small (omega arith))
+      (row-parts h (length (givenPixels x)) (take (2 * length (givenPixels x)) x) small (omega arith))
 
-plain-back : (h : Heading) (c : Context) (x : List ℕ) → h .row < 65536 → Below 256 x → plainGiven h c x ≡ 0
+plain-back : (h : Heading) (c : Context) (x : List ℕ) → h .row < 65536 → Below 256 x → plainGivenNumber h c x ≡ 0
     → Back plainKind h c x (plainBody h c x)
-unfolding plainGiven
+unfolding plainGivenNumber
 plain-back h c x small bytes given =
     let n = length (givenPixels x) in
     let high = tooHigh (givenPixels x) in
@@ -79,7 +79,7 @@ plain-back h c x small bytes given =
 
 -- ---- numbers
 module _ (P : ℕ → Type 0) where
-  plainOwn-in : Listed P → (m : Lent) → ((n : ℕ) → P (roomNumber m n)) → (c : Context) (b : List ℕ) → P (plainOwn m c b)
+  plainOwn-in : ListedBody P → (m : Lent) → ((n : ℕ) → P (roomNumber m n)) → (c : Context) (b : List ℕ) → P (plainOwn m c b)
   unfolding plainOwn plainNumber
   plainOwn-in l m room c b =
       let n = pixelCount b in
@@ -90,9 +90,9 @@ module _ (P : ℕ → Type 0) where
       (refuseIf-in P (any (ltb 4095) (halvesOf (rowContent b))) 4 (l .p0) (l .p4))))
       (room (2 * n))
 
-  plainGiven-in : ListedGiven P → (h : Heading) (c : Context) (x : List ℕ) → P (plainGiven h c x)
-  unfolding plainGiven
-  plainGiven-in l h c x =
+  plainGivenNumber-in : ListedGiven P → (h : Heading) (c : Context) (x : List ℕ) → P (plainGivenNumber h c x)
+  unfolding plainGivenNumber
+  plainGivenNumber-in l h c x =
       orElse-in P (tooMany (length (givenPixels x))) _ (refuseIf-in P (ltb 4096 (length (givenPixels x))) 11 (l .p0) (l .p11))
       (refuseIf-in P (any (ltb 4095) (givenPixels x)) 4 (l .p0) (l .p4))
 
@@ -112,7 +112,7 @@ plain-lawful = record {
   fixed-in = λ P l b. refuseIf-in P (ltb (length b) 4) 14 (l .p0) (l .p14);
   place-in = λ P l c h. rowPlace-in c h P (l .p0) (l .p16);
   own-in = plainOwn-in;
-  given-in = plainGiven-in;
+  given-in = plainGivenNumber-in;
   readable-back = λ e. refl;
-  back = λ h c x small bytes writable given. plain-back h c x small bytes given;
+  back = λ h c x bytes writable place given. plain-back h c x (rowPlace-small c h place) bytes given;
 }

@@ -15,7 +15,7 @@ use Rattle.row_format.specs.Theorems.Words.{bytesOf-halvesOf, halvesOf-bytesOf}
 use Rattle.sheet_format.specs.Context.{Heading, Context}
 use Rattle.sheet_format.specs.Fields.{twoBytes}
 use Rattle.sheet_format.specs.Fields.Laws.{numberOf-twoBytes, length-twoBytes, take-twoBytes, drop-twoBytes}
-use Rattle.sheet_format.specs.Kind.Row.{rowHeading, pixelCount, rowContent, noTable, rowPlace, givenPixels, rowBody}
+use Rattle.sheet_format.specs.Kind.Row.{rowHeading, pixelCount, rowContent, noTable, rowPlace, givenPixels}
 
 -- ---- the place
 pub noTable-zero : (c : Context) → noTable c ≡ 0 → length (c .tables) ≡ 0 → ⊥
@@ -29,25 +29,36 @@ module _ (c : Context) (h : Heading) where
   unfolding rowPlace
   rowPlace-table e = noTable-zero c (orElse-zero-left (noTable c) _ e)
 
+  abbrev notRisen : ℕ
+  notRisen = refuseIf (ltb (h .row) (c .least)) 16
+
   pub rowPlace-risen : rowPlace c h ≡ 0 → c .least ≤ h .row
   unfolding rowPlace
-  rowPlace-risen e = lessNumber-zero (h .row) (c .least) 15 (orElse-zero-right (noTable c) _ e)
+  rowPlace-risen e = lessNumber-zero (h .row) (c .least) 15 (orElse-zero-left notRisen _ (orElse-zero-right (noTable c) _ e))
+
+  pub rowPlace-small : rowPlace c h ≡ 0 → h .row < 65536
+  unfolding rowPlace
+  rowPlace-small e =
+      let most = lessNumber-zero 65535 (h .row) 15 (orElse-zero-right notRisen _ (orElse-zero-right (noTable c) _ e)) in
+      omega arith
 
   pub rowPlace-in : (P : ℕ → Type 0) → P 0 → P 16 → P (rowPlace c h)
   unfolding rowPlace
   rowPlace-in P p0 p16 =
-      orElse-in P (noTable c) _ (noTable-in P p0 p16 c) (refuseIf-in P (ltb (h .row) (c .least)) 16 p0 p16)
+      orElse-in P (noTable c) _ (noTable-in P p0 p16 c)
+      (orElse-in P notRisen _ (refuseIf-in P (ltb (h .row) (c .least)) 16 p0 p16)
+      (refuseIf-in P (ltb 65535 (h .row)) 16 p0 p16))
 
 -- ---- the fields of a body that was written
-pub record RowFields (b : List ℕ) (h : Heading) (n : ℕ) (w : List ℕ) : Type 0 where
+pub record RowParts (b : List ℕ) (h : Heading) (n : ℕ) (w : List ℕ) : Type 0 where
   pub heading : rowHeading b ≡ h
   pub count : pixelCount b ≡ n
   pub content : rowContent b ≡ w
   pub size : length b ≡ 4 + length w
 
-pub row-fields : (h : Heading) (n : ℕ) (w : List ℕ) → h .row < 65536 → n < 65536
-    → RowFields (twoBytes (h .row) ++ (twoBytes n ++ w)) h n w
-row-fields h n w small few =
+pub row-parts : (h : Heading) (n : ℕ) (w : List ℕ) → h .row < 65536 → n < 65536
+    → RowParts (twoBytes (h .row) ++ (twoBytes n ++ w)) h n w
+row-parts h n w small few =
     let row = h .row in
     record {
       heading = rw (take-twoBytes row (twoBytes n ++ w), numberOf-twoBytes row small);

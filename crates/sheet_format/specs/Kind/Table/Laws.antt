@@ -1,12 +1,12 @@
 -- The table's kind is lawful. Assumes nothing.
-use Prim.Native.Nat.{ℕ, _*_, _/_, _%_, _≤_, _<_}
+use Prim.Native.Nat.{ℕ, _*_, _/_, _%_, _≤_}
 use native.Mathlib.Omega.{arith}
 use mathlib.Core.Path.{_≡_, refl, sym, _∙_}
 use mathlib.Core.Bool.{not}
-use mathlib.Core.List.{List, []}
+use mathlib.Core.List.{List}
 use lib.ListN.{length}
 use lib.Dec.{eqb}
-use Rattle.bitstream.specs.Bits.{bitsOf, wordsOf, Below}
+use Rattle.bitstream.specs.Bits.{bitsOf, wordsOf}
 use Rattle.bitstream.specs.Bits.Laws.{length-cut}
 use Rattle.answer.specs.Outcome.{_orElse_, Lent, roomNumber}
 use Rattle.answer.specs.Outcome.Laws.{unequalNumber-zero, unequalNumber-none, refuseIf-in, orElse-none, roomNumber-none}
@@ -64,5 +64,5 @@ table-lawful = record {
   own-in = λ P l m room c b. tableNumber-in P b (l .p0) (l .p1) (l .p2) (l .p3);
   given-in = λ P l h c x. tableNumber-in P x (l .p0) (l .p1) (l .p2) (l .p3);
   readable-back = λ e. refl;
-  back = λ h c x small bytes writable given. table-back h c x given;
+  back = λ h c x bytes writable place given. table-back h c x given;
 }

@@ -72,8 +72,8 @@ keep-numbers-requires c κs =
     (at-read-u16 .read-u16 .ensures) (at-numbers-number .numbers-number .ensures x) (at-if3 .if3 .left) in
     (line-right accepted, line-fits accepted)
 
-held-requires : tie.Need-held-requires
-held-requires c κs = search needs
+accepted-requires : tie.Need-accepted-requires
+accepted-requires c κs = search needs
 
 same-length : tie.Need-same-length
 same-length c = search needs
@@ -91,7 +91,7 @@ returns-4 c = λ x shows.
     let accepted =
     line-accepted (at-start .args .body .now) x (at-if1 .if1 .left) (at-place .line-place .ensures x noHeading shows)
     (at-if2 .if2 .left) (at-read-u16 .read-u16 .ensures) (at-numbers-number .numbers-number .ensures x) (at-if3 .if3 .left) in
-    line-held accepted shows (c .held .ensures) (at-keep-numbers .keep-numbers .ensures)
+    line-held accepted shows (c .accepted .ensures) (at-keep-numbers .keep-numbers .ensures)
 
 pub read-line-spec : {M : Type 1} → statement M
 read-line-spec =
@@ -111,6 +111,6 @@ read-line-spec =
     part-line-end
     cast-keep-numbers
     keep-numbers-requires
-    held-requires
+    accepted-requires
     same-length
     returns-4)

@@ -10,9 +10,7 @@ refused-requires : tie.Need-refused-requires
 refused-requires c κs = search needs
 
 returns : tie.Need-returns
-returns c =
-    let at-if1 = c .before in
-    packed-not-words (at-if1 .before .before .before .before .args .table .now) (at-if1 .if1 .taken) (c .refused .ensures)
+returns c = packed-not-words (c .before .if1 .taken) (c .refused .ensures)
 
 row-fields-requires : tie.Need-row-fields-requires
 row-fields-requires c κs = search needs
@@ -24,8 +22,8 @@ returns-2 : tie.Need-returns-2
 returns-2 c =
     let at-row-fields = c .before .before in
     let at-if1 = at-row-fields .before in
-    packed-misplaced (at-if1 .before .before .before .before .args .table .now) (at-if1 .if1 .left) (at-row-fields .row-fields .ensures) (c .refused2 .ensures)
-    (c .before .if2 .taken)
+    packed-misplaced (at-if1 .before .before .before .before .args .table .now) (at-if1 .if1 .left)
+    (at-row-fields .row-fields .ensures) (c .refused2 .ensures) (c .before .if2 .taken)
 
 slice-aggregate-unpack-row : tie.Need-slice-aggregate-unpack-row
 slice-aggregate-unpack-row c = search needs
@@ -45,8 +43,9 @@ returns-3 c =
     let at-if2 = at-unpack-row .before .before in
     let at-row-fields = at-if2 .before in
     let at-if1 = at-row-fields .before in
-    packed-refused (at-if1 .before .before .before .before .args .table .now) (at-if1 .if1 .left) (at-row-fields .row-fields .ensures) (at-if2 .if2 .left)
-    (at-unpack-row .unpack-row .ensures) (c .refused3 .ensures) (c .before .if3 .taken)
+    packed-refused (at-if1 .before .before .before .before .args .table .now) (at-if1 .if1 .left)
+    (at-row-fields .row-fields .ensures) (at-if2 .if2 .left) (at-unpack-row .unpack-row .ensures) (c .refused3 .ensures)
+    (c .before .if3 .taken)
 
 slice-aggregate-keep : tie.Need-slice-aggregate-keep
 slice-aggregate-keep c = search needs
@@ -71,13 +70,14 @@ keep-requires c κs =
 
 after-row-requires : tie.Need-after-row-requires
 after-row-requires c κs =
-    let at-if2 = c .before .before .before .before .before .before .before .before .before in
+    let at-if3 = c .before .before .before .before .before .before in
+    let at-if2 = at-if3 .before .before .before in
     let at-row-fields = at-if2 .before in
     let fields = at-row-fields .row-fields .ensures .fields (at-if2 .if2 .left) in
     fields .small
 
-held-requires : tie.Need-held-requires
-held-requires c κs = search needs
+accepted-requires : tie.Need-accepted-requires
+accepted-requires c κs = search needs
 
 same-length : tie.Need-same-length
 same-length c = search needs
@@ -93,7 +93,7 @@ returns-4 c =
     let accepted =
     packed-accepted (at-if1 .if1 .left) (at-row-fields .row-fields .ensures) (at-if2 .if2 .left)
     (at-unpack-row .unpack-row .ensures) (at-if3 .if3 .left) in
-    packed-held accepted (c .before .after-row .ensures) (c .held .ensures) (at-keep .keep .ensures)
+    packed-held accepted (c .before .after-row .ensures) (c .accepted .ensures) (at-keep .keep .ensures)
 
 pub read-packed-spec : {M : Type 1} → statement M
 read-packed-spec =
@@ -113,6 +113,6 @@ read-packed-spec =
     mul-keep
     keep-requires
     after-row-requires
-    held-requires
+    accepted-requires
     same-length
     returns-4)

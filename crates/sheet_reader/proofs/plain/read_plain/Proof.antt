@@ -76,8 +76,8 @@ after-row-requires c κs =
     let fields = at-row-fields .row-fields .ensures .fields (at-if1 .if1 .left) in
     fields .small
 
-held-requires : tie.Need-held-requires
-held-requires c κs = search needs
+accepted-requires : tie.Need-accepted-requires
+accepted-requires c κs = search needs
 
 same-length : tie.Need-same-length
 same-length c = search needs
@@ -92,7 +92,7 @@ returns-3 c = λ x shows.
     let accepted =
     plain-accepted (at-row-fields .row-fields .ensures) shows (at-if1 .if1 .left) (at-pixels-number .pixels-number .ensures x)
     (at-if2 .if2 .left) in
-    plain-held accepted shows (c .before .after-row .ensures) (c .held .ensures) (at-keep .keep .ensures)
+    plain-held accepted shows (c .before .after-row .ensures) (c .accepted .ensures) (at-keep .keep .ensures)
 
 pub read-plain-spec : {M : Type 1} → statement M
 read-plain-spec =
@@ -111,6 +111,6 @@ read-plain-spec =
     mul-keep
     keep-requires
     after-row-requires
-    held-requires
+    accepted-requires
     same-length
     returns-3)

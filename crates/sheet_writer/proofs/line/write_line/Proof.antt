@@ -12,7 +12,7 @@ use Rattle.sheet_format.specs.Context.{Heading, noHeading, Context, stateOf, co
 use Rattle.sheet_format.specs.Context.Laws.{stateOf-contextOf}
 use Rattle.sheet_format.specs.Line.{lineBytes}
 use Rattle.sheet_format.specs.Kind.ContourLine.{givenNumbers, linePlace, lineKind}
-use Rattle.sheet_writer.specs.Judged.{judged}
+use Rattle.sheet_writer.specs.BeforeRoom.{beforeRoom}
 use Rattle.sheet_writer.proofs.Frame.{frame-refused, frame-full, frame-passed, frame-done}
 use Rattle.sheet_writer.proofs.line.Laws.{line-frame, line-few, line-most}
 use Rattle.sheet_writer.proofs.line.write_line.Statement.{statement}
@@ -23,7 +23,7 @@ abbrev entry : tie.Else1 → tie.Start
 entry c = c .before .before .before .before
 
 passed : (c : tie.Else1) (x : Context) (h : Heading) → stateOf x ≡ entry c .args .state
-    → judged lineKind h x (entry c .args .content .now) ≡ 0
+    → beforeRoom lineKind h x (entry c .args .content .now) ≡ 0
 passed c x h is = sym (c .before .line-number .ensures x h is) ∙ c .if1 .left
 
 -- by any one sheet that the state is kept of
@@ -47,7 +47,7 @@ returns : tie.Need-returns
 returns c = λ x h is.
     let at-line-number = c .before .before in
     let a = at-line-number .before .before .before .args in
-    frame-refused (line-frame h x (a .content .now)) (a .out .now) is (at-line-number .line-number .result)
+    frame-refused (line-frame h x (a .content .now)) (a .out .now) (at-line-number .line-number .result)
     (at-line-number .line-number .ensures x h is) (c .before .if1 .taken) (c .refused .ensures)
 
 line-bytes-requires : tie.Need-line-bytes-requires
@@ -64,7 +64,7 @@ returns-2 c = λ x h is.
     let at-line-bytes = c .before .before in
     let at-if1 = at-line-bytes .before in
     let a = entry at-if1 .args in
-    frame-full (line-frame h x (a .content .now)) (a .out .now) is (passed at-if1 x h is)
+    frame-full (line-frame h x (a .content .now)) (a .out .now) (passed at-if1 x h is)
     (omega (arith, at-line-bytes .line-bytes .ensures, c .before .if2 .taken)) (c .refused2 .ensures)
 
 sub-put-numbers : tie.Need-sub-put-numbers

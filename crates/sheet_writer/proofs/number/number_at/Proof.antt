@@ -1,7 +1,7 @@
 -- `sheet_writer::number::number_at` meets its contract: the word is read, and then its value taken. Assumes nothing.
 use mathlib.Core.Path.{_∙_}
 use borrow.Author.Needs.{needs}
-use Rattle.sheet_writer.proofs.number.Laws.{held, given-at}
+use Rattle.sheet_writer.proofs.number.Laws.{same-i32, given-at}
 use Rattle.sheet_writer.proofs.number.number_at.Statement.{statement}
 use Rattle.sheet_writer.proofs.number.number_at.Tie as tie
 
@@ -17,7 +17,7 @@ signed-of-requires c κs = search needs
 returns : tie.Need-returns
 returns c =
     let at-start = c .before .before .before in
-    held (c .signed-of .result) (c .signed-of .ok)
+    same-i32 (c .signed-of .result) (c .signed-of .ok)
     ∙ c .signed-of .ensures
     ∙ given-at (at-start .args .content .now) (at-start .args .i) (c .before .read-u32 .result) (at-start .pre)
     (c .before .read-u32 .ensures)

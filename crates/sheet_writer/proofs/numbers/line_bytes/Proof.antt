@@ -7,13 +7,13 @@ use lib.ListN.{length}
 use borrow.Author.Needs.{needs}
 use Rattle.adaptive.specs.Number.{signed, shortest}
 use Rattle.sheet_format.specs.Kind.ContourLine.{givenNumbers}
-use Rattle.sheet_writer.proofs.number.Laws.{held, length-given}
-use Rattle.sheet_writer.proofs.numbers.Laws.{Reached, reached-none, reached-more, reached-most, reached-all}
+use Rattle.sheet_writer.proofs.number.Laws.{same-i32, length-given}
+use Rattle.sheet_writer.proofs.numbers.Laws.{NumbersReached, reached-none, reached-more, reached-most, reached-all}
 use Rattle.sheet_writer.proofs.numbers.line_bytes.Statement.{statement}
 use Rattle.sheet_writer.proofs.numbers.line_bytes.Tie as tie
 
 abbrev Inv-loop : tie.InvT-loop
-Inv-loop content n bytes₀ i₀ bytes i = Reached (givenNumbers content) bytes i
+Inv-loop content n bytes₀ i₀ bytes i = NumbersReached (givenNumbers content) bytes i
 
 abbrev μ-loop : tie.MeasureT-loop
 μ-loop content n bytes₀ i₀ bytes i = length content / 4 - i
@@ -35,7 +35,7 @@ loop-again c =
     let number = c .before .number-at in
     let size =
     c .number-bytes .ensures
-    ∙ ap (λ z. length (shortest signed z)) (held (number .result) (number .ok) ∙ number .ensures) in
+    ∙ ap (λ z. length (shortest signed z)) (same-i32 (number .result) (number .ok) ∙ number .ensures) in
     reached-more (givenNumbers s) (at-loop .loop .i) (omega (arith, length-given s)) (at-loop .loop .bytes) (at-loop .loop .inv)
     (c .number-bytes .result) size
 

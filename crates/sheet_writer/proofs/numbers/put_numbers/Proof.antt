@@ -5,14 +5,14 @@ use Prim.Native.Nat.{_<_, _-_, _/_}
 use native.Mathlib.Omega.{arith}
 use lib.ListN.{length}
 use borrow.Author.Needs.{needs}
-use Turn.{Putting, putting-none, putting-room, putting-more, putting-all}
+use Turn.{PuttingNumbers, putting-none, putting-room, putting-more, putting-all}
 use Rattle.sheet_format.specs.Kind.ContourLine.{givenNumbers}
 use Rattle.sheet_writer.proofs.number.Laws.{length-given, wrote-number}
 use Rattle.sheet_writer.proofs.numbers.put_numbers.Statement.{statement}
 use Rattle.sheet_writer.proofs.numbers.put_numbers.Tie as tie
 
 abbrev Inv-loop : tie.InvT-loop
-Inv-loop content out₀ n at₀ i₀ out at i = Putting (givenNumbers content) out₀ out at i
+Inv-loop content out₀ n at₀ i₀ out at i = PuttingNumbers (givenNumbers content) out₀ out at i
 
 abbrev μ-loop : tie.MeasureT-loop
 μ-loop content out₀ n at₀ i₀ out at i = length content / 4 - i

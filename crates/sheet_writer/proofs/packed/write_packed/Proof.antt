@@ -11,6 +11,7 @@ use Rattle.row_format.specs.Calls.{packed}
 use Rattle.sheet_format.specs.Context.{Heading, Context, stateOf, contextOf}
 use Rattle.sheet_format.specs.Context.Laws.{stateOf-contextOf}
 use Rattle.sheet_format.specs.Kind.Row.{rowPlace}
+use Rattle.sheet_format.specs.Kind.Row.Laws.{rowPlace-small}
 use Rattle.sheet_writer.proofs.Frame.{frame-refused}
 use Rattle.sheet_writer.proofs.packed.Laws.{Ran, table-lent, packed-frame, pack-refused, pack-short, pack-few, pack-most, pack-done}
 use Rattle.sheet_writer.proofs.packed.write_packed.Statement.{statement}
@@ -68,7 +69,7 @@ returns c =
     let a = at-start .args in
     let place = at-row-place .row-place in
     let is = state-is at-start in
-    frame-refused (packed-frame (heading at-start) (context at-start) (a .content .now)) (a .out .now) is (place .result)
+    frame-refused (packed-frame (heading at-start) (context at-start) (a .content .now)) (a .out .now) (place .result)
     (given-first _ _ (place .ensures (context at-start) is) (c .before .if1 .taken)) (c .before .if1 .taken) (c .refused .ensures)
 
 lesser-requires : tie.Need-lesser-requires
@@ -95,8 +96,7 @@ same-length c = search needs
 returns-2 : tie.Need-returns-2
 returns-2 c =
     let at-pack = c .before .before .before .before .before in
-    let is = state-is (entry (at-pack .before .before .before)) in
-    pack-refused (ran at-pack) is (c .before .if2 .taken) (c .refused2 .ensures)
+    pack-refused (ran at-pack) (c .before .if2 .taken) (c .refused2 .ensures)
 
 refused-requires-3 : tie.Need-refused-requires-3
 refused-requires-3 c κs = search needs
@@ -108,8 +108,7 @@ returns-3 : tie.Need-returns-3
 returns-3 c =
     let at-if2 = c .before .before in
     let at-pack = at-if2 .before .before .before .before in
-    let is = state-is (entry (at-pack .before .before .before)) in
-    pack-short (ran at-pack) (at-if2 .if2 .left) is (c .before .if3 .taken) (c .refused3 .ensures)
+    pack-short (ran at-pack) (at-if2 .if2 .left) (c .before .if3 .taken) (c .refused3 .ensures)
 
 add-words : tie.Need-add-words
 add-words c = omega (arith, pack-most (ran (c .before .before .before .before .before .before)) (c .before .before .if2 .left))
@@ -145,7 +144,12 @@ cast-written c =
     omega (arith, pack-most (ran at-pack) (at-if2 .if2 .left))
 
 after-row-requires : tie.Need-after-row-requires
-after-row-requires c κs = search needs
+after-row-requires c κs =
+    let at-put-row-fields = c .before .before in
+    let at-if2 = at-put-row-fields .before .before .before .before in
+    let at-pack = at-if2 .before .before .before .before in
+    let at-if1 = at-pack .before .before .before in
+    rowPlace-small (context (entry at-if1)) (heading (entry at-if1)) (placed at-if1)
 
 written-requires : tie.Need-written-requires
 written-requires c κs = search needs

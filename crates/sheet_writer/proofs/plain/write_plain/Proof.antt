@@ -1,19 +1,20 @@
 -- `sheet_writer::plain::write_plain` meets its contract: refused by its number or for room, or the pixels behind the fields.
 -- Assumes nothing.
-use Prim.Native.Nat.{_/_, _+_, _≤_}
+use Prim.Native.Nat.{_/_, _+_, _≤_, _<_}
 use native.Mathlib.Omega.{arith}
 use mathlib.Core.List.{[]}
 use mathlib.Core.Path.{_≡_, _∙_, sym}
 use lib.ListN.{length, length-drop}
 use borrow.Author.Needs.{needs}
 use Rattle.bitstream.specs.Memory.Part.{part-is}
-use Rattle.answer.specs.Outcome.Laws.{orElse-zero-right}
+use Rattle.answer.specs.Outcome.Laws.{orElse-zero-left, orElse-zero-right}
 use Rattle.sheet_format.specs.Context.{Heading, Context, stateOf, contextOf}
 use Rattle.sheet_format.specs.Context.Laws.{stateOf-contextOf}
 use Rattle.sheet_format.specs.Kind.Row.{rowPlace}
+use Rattle.sheet_format.specs.Kind.Row.Laws.{rowPlace-small}
 use Rattle.sheet_format.specs.Kind.PlainRow.{plainKind}
-use Rattle.sheet_writer.specs.Judged.{judged}
-use Rattle.sheet_writer.proofs.Frame.{copied, frame-refused, frame-full, frame-passed, frame-done}
+use Rattle.sheet_writer.specs.BeforeRoom.{beforeRoom}
+use Rattle.sheet_writer.proofs.Frame.{all-copied, frame-refused, frame-full, frame-passed, frame-done}
 use Rattle.sheet_writer.proofs.plain.Laws.{wholePixels, length-wholePixels, plain-frame, plain-few}
 use Rattle.sheet_writer.proofs.plain.write_plain.Statement.{statement}
 use Rattle.sheet_writer.proofs.plain.write_plain.Tie as tie
@@ -26,16 +27,25 @@ abbrev heading : tie.Start → Heading
 heading c = record { row = c .args .row }
 
 passed : (c : tie.Else1) (x : Context) → stateOf x ≡ entry c .args .state
-    → judged plainKind (heading (entry c)) x (entry c .args .content .now) ≡ 0
+    → beforeRoom plainKind (heading (entry c)) x (entry c .args .content .now) ≡ 0
 passed c x is = sym (c .before .plain-number .ensures x is) ∙ c .if1 .left
 
 -- by any one sheet that the state is kept of
+abbrev any-sheet : tie.Else1 → Context
+any-sheet c = contextOf [] (entry c .args .state)
+
+passed-any : (c : tie.Else1) → beforeRoom plainKind (heading (entry c)) (any-sheet c) (entry c .args .content .now) ≡ 0
+passed-any c = passed c (any-sheet c) (stateOf-contextOf [] (entry c .args .state))
+
+small : (c : tie.Else1) → entry c .args .row < 65536
+small c =
+    let h = heading (entry c) in
+    rowPlace-small (any-sheet c) h (orElse-zero-left (rowPlace (any-sheet c) h) _ (passed-any c))
+
 few : (c : tie.Else1) → length (entry c .args .content .now) / 2 ≤ 4096
 few c =
-    let st = entry c .args .state in
-    let x = contextOf [] st in
-    plain-few (heading (entry c)) x (entry c .args .content .now)
-    (orElse-zero-right (rowPlace x (heading (entry c))) _ (passed c x (stateOf-contextOf [] st)))
+    let h = heading (entry c) in
+    plain-few h (any-sheet c) (entry c .args .content .now) (orElse-zero-right (rowPlace (any-sheet c) h) _ (passed-any c))
 
 plain-number-requires : tie.Need-plain-number-requires
 plain-number-requires c κs = search needs
@@ -47,7 +57,7 @@ returns : tie.Need-returns
 returns c = λ x is.
     let at-plain-number = c .before .before in
     let at-start = at-plain-number .before .before .before in
-    frame-refused (plain-frame (heading at-start) x (at-start .args .content .now)) (at-start .args .out .now) is
+    frame-refused (plain-frame (heading at-start) x (at-start .args .content .now)) (at-start .args .out .now)
     (at-plain-number .plain-number .result) (at-plain-number .plain-number .ensures x is) (c .before .if1 .taken)
     (c .refused .ensures)
 
@@ -64,7 +74,7 @@ returns-2 : tie.Need-returns-2
 returns-2 c = λ x is.
     let at-if1 = c .before .before in
     let a = entry at-if1 .args in
-    frame-full (plain-frame (heading (entry at-if1)) x (a .content .now)) (a .out .now) is (passed at-if1 x is)
+    frame-full (plain-frame (heading (entry at-if1)) x (a .content .now)) (a .out .now) (passed at-if1 x is)
     (omega (arith, length-wholePixels (a .content .now), c .before .if2 .taken)) (c .refused2 .ensures)
 
 slice-aggregate-copy : tie.Need-slice-aggregate-copy
@@ -103,7 +113,10 @@ cast-written c =
     omega (arith, few (at-copy .before .before .before .before))
 
 after-row-requires : tie.Need-after-row-requires
-after-row-requires c κs = search needs
+after-row-requires c κs =
+    let at-put-row-fields = c .before .before in
+    let at-copy = at-put-row-fields .before .before .before .before in
+    small (at-copy .before .before .before .before)
 
 written-requires : tie.Need-written-requires
 written-requires c κs = search needs
@@ -126,7 +139,7 @@ returns-3 c = λ x is.
     (c .before .after-row .ensures x (a .content .now) is) (rw (length-wholePixels (a .content .now)) (c .written .ensures))
     (at-copy .copy .last .1 .0)
     (at-put-row-fields .put-row-fields .last .1 .1 .1 .1 .0)
-    (copied (wholePixels (a .content .now)) _ _ (at-copy .copy .ensures .1)) (at-put-row-fields .put-row-fields .ensures)
+    (all-copied (wholePixels (a .content .now)) _ _ (at-copy .copy .ensures .1)) (at-put-row-fields .put-row-fields .ensures)
 
 pub write-plain-spec : {M : Type 1} → statement M
 write-plain-spec =

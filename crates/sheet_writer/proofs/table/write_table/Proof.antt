@@ -11,8 +11,8 @@ use Rattle.sheet_format.specs.Context.{Heading, noHeading, Context, stateOf, co
 use Rattle.sheet_format.specs.Context.Laws.{stateOf-contextOf}
 use Rattle.sheet_format.specs.Kind.Table.{tablePlace, tableKind}
 use Rattle.sheet_format.specs.Kind.Table.Laws.{table-most, table-lawful}
-use Rattle.sheet_writer.specs.Judged.{judged}
-use Rattle.sheet_writer.proofs.Frame.{copied, frame-refused, frame-full, frame-passed, frame-done}
+use Rattle.sheet_writer.specs.BeforeRoom.{beforeRoom}
+use Rattle.sheet_writer.proofs.Frame.{all-copied, frame-refused, frame-full, frame-passed, frame-done}
 use Rattle.sheet_writer.proofs.table.Laws.{table-frame}
 use Rattle.sheet_writer.proofs.table.write_table.Statement.{statement}
 use Rattle.sheet_writer.proofs.table.write_table.Tie as tie
@@ -22,7 +22,7 @@ abbrev entry : tie.Else1 → tie.Start
 entry c = c .before .before .before .before
 
 passed : (c : tie.Else1) (x : Context) (h : Heading) → stateOf x ≡ entry c .args .state
-    → judged tableKind h x (entry c .args .content .now) ≡ 0
+    → beforeRoom tableKind h x (entry c .args .content .now) ≡ 0
 passed c x h is = sym (c .before .table-number .ensures x h is) ∙ c .if1 .left
 
 -- by any one sheet that the state is kept of
@@ -43,7 +43,7 @@ returns : tie.Need-returns
 returns c = λ x h is.
     let at-table-number = c .before .before in
     let a = at-table-number .before .before .before .args in
-    frame-refused (table-frame h x (a .content .now)) (a .out .now) is (at-table-number .table-number .result)
+    frame-refused (table-frame h x (a .content .now)) (a .out .now) (at-table-number .table-number .result)
     (at-table-number .table-number .ensures x h is) (c .before .if1 .taken) (c .refused .ensures)
 
 add-record-bytes : tie.Need-add-record-bytes
@@ -56,7 +56,7 @@ returns-2 : tie.Need-returns-2
 returns-2 c = λ x h is.
     let at-if1 = c .before .before in
     let a = entry at-if1 .args in
-    frame-full (table-frame h x (a .content .now)) (a .out .now) is (passed at-if1 x h is) (c .before .if2 .taken)
+    frame-full (table-frame h x (a .content .now)) (a .out .now) (passed at-if1 x h is) (c .before .if2 .taken)
     (c .refused2 .ensures)
 
 sub-copy : tie.Need-sub-copy
@@ -104,7 +104,7 @@ returns-3 c = λ x h is.
     let first = table-lawful .table-placed refl x h (orElse-zero-left (tablePlace x h) _ (passed at-if1 x h is)) in
     frame-done frame m (frame-passed frame m (passed at-if1 x h is) (at-if2 .if2 .left)) (omega arith)
     (c .before .after-table .ensures x h (a .content .now) is first) (c .written .ensures) (at-copy .copy .last .1 .0)
-    (at-put-record-fields .put-record-fields .last .1 .1 .0) (copied (a .content .now) _ _ (at-copy .copy .ensures .1))
+    (at-put-record-fields .put-record-fields .last .1 .1 .0) (all-copied (a .content .now) _ _ (at-copy .copy .ensures .1))
     (at-put-record-fields .put-record-fields .ensures)
 
 pub write-table-spec : {M : Type 1} → statement M

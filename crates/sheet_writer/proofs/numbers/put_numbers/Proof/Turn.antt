@@ -10,28 +10,28 @@ use Rattle.bitstream.specs.Memory.Part.{partFrom, withPart, part-is, part-back}
 use Rattle.answer.specs.declared.Answer.{Answer}
 use Rattle.sheet_format.specs.Line.{lineBytes}
 use Rattle.sheet_writer.proofs.number.Laws.{Wrote}
-use Rattle.sheet_writer.proofs.numbers.Laws.{bytesAt, lineBytes-next, Reached, reached-none, reached-more, reached-room, reached-all}
+use Rattle.sheet_writer.proofs.numbers.Laws.{bytesAt, lineBytes-next, NumbersReached, reached-none, reached-more, reached-room, reached-all}
 
 -- the first i of the numbers vs are put: m was the memory, o it is now
-pub record Putting (vs : List ℤ) (m o : List ℕ) (at i : ℕ) : Type 0 where
-  pub reached : Reached vs at i
+pub record PuttingNumbers (vs : List ℤ) (m o : List ℕ) (at i : ℕ) : Type 0 where
+  pub reached : NumbersReached vs at i
   pub memory : o ≡ lineBytes (take i vs) ++ drop at m
   pub size : length o ≡ length m
   pub inside : at ≤ length o
 
 module _ (vs : List ℤ) (m : List ℕ) where
-  pub putting-none : Putting vs m m 0 0
+  pub putting-none : PuttingNumbers vs m m 0 0
   unfolding lineBytes
   putting-none = record { reached = reached-none vs; memory = refl; size = refl; inside = omega arith }
 
-  module _ (o : List ℕ) (at i : ℕ) (p : Putting vs m o at i) where
+  module _ (o : List ℕ) (at i : ℕ) (p : PuttingNumbers vs m o at i) where
     module _ (room : length (lineBytes vs) ≤ length m) (h : i < length vs) where
       pub putting-room : length (bytesAt vs i) ≤ length (partFrom at o)
       putting-room = rw (part-is at o) (omega (arith, length-drop at o, p .size, reached-room vs i h at (p .reached)))
 
       pub putting-more : (y : List ℕ) (r : Answer) → Wrote (getD vs i (pos 0)) (partFrom at o) r y
           → length (withPart at o y) ≡ length o
-          → Putting vs m (withPart at o y) (at + r .count) (i + 1)
+          → PuttingNumbers vs m (withPart at o y) (at + r .count) (i + 1)
       putting-more y r w same =
           let b = bytesAt vs i in
           let front = lineBytes (take i vs) in

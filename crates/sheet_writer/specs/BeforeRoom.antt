@@ -6,5 +6,5 @@ use Rattle.sheet_format.specs.Context.{Heading, Context}
 use Rattle.sheet_format.specs.Kind.{Kind}
 
 -- the number of a record of a known kind, but for 5
-abbrev pub judged : Kind → Heading → Context → List ℕ → ℕ
-judged k h c x = k .place c h orElse k .given h c x
+abbrev pub beforeRoom : Kind → Heading → Context → List ℕ → ℕ
+beforeRoom k h c x = k .place c h orElse k .given h c x

@@ -10,7 +10,7 @@ use mathlib.Core.Logic.{_↔_}
 use lib.ListN.{length, take, drop, getD}
 use lib.Dec.{eqb}
 use Rattle.bitstream.specs.Bits.{halvesOf, Below}
-use Rattle.answer.specs.Outcome.{writes, Kept, Within}
+use Rattle.answer.specs.Outcome.{outcome, writes, Kept, Within}
 use Rattle.row_format.specs.Lists.{any}
 use Rattle.row_format.specs.Table.{tableNumber}
 use Rattle.sheet_format.specs.declared.SheetState.{SheetState}
@@ -25,6 +25,7 @@ use Rattle.sheet_format.specs.Writing.{writtenNumbers, notWritten, recor
 use Rattle.sheet_format.specs.Sheet.{SheetRecord, ReadFrom, endsWith, putFirst, recordHere, restNext, records, sheetRead, recordHolds, numbersHeld, storedRows, storedLines, absent, present, heightsOf, recordKinds, rowNumbers}
 use Rattle.sheet_format.specs.Sheet.Laws.{records-end, records-refused, records-more}
 use Rattle.sheet_format.specs.Given.{recordGiven, Write, AllDone, sheetBytes, sheetGiven}
+use RowNumber.{recordWritten-above, recordWritten-rowless}
 use Written.{read-written, judged-written, table-written, length-written, granted-written, full-written}
 use Memory.{recordJudged-refused, recordRead-kept, recordWritten-kept, recordWritten-within}
 use Locality.{record-alike, span-alike}
@@ -37,6 +38,7 @@ use State.{contextAfter-kept}
 use Stored.{stored-heights, stored-numbers, stored-absent, stored-read, sheetRead-read}
 pub mod ReadBack
 pub mod Written
+pub mod RowNumber
 pub mod Memory
 pub mod Locality
 pub mod Room
@@ -73,6 +75,16 @@ module _ (code : ℕ) (h : Heading) (c : Context) (x m : List ℕ) (bytes : Belo
       let w = recordWritten code h c x m in
       (6 ≤ w .answer .count) × (w .answer .count ≤ 32778)
   written-length = length-written code h c x m bytes done
+
+-- No row number is cut down: one that is above 65535, which a record cannot hold, is refused 16, whatever the content. A kind
+-- without a row writes the same whatever number is given.
+pub written-row-above : (code : ℕ) (h : Heading) (c : Context) (x m : List ℕ) → kindOf code .holds ≡ aRow → 65535 < h .row
+    → kindOf code .writable ≡ 0 → recordWritten code h c x m ≡ outcome (notWritten 16) m
+written-row-above = recordWritten-above
+
+pub written-rowless : (code : ℕ) (h g : Heading) (c : Context) (x m : List ℕ) → (kindOf code .holds ≡ aRow → ⊥)
+    → recordWritten code h c x m ≡ recordWritten code g c x m
+written-rowless = recordWritten-rowless
 
 -- A sheet of written records, each done in what the one before left, is accepted, and its records are those.
 pub written-sheet : (w : Write) (ws : List Write) → AllDone newSheet (w ∷ ws)

@@ -1,5 +1,5 @@
 -- What every kind of record owes, so that all that is proved of records is proved once, over a lawful kind. Assumes nothing.
-use Prim.Native.Nat.{ℕ, _*_, _≤_}
+use Prim.Native.Nat.{ℕ, _*_, _≤_, _<_}
 use mathlib.Core.Path.{_≡_}
 use mathlib.Core.List.{List}
 use lib.ListN.{length}
@@ -71,6 +71,12 @@ pub record Back (k : Kind) (h : Heading) (c : Context) (x b : List ℕ) : Type 0
   pub after : afterRecord (k .holds) (k .heading b) b c ≡ afterRecord (k .holds) h x c
   pub short : length b ≤ 32772
 
+-- two headings that writing does not tell apart
+pub record SameWriting (k : Kind) (h g : Heading) (c : Context) (x : List ℕ) : Type 0 where
+  pub place : k .place c h ≡ k .place c g
+  pub given : k .given h c x ≡ k .given g c x
+  pub body : k .body h c x ≡ k .body g c x
+
 pub record Lawful (k : Kind) : Type 1 where
   -- ---- the body's own refusals ask for room once, and before that bound the content
   pub first : Context → List ℕ → ℕ
@@ -85,6 +91,8 @@ pub record Lawful (k : Kind) : Type 1 where
   pub table-before : (k .holds ≡ aTable → ⊥) → k .readable ≡ 0 → (c : Context) (h : Heading) → k .place c h ≡ 0
       → length (c .tables) ≡ 0 → ⊥
   pub row-risen : k .holds ≡ aRow → (c : Context) (h : Heading) → k .place c h ≡ 0 → c .least ≤ h .row
+  pub row-small : k .holds ≡ aRow → (c : Context) (h : Heading) → k .place c h ≡ 0 → h .row < 65536
+  pub rowless : (k .holds ≡ aRow → ⊥) → (h g : Heading) (c : Context) (x : List ℕ) → SameWriting k h g c x
   -- ---- numbers: what document 01 lists, and nothing else
   pub readable-in : (P : ℕ → Type 0) → ListedBody P → P (k .readable)
   pub writable-in : (P : ℕ → Type 0) → ListedGiven P → P (k .writable)

@@ -27,6 +27,8 @@ unknown-lawful = record {
   table-placed = λ e c h place. absurd (let z : _≡_ {A = ℕ} 0 1 = cc in omega arith);
   table-before = λ other readable c h place none. absurd (omega arith);
   row-risen = λ e c h place. absurd (let z : _≡_ {A = ℕ} 0 1 = cc in omega arith);
+  row-small = λ e c h place. absurd (let z : _≡_ {A = ℕ} 0 1 = cc in omega arith);
+  rowless = λ other h g c x. record { place = refl; given = refl; body = refl };
   readable-in = λ P l. l .p15;
   writable-in = λ P l. l .p15;
   fixed-in = λ P l b. l .p0;

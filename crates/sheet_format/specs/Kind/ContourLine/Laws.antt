@@ -159,7 +159,7 @@ lineOwn-in P l m room c b =
     (room (4 * n))
 
 pub line-lawful : Lawful lineKind
-unfolding linePlace lineGivenNumber
+unfolding linePlace lineGivenNumber lineBody
 line-lawful = record {
   first = λ c b. lineNumber b;
   last = λ c b. 0;
@@ -170,6 +170,8 @@ line-lawful = record {
   table-placed = λ e c h place. absurd (let z : _≡_ {A = ℕ} 0 1 = cc in omega arith);
   table-before = λ other readable c h place. noTable-zero c place;
   row-risen = λ e c h place. absurd (let z : _≡_ {A = ℕ} 0 1 = cc in omega arith);
+  row-small = λ e c h place. absurd (let z : _≡_ {A = ℕ} 0 1 = cc in omega arith);
+  rowless = λ other h g c x. record { place = refl; given = refl; body = refl };
   readable-in = λ P l. l .p0;
   writable-in = λ P l. l .p0;
   fixed-in = λ P l b. refuseIf-in P (ltb (length b) 2) 14 (l .p0) (l .p14);

@@ -57,6 +57,8 @@ table-lawful = record {
   table-placed = λ e c h place. unequalNumber-zero (length (c .tables)) 0 15 place;
   table-before = λ other readable c h place none. other refl;
   row-risen = λ e c h place. absurd (let z : _≡_ {A = ℕ} 0 1 = cc in omega arith);
+  row-small = λ e c h place. absurd (let z : _≡_ {A = ℕ} 0 1 = cc in omega arith);
+  rowless = λ other h g c x. record { place = refl; given = refl; body = refl };
   readable-in = λ P l. l .p0;
   writable-in = λ P l. l .p0;
   fixed-in = λ P l b. refuseIf-in P (not (eqb (length b % 4) 0)) 14 (l .p0) (l .p14);

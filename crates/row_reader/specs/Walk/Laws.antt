@@ -235,6 +235,7 @@ module _ (tb wb : List ℕ) where
       where
         Possible′ : ItemRead → Type 0
         Possible′ r = r .number ≡ 0 → impossible (r .place) ≡ false
+
         by-read : Stands pl → (rd : Reading) → readingAt tb wb pl ≡ rd → FaultIn (λ e. e ≡ 0 → ⊥) rd
             → Possible′ (given pl (stateOf (pl .progress)) rd)
         by-read st (item i u) e some h =

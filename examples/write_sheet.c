@@ -1,7 +1,7 @@
 /*
  * Writes a small sheet to standard output: the plain table, two packed rows and
  * a contour line. The sheet is built record by record in memory; each call is
- * given the state that the call before it answered.
+ * given the state that the last done call answered.
  */
 #include <stdint.h>
 #include <stdio.h>
@@ -25,6 +25,7 @@ static int append(uint32_t kind, uint16_t row_number, const uint8_t *content, si
     struct tahliruz_written written =
         tahliruz_write_record(kind, row_number, content, content_len, table, sizeof table, state,
                               sheet + sheet_len, sizeof sheet - sheet_len);
+    /* A refusal answers no state: the sheet's is kept as it is. */
     if (written.number != TAHLIRUZ_DONE) {
         fprintf(stderr, "write_sheet: record of kind %u: refused %u\n", (unsigned)kind,
                 (unsigned)written.number);

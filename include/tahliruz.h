@@ -267,9 +267,11 @@ enum tahliruz_kind {
 
 /*
  * What a sheet holds so far. It is { 0, 0 } before the first record; after that
- * it is the state that the call for the record before has answered. least_row is
- * the least number that the next row may have: the last row's number plus 1, up
- * to 65536, after which no row can come. A record is out of place, 16, if it is
+ * it is the state that the last call that was done has answered. A refused call
+ * answers { 0, 0 }, and the sheet still holds what it held: keep the state that
+ * was given. least_row is the least number that the next row may have: the last
+ * row's number plus 1, up to 65536, after which no row can come. A record is out
+ * of place, 16, if it is
  *  - a table, and has_table is not 0;
  *  - no table, and has_table is 0;
  *  - a row whose number is below least_row.
@@ -281,7 +283,7 @@ struct tahliruz_sheet {
 
 /*
  * What judging or reading a record answers. What a kind does not have is 0. A
- * refusal has 0 in all fields but number and state, which is as it was given.
+ * refusal has 0 in all fields but number, in the state's too.
  */
 struct tahliruz_record {
     uint32_t number;
@@ -291,7 +293,7 @@ struct tahliruz_record {
     uint32_t bits;          /* kind 2: the bits used */
     uint32_t words;         /* kind 2: the words used */
     uint32_t length;        /* the bytes of the whole record: the next one starts there */
-    struct tahliruz_sheet state;    /* after the record */
+    struct tahliruz_sheet state;    /* after the record; { 0, 0 } where it is refused */
 };
 
 /*
@@ -360,11 +362,11 @@ struct tahliruz_record tahliruz_read_record(const uint8_t *table, size_t table_l
                                             struct tahliruz_sheet state,
                                             uint8_t *content, size_t content_len);
 
-/* What writing a record answers. A refusal has the count 0 and the state as it was given. */
+/* What writing a record answers. A refusal has 0 in all fields but number, in the state's too. */
 struct tahliruz_written {
     uint32_t number;
     uint32_t count;
-    struct tahliruz_sheet state;    /* after the record */
+    struct tahliruz_sheet state;    /* after the record; { 0, 0 } where it is refused */
 };
 
 /*

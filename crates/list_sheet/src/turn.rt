@@ -48,8 +48,8 @@ pub fn begin() -> Progress
 {
     Progress {
         state: SheetState {
-            tables: 0,
-            least: 0,
+            has_table: 0,
+            least_row: 0,
         },
         kept: 0,
         filled: 0,

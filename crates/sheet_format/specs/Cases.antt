@@ -33,7 +33,7 @@ empty = stateOf newSheet
 
 -- a sheet that has its table, and may have row 5 next
 abbrev pub begun : SheetState
-begun = record { tables = 1; least = 5 }
+begun = record { «has_table» = 1; «least_row» = 5 }
 
 -- named on an `unfolding` line, these open all that reading and writing compute with
 numbering : Unit {0}

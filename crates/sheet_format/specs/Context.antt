@@ -26,10 +26,14 @@ abbrev pub tableFor : Context → Heading → List ℕ
 tableFor c h = getD (c .tables) 0 []
 
 -- ---- by value
+-- what a refusal has in a state's place: "zero for every count and value"
+abbrev pub noState : SheetState
+noState = record { «has_table» = 0; «least_row» = 0 }
+
 -- what a caller keeps of it
 abbrev pub stateOf : Context → SheetState
-stateOf c = record { tables = length (c .tables); least = c .least }
+stateOf c = record { «has_table» = length (c .tables); «least_row» = c .least }
 
 -- what the state and the one table that is lent say of it: each table counted is the one that is lent
 abbrev pub contextOf : List ℕ → SheetState → Context
-contextOf tb st = record { tables = replicate (st .tables) tb; least = st .least }
+contextOf tb st = record { tables = replicate (st .«has_table») tb; least = st .«least_row» }

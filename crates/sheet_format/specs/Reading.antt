@@ -6,9 +6,8 @@ use mathlib.Core.List.{List, [], _∷_}
 use lib.ListN.{length}
 use Rattle.bitstream.specs.Bits.{wordsFor}
 use Rattle.answer.specs.Outcome.{Outcome, outcome, writes, unless, nothing, lent}
-use Rattle.sheet_format.specs.declared.SheetState.{SheetState}
 use Rattle.sheet_format.specs.declared.RecordRead.{RecordRead}
-use Rattle.sheet_format.specs.Context.{Context, stateOf}
+use Rattle.sheet_format.specs.Context.{Context, noState, stateOf}
 use Rattle.sheet_format.specs.Kind.{Kind, afterRecord}
 use Rattle.sheet_format.specs.Kinds.{kindOf}
 use Rattle.sheet_format.specs.Record.{lengthField, kindField, bodyOf, recordNumber}
@@ -52,16 +51,16 @@ contextAfter c r = afterBody (kindOf (kindField r)) (bodyOf r) c
 abbrev pub judgedNumbers : List ℕ
 judgedNumbers = 0 ∷ 14 ∷ 15 ∷ 16 ∷ 1 ∷ 2 ∷ 3 ∷ 11 ∷ 6 ∷ 7 ∷ 8 ∷ 9 ∷ 10 ∷ 4 ∷ 12 ∷ 13 ∷ []
 
--- "Every refusal returns 0 for all counts and values"; the state is as given
-abbrev pub refusedRecord : SheetState → ℕ → RecordRead
-refusedRecord st e = record { number = e; kind = 0; row = 0; count = 0; bits = 0; words = 0; length = 0; state = st }
+-- "Every refusal returns 0 for all counts and values", the state too: a caller keeps the one that it gave
+abbrev pub refusedRecord : ℕ → RecordRead
+refusedRecord e = record { number = e; kind = 0; row = 0; count = 0; bits = 0; words = 0; length = 0; state = noState }
 
 -- a record judged: no memory is lent
 unfoldable pub recordJudged : Context → List ℕ → RecordRead
-recordJudged c r = unless (recordNumber nothing c r) (refusedRecord (stateOf c)) (recordHeld c r)
+recordJudged c r = unless (recordNumber nothing c r) refusedRecord (recordHeld c r)
 
 -- a record read: its content stands at the front of the lent memory
 unfoldable pub recordRead : Context → List ℕ → List ℕ → Outcome RecordRead
 recordRead c r m =
-    unless (recordNumber (lent (length m)) c r) (λ e. outcome (refusedRecord (stateOf c) e) m)
+    unless (recordNumber (lent (length m)) c r) (λ e. outcome (refusedRecord e) m)
     (writes (recordHeld c r) (recordContent c r) m)

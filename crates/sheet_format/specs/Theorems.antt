@@ -194,18 +194,18 @@ pub written-numbers : (code : ℕ) (h : Heading) (c : Context) (x m : List ℕ)
     → any (eqb (recordWritten code h c x m .answer .number)) writtenNumbers ≡ true
 written-numbers = recordWritten-numbers
 
--- "A refused call gives its number, zero for every count and value, and leaves the lent memory as found"; the state as given
+-- "A refused call gives its number, zero for every count and value, and leaves the lent memory as found"
 pub judged-refused-keeps : (c : Context) (r : List ℕ) → (recordJudged c r .number ≡ 0 → ⊥)
-    → recordJudged c r ≡ refusedRecord (stateOf c) (recordJudged c r .number)
+    → recordJudged c r ≡ refusedRecord (recordJudged c r .number)
 judged-refused-keeps = recordJudged-refused
 
 pub read-refused-keeps : (c : Context) (r m : List ℕ) → (recordRead c r m .answer .number ≡ 0 → ⊥)
-    → Kept (refusedRecord (stateOf c) (recordRead c r m .answer .number)) m (recordRead c r m)
+    → Kept (refusedRecord (recordRead c r m .answer .number)) m (recordRead c r m)
 read-refused-keeps = recordRead-kept
 
 pub written-refused-keeps : (code : ℕ) (h : Heading) (c : Context) (x m : List ℕ)
     → (recordWritten code h c x m .answer .number ≡ 0 → ⊥)
-    → Kept (notWritten (stateOf c) (recordWritten code h c x m .answer .number)) m (recordWritten code h c x m)
+    → Kept (notWritten (recordWritten code h c x m .answer .number)) m (recordWritten code h c x m)
 written-refused-keeps = recordWritten-kept
 
 -- "A done call writes only the pixels, words or bytes that it counts"

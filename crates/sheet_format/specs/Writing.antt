@@ -6,9 +6,8 @@ use mathlib.Core.Path.{_≡_}
 use mathlib.Core.List.{List, [], _∷_, _++_}
 use lib.ListN.{length}
 use Rattle.answer.specs.Outcome.{Outcome, outcome, writes, _orElse_, unless, lent, roomNumber}
-use Rattle.sheet_format.specs.declared.SheetState.{SheetState}
 use Rattle.sheet_format.specs.declared.RecordWritten.{RecordWritten}
-use Rattle.sheet_format.specs.Context.{Heading, Context, stateOf}
+use Rattle.sheet_format.specs.Context.{Heading, Context, noState, stateOf}
 use Rattle.sheet_format.specs.Fields.{twoBytes, fourBytes}
 use Rattle.sheet_format.specs.Kind.{afterRecord}
 use Rattle.sheet_format.specs.Kinds.{kindOf}
@@ -41,9 +40,9 @@ pub record Writable (code : ℕ) (h : Heading) (c : Context) (x : List ℕ) : Ty
   pub given : kindOf code .given h c x ≡ 0
 
 -- ---- the call
--- a refusal has 0 for the count, and the state as given
-abbrev pub notWritten : SheetState → ℕ → RecordWritten
-notWritten st e = record { number = e; count = 0; state = st }
+-- a refusal has 0 for the count and in the state: a caller keeps the one that it gave
+abbrev pub notWritten : ℕ → RecordWritten
+notWritten e = record { number = e; count = 0; state = noState }
 
 abbrev pub recordDone : ℕ → Heading → Context → List ℕ → RecordWritten
 recordDone code h c x =
@@ -51,5 +50,5 @@ recordDone code h c x =
 
 unfoldable pub recordWritten : ℕ → Heading → Context → List ℕ → List ℕ → Outcome RecordWritten
 recordWritten code h c x m =
-    unless (writeNumber code h c x (length m)) (λ e. outcome (notWritten (stateOf c) e) m)
+    unless (writeNumber code h c x (length m)) (λ e. outcome (notWritten e) m)
     (writes (recordDone code h c x) (recordFor code h c x) m)

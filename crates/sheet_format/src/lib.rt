@@ -9,17 +9,18 @@ ghost use Rattle.sheet_format.specs.Reading.{refusedRecord};
 // Document 01: "The length is 2 to 32,774": a record is four bytes more.
 pub const MAX_RECORD_BYTES: usize = 32778;
 
-// What a sheet holds so far: how many tables, of which more than 0 means that it has its one, and the least row number that
-// may come next (0 to 65536).
+// What a sheet holds so far: how many tables, of which any number but 0 means that it has its one, and the least row number
+// that may come next (0 to 65536).
 #[repr(C)]
 pub struct SheetState {
-    pub tables: u32,
-    pub least: u32,
+    pub has_table: u32,
+    pub least_row: u32,
 }
 
 // What reading a record answers: document 01's number, and where it is 0 what the record holds and the state after it. A
-// refusal has 0 for every value and the state as it was given. count is the words of a table, the pixels of a row, the
-// numbers of a line; row is for rows, bits and words for packed rows; length is the bytes of the whole record.
+// refusal has 0 for every value, the state's too: the sheet still holds what it held. count is the words of a table, the
+// pixels of a row, the numbers of a line; row is for rows, bits and words for packed rows; length is the bytes of the whole
+// record.
 #[repr(C)]
 pub struct RecordRead {
     pub number: u32,
@@ -32,9 +33,9 @@ pub struct RecordRead {
     pub state: SheetState,
 }
 
-// What reading answers for a refused record: "Every refusal returns 0 for all counts and values"; the state is as given.
-pub fn refused(number: u32, state: SheetState) -> RecordRead
-    ensures { λ r. ⌜ r ≡ refusedRecord state number ⌝ }
+// What reading answers for a refused record: "Every refusal returns 0 for all counts and values".
+pub fn refused(number: u32) -> RecordRead
+    ensures { λ r. ⌜ r ≡ refusedRecord number ⌝ }
 {
     RecordRead {
         number,
@@ -44,12 +45,15 @@ pub fn refused(number: u32, state: SheetState) -> RecordRead
         bits: 0,
         words: 0,
         length: 0,
-        state,
+        state: SheetState {
+            has_table: 0,
+            least_row: 0,
+        },
     }
 }
 
 // What writing a record answers: the number, and where it is 0 the bytes written and the state after the record. A refusal
-// has 0 for the count and the state as it was given.
+// has 0 for the count and for the state's numbers.
 #[repr(C)]
 pub struct RecordWritten {
     pub number: u32,

@@ -15,17 +15,17 @@ ghost use Rattle.sheet_format.specs.Kind.ContourLine.{linePlace};
 pub fn table_place(state: SheetState) -> u32
     ensures { λ r. ⌜ ((c : Context) (h : Heading) → stateOf c ≡ state → r ≡ tablePlace c h) ⌝ }
 {
-    if state.tables == 0 { 0 } else { 16 }
+    if state.has_table == 0 { 0 } else { 16 }
 }
 
 // A row comes after the table, and "Row numbers rise strictly": 0 or 16.
 pub fn row_place(row: u32, state: SheetState) -> u32
     ensures { λ r. ⌜ ((c : Context) → stateOf c ≡ state → r ≡ rowPlace c (record { row = row })) ⌝ }
 {
-    if state.tables == 0 {
+    if state.has_table == 0 {
         return 16;
     }
-    if row < state.least {
+    if row < state.least_row {
         return 16;
     }
     0
@@ -35,7 +35,7 @@ pub fn row_place(row: u32, state: SheetState) -> u32
 pub fn line_place(state: SheetState) -> u32
     ensures { λ r. ⌜ ((c : Context) (h : Heading) → stateOf c ≡ state → r ≡ linePlace c h) ⌝ }
 {
-    if state.tables == 0 { 16 } else { 0 }
+    if state.has_table == 0 { 16 } else { 0 }
 }
 
 // The state after the one table.
@@ -43,8 +43,8 @@ pub fn after_table(state: SheetState) -> SheetState
     ensures { λ r. ⌜ ((c : Context) (h : Heading) (b : List ℕ) → stateOf c ≡ state → length (c .tables) ≡ 0 → r ≡ stateOf (afterRecord aTable h b c)) ⌝ }
 {
     SheetState {
-        tables: 1,
-        least: state.least,
+        has_table: 1,
+        least_row: state.least_row,
     }
 }
 
@@ -54,7 +54,7 @@ pub fn after_row(row: u32, state: SheetState) -> SheetState
     ensures { λ r. ⌜ ((c : Context) (b : List ℕ) → stateOf c ≡ state → r ≡ stateOf (afterRecord aRow (record { row = row }) b c)) ⌝ }
 {
     SheetState {
-        tables: state.tables,
-        least: row + 1,
+        has_table: state.has_table,
+        least_row: row + 1,
     }
 }

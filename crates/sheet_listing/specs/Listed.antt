@@ -6,9 +6,8 @@ use mathlib.Core.List.{List}
 use lib.ListN.{length}
 use Rattle.answer.specs.declared.Answer.{Answer}
 use Rattle.answer.specs.Outcome.{Outcome, outcome, writes, refused, wrote, _orElse_, unless, lent, roomNumber}
-use Rattle.sheet_format.specs.declared.SheetState.{SheetState}
 use Rattle.sheet_format.specs.declared.RecordRead.{RecordRead}
-use Rattle.sheet_format.specs.Context.{Context, stateOf}
+use Rattle.sheet_format.specs.Context.{Context}
 use Rattle.sheet_format.specs.Reading.{refusedRecord, recordJudged}
 use Rattle.sheet_format.specs.Sheet.{recordHere}
 use Rattle.sheet_listing.specs.declared.Listed.{Listed}
@@ -24,18 +23,18 @@ unfoldable pub lineGiven : List ℕ → List ℕ → Outcome Answer
 lineGiven l m = unless (noRoom l m) (λ e. refused e m) (wrote (length l) l m)
 
 -- ---- a record judged, and its line at the front of the memory
-abbrev pub notListed : SheetState → ℕ → Listed
-notListed st e = record { read = refusedRecord st e; count = 0 }
+abbrev pub notListed : ℕ → Listed
+notListed e = record { read = refusedRecord e; count = 0 }
 
 -- by the number that it is refused with, the record's or 5, and what was judged
-abbrev pub judgedListed : ℕ → SheetState → RecordRead → List ℕ → List ℕ → Outcome Listed
-judgedListed e st a l m = unless e (λ k. outcome (notListed st k) m) (writes (record { read = a; count = length l }) l m)
+abbrev pub judgedListed : ℕ → RecordRead → List ℕ → List ℕ → Outcome Listed
+judgedListed e a l m = unless e (λ k. outcome (notListed k) m) (writes (record { read = a; count = length l }) l m)
 
 -- an accepted record with the line l
-abbrev pub lineListed : List ℕ → RecordRead → SheetState → List ℕ → Outcome Listed
-lineListed l a st m = judgedListed (noRoom l m) st a l m
+abbrev pub lineListed : List ℕ → RecordRead → List ℕ → Outcome Listed
+lineListed l a m = judgedListed (noRoom l m) a l m
 
 unfoldable pub recordListed : Context → List ℕ → List ℕ → Outcome Listed
 recordListed c r m =
     let l : List ℕ = recordLine (recordHere c r) in
-    judgedListed (recordJudged c r .number orElse noRoom l m) (stateOf c) (recordJudged c r) l m
+    judgedListed (recordJudged c r .number orElse noRoom l m) (recordJudged c r) l m

@@ -41,13 +41,13 @@ pub fn list_record(table: &[u8], sheet: &[u8], state: SheetState, out: &mut [u8]
     }
     let end = read.length as usize;
     let body = &sheet[6..end];
-    list_accepted(read, body, state, out)
+    list_accepted(read, body, out)
 }
 
 // The same of a record that is accepted.
-fn list_accepted(read: RecordRead, body: &[u8], state: SheetState, out: &mut [u8]) -> Listed
+fn list_accepted(read: RecordRead, body: &[u8], out: &mut [u8]) -> Listed
     requires { ⌜ (read .kind ≡ 1 → tableNumber (now body) ≡ 0) ⌝ }
-    ensures listed { λ r. ⌜ outcome r (now (out .exit)) ≡ lineListed (answerLine read (now (body .entry))) read state (now (out .entry)) ⌝ }
+    ensures listed { λ r. ⌜ outcome r (now (out .exit)) ≡ lineListed (answerLine read (now (body .entry))) read (now (out .entry)) ⌝ }
     ensures most { λ r. ⌜ length (answerLine read (now (body .entry))) ≤ 128 ⌝ }
 {
     let mut text = [0u8; 128];
@@ -57,7 +57,7 @@ fn list_accepted(read: RecordRead, body: &[u8], state: SheetState, out: &mut [u8
     let count = given.count;
     if full != 0 {
         return Listed {
-            read: refused(full, state),
+            read: refused(full),
             count,
         };
     }

@@ -4,7 +4,6 @@ use mathlib.Core.Path.{_≡_}
 use mathlib.Core.List.{List}
 use lib.ListN.{length}
 use Rattle.answer.specs.Outcome.{outcome, writes, _orElse_, unless, nothing, lent}
-use Rattle.sheet_format.specs.declared.SheetState.{SheetState}
 use Rattle.sheet_format.specs.declared.RecordRead.{RecordRead}
 use Rattle.sheet_format.specs.Context.{Context}
 use Rattle.sheet_format.specs.Kind.{Kind}
@@ -15,24 +14,24 @@ use Rattle.sheet_format.specs.Reading.{held, recordHeld, recordContent, refused
 pub mod Laws
 
 -- what a reading leaves whose number is e, and which holds a and the content d where that is 0: the answer x, and m′ of the
--- memory m. st is the state that was given. Where m has less than the room asked for, the record is only judged, and nothing
--- is said of the memory
-pub record Leaves (e : ℕ) (st : SheetState) (a : RecordRead) (d : List ℕ) (room : ℕ) (m : List ℕ) (x : RecordRead) (m′ : List ℕ) : Type 0 where
-  pub answer : x ≡ unless e (refusedRecord st) a
-  pub memory : room ≤ length m → outcome x m′ ≡ unless e (λ k. outcome (refusedRecord st k) m) (writes a d m)
+-- memory m. Where m has less than the room asked for, the record is only judged, and nothing is said of the memory
+pub record Leaves (e : ℕ) (a : RecordRead) (d : List ℕ) (room : ℕ) (m : List ℕ) (x : RecordRead) (m′ : List ℕ) : Type 0 where
+  pub answer : x ≡ unless e refusedRecord a
+  pub memory : room ≤ length m → outcome x m′ ≡ unless e (λ k. outcome (refusedRecord k) m) (writes a d m)
 
 -- of the content of a record, its kind known, in a sheet that holds c
-pub record ContentLeaves (k : Kind) (room code whole : ℕ) (c : Context) (st : SheetState) (b m : List ℕ) (x : RecordRead) (m′ : List ℕ) : Type 0 where
-  pub leaves : Leaves (contentNumber k (lent room) c b) st (held k code whole c b) (k .content c b) room m x m′
+pub record ContentLeaves (k : Kind) (room code whole : ℕ) (c : Context) (b m : List ℕ) (x : RecordRead) (m′ : List ℕ) : Type 0 where
+  pub leaves : Leaves (contentNumber k (lent room) c b) (held k code whole c b) (k .content c b) room m x m′
 
 -- of a record, its length known
-pub record BodyLeaves (room code whole : ℕ) (c : Context) (st : SheetState) (b m : List ℕ) (x : RecordRead) (m′ : List ℕ) : Type 0 where
-  pub leaves : Leaves (kindOf code .readable orElse contentNumber (kindOf code) (lent room) c b) st (held (kindOf code) code whole c b) (kindOf code .content c b) room m x m′
+pub record BodyLeaves (room code whole : ℕ) (c : Context) (b m : List ℕ) (x : RecordRead) (m′ : List ℕ) : Type 0 where
+  pub leaves : Leaves (kindOf code .readable orElse contentNumber (kindOf code) (lent room) c b)
+      (held (kindOf code) code whole c b) (kindOf code .content c b) room m x m′
 
 -- of a record
-pub record RecordLeaves (room : ℕ) (c : Context) (st : SheetState) (r m : List ℕ) (x : RecordRead) (m′ : List ℕ) : Type 0 where
-  pub leaves : Leaves (recordNumber (lent room) c r) st (recordHeld c r) (recordContent c r) room m x m′
+pub record RecordLeaves (room : ℕ) (c : Context) (r m : List ℕ) (x : RecordRead) (m′ : List ℕ) : Type 0 where
+  pub leaves : Leaves (recordNumber (lent room) c r) (recordHeld c r) (recordContent c r) room m x m′
 
 -- of a table nothing is written, and no room is asked
-abbrev pub tableJudged : ℕ → Context → SheetState → List ℕ → RecordRead
-tableJudged whole c st b = unless (contentNumber tableKind nothing c b) (refusedRecord st) (held tableKind 1 whole c b)
+abbrev pub tableJudged : ℕ → Context → List ℕ → RecordRead
+tableJudged whole c b = unless (contentNumber tableKind nothing c b) refusedRecord (held tableKind 1 whole c b)

@@ -24,11 +24,11 @@ pub fn read(
     room: usize,
     content: &mut [u8],
 ) -> RecordRead
-    ensures { λ r. ⌜ RecordLeaves room (contextOf (now (table .entry)) state) state (now (sheet .entry)) (now (content .entry)) r (now (content .exit)) ⌝ }
+    ensures { λ r. ⌜ RecordLeaves room (contextOf (now (table .entry)) state) (now (sheet .entry)) (now (content .entry)) r (now (content .exit)) ⌝ }
 {
     let number = length_number(sheet);
     if number != 0 {
-        return refused(number, state);
+        return refused(number);
     }
     let whole = 4 + read_u32(sheet, 0);
     let kind = read_u16(sheet, 4);
@@ -68,13 +68,13 @@ fn read_body(
     content: &mut [u8],
 ) -> RecordRead
     requires { ⌜ length (now body) ≤ 32772 ⌝ }
-    ensures { λ r. ⌜ BodyLeaves room kind whole (contextOf (now (table .entry)) state) state (now (body .entry)) (now (content .entry)) r (now (content .exit)) ⌝ }
+    ensures { λ r. ⌜ BodyLeaves room kind whole (contextOf (now (table .entry)) state) (now (body .entry)) (now (content .entry)) r (now (content .exit)) ⌝ }
 {
     match kind {
         1 => read_table(body, whole, state),
         2 => read_packed(table, body, whole, state, room, content),
         3 => read_plain(body, whole, state, room, content),
         4 => read_line(body, whole, state, room, content),
-        _ => refused(15, state),
+        _ => refused(15),
     }
 }

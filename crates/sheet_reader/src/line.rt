@@ -22,19 +22,19 @@ pub fn read_line(
     room: usize,
     content: &mut [u8],
 ) -> RecordRead
-    ensures { λ r. ⌜ ((c : Context) → stateOf c ≡ state → ContentLeaves lineKind room 4 whole c state (now (body .entry)) (now (content .entry)) r (now (content .exit))) ⌝ }
+    ensures { λ r. ⌜ ((c : Context) → stateOf c ≡ state → ContentLeaves lineKind room 4 whole c (now (body .entry)) (now (content .entry)) r (now (content .exit))) ⌝ }
 {
     if body.len() < 2 {
-        return refused(14, state);
+        return refused(14);
     }
     let place = line_place(state);
     if place != 0 {
-        return refused(place, state);
+        return refused(place);
     }
     let count = read_u16(body, 0);
     let number = numbers_number(body, count, room);
     if number != 0 {
-        return refused(number, state);
+        return refused(number);
     }
     let line = &body[2..];
     keep_numbers(line, count as usize, room, content);

@@ -30,16 +30,16 @@ pub fn read_packed(
     room: usize,
     content: &mut [u8],
 ) -> RecordRead
-    ensures { λ r. ⌜ ContentLeaves packedKind room 2 whole (contextOf (now (table .entry)) state) state (now (body .entry)) (now (content .entry)) r (now (content .exit)) ⌝ }
+    ensures { λ r. ⌜ ContentLeaves packedKind room 2 whole (contextOf (now (table .entry)) state) (now (body .entry)) (now (content .entry)) r (now (content .exit)) ⌝ }
 {
     // a missing field is 14 too, so that the order of the two does not matter
     if body.len() % 4 != 0 {
-        return refused(14, state);
+        return refused(14);
     }
     let fields = row_fields(body, state);
     let wrong = fields.number;
     if wrong != 0 {
-        return refused(wrong, state);
+        return refused(wrong);
     }
     let row = fields.row;
     let count = fields.count;
@@ -47,7 +47,7 @@ pub fn read_packed(
     let unpacked = unpack_row(table, body, count, room, &mut pixels);
     let number = unpacked.number;
     if number != 0 {
-        return refused(number, state);
+        return refused(number);
     }
     keep(&pixels, 2 * count as usize, room, content);
     held(2, row, count, unpacked.count, whole, after_row(row, state))

@@ -23,18 +23,18 @@ pub fn read_plain(
     room: usize,
     content: &mut [u8],
 ) -> RecordRead
-    ensures { λ r. ⌜ ((c : Context) → stateOf c ≡ state → ContentLeaves plainKind room 3 whole c state (now (body .entry)) (now (content .entry)) r (now (content .exit))) ⌝ }
+    ensures { λ r. ⌜ ((c : Context) → stateOf c ≡ state → ContentLeaves plainKind room 3 whole c (now (body .entry)) (now (content .entry)) r (now (content .exit))) ⌝ }
 {
     let fields = row_fields(body, state);
     let wrong = fields.number;
     if wrong != 0 {
-        return refused(wrong, state);
+        return refused(wrong);
     }
     let row = fields.row;
     let count = fields.count;
     let number = pixels_number(body, count, room);
     if number != 0 {
-        return refused(number, state);
+        return refused(number);
     }
     let pixels = &body[4..];
     keep(pixels, 2 * count as usize, room, content);

@@ -15,18 +15,18 @@ ghost use Rattle.sheet_reader.specs.Leaves.{tableJudged};
 
 pub fn read_table(body: &[u8], whole: u32, state: SheetState) -> RecordRead
     requires { ⌜ length (now body) ≤ 32772 ⌝ }
-    ensures { λ r. ⌜ ((c : Context) → stateOf c ≡ state → r ≡ tableJudged whole c state (now (body .entry))) ⌝ }
+    ensures { λ r. ⌜ ((c : Context) → stateOf c ≡ state → r ≡ tableJudged whole c (now (body .entry))) ⌝ }
 {
     if body.len() % 4 != 0 {
-        return refused(14, state);
+        return refused(14);
     }
     let place = table_place(state);
     if place != 0 {
-        return refused(place, state);
+        return refused(place);
     }
     let number = table_number(body);
     if number != 0 {
-        return refused(number, state);
+        return refused(number);
     }
     held(1, 0, (body.len() / 4) as u32, 0, whole, after_table(state))
 }

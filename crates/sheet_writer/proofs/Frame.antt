@@ -30,12 +30,12 @@ pub copied : (b m y : List ℕ) → y ≡ take (length b) b ++ drop (length b) m
 copied b m y e = rw (take-length b) at e
 
 -- ---- any record
-pub refused-number : (code : ℕ) (h : Heading) (c : Context) (x m : List ℕ) {st : SheetState} → stateOf c ≡ st
-    → {a : RecordWritten} (e : ℕ) → e ≡ writeNumber code h c x (length m) → (e ≡ 0 → ⊥) → a ≡ notWritten st e
+pub refused-number : (code : ℕ) (h : Heading) (c : Context) (x m : List ℕ)
+    → {a : RecordWritten} (e : ℕ) → e ≡ writeNumber code h c x (length m) → (e ≡ 0 → ⊥) → a ≡ notWritten e
     → outcome a m ≡ recordWritten code h c x m
-refused-number code h c x m is zero number some answer = absurd (some refl)
-refused-number code h c x m is (suc e) number some answer =
-    ap (λ (a : RecordWritten). outcome a m) (answer ∙ ap (λ (s : SheetState). notWritten s (suc e)) (sym is))
+refused-number code h c x m zero number some answer = absurd (some refl)
+refused-number code h c x m (suc e) number some answer =
+    ap (λ (a : RecordWritten). outcome a m) answer
     ∙ sym (recordWritten-refused code h c x m e (sym number))
 
 -- ---- a record that stands so
@@ -55,17 +55,17 @@ module _ {code : ℕ} {h : Heading} {c : Context} {x f b : List ℕ} {k : ℕ} (
     pub frame-passed : judged (kindOf code) h c x ≡ 0 → k + length b ≤ length m → writeNumber code h c x (length m) ≡ 0
     frame-passed passed fits = frame-number (length m) ∙ rw passed (lessNumber-none (length m) (k + length b) 5 fits)
 
-    module _ {st : SheetState} (is : stateOf c ≡ st) {a : RecordWritten} where
-      pub frame-refused : (e : ℕ) → e ≡ judged (kindOf code) h c x → (e ≡ 0 → ⊥) → a ≡ notWritten st e
+    module _ {a : RecordWritten} where
+      pub frame-refused : (e : ℕ) → e ≡ judged (kindOf code) h c x → (e ≡ 0 → ⊥) → a ≡ notWritten e
           → outcome a m ≡ recordWritten code h c x m
       frame-refused e number some =
-          refused-number code h c x m is e
+          refused-number code h c x m e
           (given-first (judged (kindOf code) h c x) _ number some ∙ sym (frame-number (length m))) some
 
-      pub frame-full : judged (kindOf code) h c x ≡ 0 → length m < k + length b → a ≡ notWritten st 5
+      pub frame-full : judged (kindOf code) h c x ≡ 0 → length m < k + length b → a ≡ notWritten 5
           → outcome a m ≡ recordWritten code h c x m
       frame-full passed less =
-          refused-number code h c x m is 5
+          refused-number code h c x m 5
           (sym (frame-number (length m) ∙ rw passed (lessNumber-given (length m) (k + length b) 5 less))) (λ e. omega arith)
 
     -- the content y is put into the memory from k on, then the fields in front

@@ -5,13 +5,16 @@ ghost use mathlib.Core.Path.{_≡_};
 ghost use Rattle.sheet_format.specs.Writing.{notWritten};
 
 // Nothing is counted, and the sheet holds what it held.
-pub fn refused(number: u32, state: SheetState) -> RecordWritten
-    ensures { λ r. ⌜ r ≡ notWritten state number ⌝ }
+pub fn refused(number: u32) -> RecordWritten
+    ensures { λ r. ⌜ r ≡ notWritten number ⌝ }
 {
     RecordWritten {
         number,
         count: 0,
-        state,
+        state: SheetState {
+            has_table: 0,
+            least_row: 0,
+        },
     }
 }
 

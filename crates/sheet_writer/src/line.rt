@@ -23,12 +23,12 @@ pub fn write_line(content: &[u8], state: SheetState, out: &mut [u8]) -> RecordWr
 {
     let number = line_number(content, state);
     if number != 0 {
-        return refused(number, state);
+        return refused(number);
     }
     let numbers = content.len() / 4;
     let record_bytes = FIELD_BYTES + line_bytes(content);
     if out.len() < record_bytes {
-        return refused(5, state);
+        return refused(5);
     }
     put_numbers(content, &mut out[FIELD_BYTES..]);
     put_line_fields(4, numbers as u32, record_bytes as u32, out);

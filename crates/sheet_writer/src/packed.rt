@@ -28,17 +28,17 @@ pub fn write_packed(
 {
     let place = row_place(row as u32, state);
     if place != 0 {
-        return refused(place, state);
+        return refused(place);
     }
     // The words are packed straight to their place behind the fields. Memory that is too small for these lends its empty
     // end: packing then gives the numbers that come before 5, and writes nothing.
     let start = lesser(FIELD_BYTES, out.len());
     let packed = pack(table, content, &mut out[start..]);
     if packed.number != 0 {
-        return refused(packed.number, state);
+        return refused(packed.number);
     }
     if start < FIELD_BYTES {
-        return refused(5, state);
+        return refused(5);
     }
     let pixels = content.len() / 2;
     let words = ((packed.count + 31) / 32) as usize;

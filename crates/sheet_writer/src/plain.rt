@@ -24,14 +24,14 @@ pub fn write_plain(row: u16, content: &[u8], state: SheetState, out: &mut [u8]) 
 {
     let number = plain_number(row, content, state);
     if number != 0 {
-        return refused(number, state);
+        return refused(number);
     }
     // half a pixel at the end counts for nothing
     let pixels = content.len() / 2;
     let end = 2 * pixels;
     let record_bytes = FIELD_BYTES + end;
     if out.len() < record_bytes {
-        return refused(5, state);
+        return refused(5);
     }
     copy(&content[..end], &mut out[FIELD_BYTES..]);
     put_row_fields(3, row, pixels as u32, record_bytes as u32, out);

@@ -31,6 +31,6 @@ pub fn write_record(
         2 => write_packed(row, content, table, state, out),
         3 => write_plain(row, content, state, out),
         4 => write_line(content, state, out),
-        _ => refused(15, state),
+        _ => refused(15),
     }
 }

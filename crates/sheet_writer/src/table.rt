@@ -24,11 +24,11 @@ pub fn write_table(content: &[u8], state: SheetState, out: &mut [u8]) -> RecordW
 {
     let number = table_number(content, state);
     if number != 0 {
-        return refused(number, state);
+        return refused(number);
     }
     let record_bytes = FIELD_BYTES + content.len();
     if out.len() < record_bytes {
-        return refused(5, state);
+        return refused(5);
     }
     copy(content, &mut out[FIELD_BYTES..]);
     put_record_fields(1, record_bytes as u32, out);

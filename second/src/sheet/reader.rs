@@ -24,7 +24,7 @@ pub struct RecordAnswer {
     pub content: Option<Content>,
     /// The record's bytes, its length field included.
     pub used: usize,
-    /// The state after the record; as given when refused.
+    /// The state after the record; all 0 when refused.
     pub state: State,
 }
 
@@ -64,7 +64,9 @@ fn answer(
         Ok((content, used, state)) => {
             RecordAnswer { number: DONE, content: Some(content), used, state }
         }
-        Err(number) => RecordAnswer { number, content: None, used: 0, state },
+        Err(number) => {
+            RecordAnswer { number, content: None, used: 0, state: State::default() }
+        }
     }
 }
 

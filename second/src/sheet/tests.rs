@@ -27,7 +27,8 @@ fn number(state: State, bytes: &[u8]) -> u32 {
     let mut lent = vec![0xA5; 4 * 4096];
     assert_eq!(read_record(state, Ok(&codec), bytes, &mut lent), judged);
     if judged.number != 0 {
-        let refused = RecordAnswer { number: judged.number, content: None, used: 0, state };
+        let refused =
+            RecordAnswer { number: judged.number, content: None, used: 0, state: EMPTY };
         assert_eq!(judged, refused);
         assert!(lent.iter().all(|&byte| byte == 0xA5));
     }
@@ -146,7 +147,7 @@ fn written(state: State, kind: u32, row: u16, content: &[u8]) -> (u32, Vec<u8>) 
     let answer = write_record(state, Ok(&codec.table), kind, row, content, &mut out);
     assert!(out[answer.bytes..].iter().all(|&byte| byte == 0xA5));
     if answer.number != 0 {
-        assert_eq!((answer.bytes, answer.state), (0, state));
+        assert_eq!((answer.bytes, answer.state), (0, EMPTY));
         return (answer.number, vec![]);
     }
     out.truncate(answer.bytes);

@@ -11,7 +11,7 @@ pub struct WriteAnswer {
     pub number: u32,
     /// The record's bytes, its length field included.
     pub bytes: usize,
-    /// The state after the record; as given when refused.
+    /// The state after the record; all 0 when refused.
     pub state: State,
 }
 
@@ -34,7 +34,7 @@ pub fn write_record(
     });
     match written {
         Ok((bytes, state)) => WriteAnswer { number: DONE, bytes, state },
-        Err(number) => WriteAnswer { number, bytes: 0, state },
+        Err(number) => WriteAnswer { number, bytes: 0, state: State::default() },
     }
 }
 

@@ -12,53 +12,53 @@ use Rattle.sheet_format.specs.Kind.Row.{noTable, rowPlace}
 use Rattle.sheet_format.specs.Kind.ContourLine.{linePlace}
 
 module _ (st : SheetState) (c : Context) (is : stateOf c ≡ st) where
-  tables-is : length (c .tables) ≡ st .tables
-  tables-is = ap (λ (s : SheetState). s .tables) is
+  tables-is : length (c .tables) ≡ st .«has_table»
+  tables-is = ap (λ (s : SheetState). s .«has_table») is
 
-  least-is : c .least ≡ st .least
-  least-is = ap (λ (s : SheetState). s .least) is
+  least-is : c .least ≡ st .«least_row»
+  least-is = ap (λ (s : SheetState). s .«least_row») is
 
-  none : st .tables ≡ 0 → noTable c ≡ 16
+  none : st .«has_table» ≡ 0 → noTable c ≡ 16
   none e = rw (eq-eqb (length (c .tables)) 0 (tables-is ∙ e))
 
-  some : (st .tables ≡ 0 → ⊥) → noTable c ≡ 0
+  some : (st .«has_table» ≡ 0 → ⊥) → noTable c ≡ 0
   some e = rw (ne-eqb (length (c .tables)) 0 (λ z. e (sym tables-is ∙ z)))
 
   module _ (h : Heading) where
-    pub table-first : st .tables ≡ 0 → 0 ≡ tablePlace c h
+    pub table-first : st .«has_table» ≡ 0 → 0 ≡ tablePlace c h
     unfolding tablePlace
     table-first e = rw (eq-eqb (length (c .tables)) 0 (tables-is ∙ e))
 
-    pub table-second : (st .tables ≡ 0 → ⊥) → 16 ≡ tablePlace c h
+    pub table-second : (st .«has_table» ≡ 0 → ⊥) → 16 ≡ tablePlace c h
     unfolding tablePlace
     table-second e = rw (ne-eqb (length (c .tables)) 0 (λ z. e (sym tables-is ∙ z)))
 
-    pub line-first : st .tables ≡ 0 → 16 ≡ linePlace c h
+    pub line-first : st .«has_table» ≡ 0 → 16 ≡ linePlace c h
     unfolding linePlace
     line-first e = sym (none e)
 
-    pub line-later : (st .tables ≡ 0 → ⊥) → 0 ≡ linePlace c h
+    pub line-later : (st .«has_table» ≡ 0 → ⊥) → 0 ≡ linePlace c h
     unfolding linePlace
     line-later e = sym (some e)
 
-    pub row-first : st .tables ≡ 0 → 16 ≡ rowPlace c h
+    pub row-first : st .«has_table» ≡ 0 → 16 ≡ rowPlace c h
     unfolding rowPlace
     row-first e = rw (none e)
 
-    module _ (table : st .tables ≡ 0 → ⊥) where
-      pub row-not-risen : h .row < st .least → 16 ≡ rowPlace c h
+    module _ (table : st .«has_table» ≡ 0 → ⊥) where
+      pub row-not-risen : h .row < st .«least_row» → 16 ≡ rowPlace c h
       unfolding rowPlace
-      row-not-risen less = rw (some table, least-is, lt-ltb (h .row) (st .least) less)
+      row-not-risen less = rw (some table, least-is, lt-ltb (h .row) (st .«least_row») less)
 
-      pub row-risen : st .least ≤ h .row → 0 ≡ rowPlace c h
+      pub row-risen : st .«least_row» ≤ h .row → 0 ≡ rowPlace c h
       unfolding rowPlace
-      row-risen most = rw (some table, least-is, le-ltb (h .row) (st .least) most)
+      row-risen most = rw (some table, least-is, le-ltb (h .row) (st .«least_row») most)
 
     pub after-table : (b : List ℕ) → length (c .tables) ≡ 0
-        → record { tables = 1; least = st .least } ≡ stateOf (afterRecord aTable h b c)
+        → record { «has_table» = 1; «least_row» = st .«least_row» } ≡ stateOf (afterRecord aTable h b c)
     after-table b empty =
         let one : length (c .tables ++ (b ∷ [])) ≡ 1 = length-append (c .tables) (b ∷ []) ∙ ap (_+ 1) empty in
         rw (one, least-is)
 
-    pub after-row : (b : List ℕ) → record { tables = st .tables; least = h .row + 1 } ≡ stateOf (afterRecord aRow h b c)
+    pub after-row : (b : List ℕ) → record { «has_table» = st .«has_table»; «least_row» = h .row + 1 } ≡ stateOf (afterRecord aRow h b c)
     after-row b = rw tables-is

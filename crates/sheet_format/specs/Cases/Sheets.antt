@@ -24,7 +24,7 @@ answer kind row count bits words whole least =
       bits = bits;
       words = words;
       length = whole;
-      state = record { tables = 1; least = least };
+      state = record { «has_table» = 1; «least_row» = least };
     }
 
 abbrev pub wholeRead : SheetRead

@@ -32,37 +32,37 @@ module _ (c : Context) (r : List ℕ) where
   pub recordJudged-number : recordJudged c r .number ≡ recordNumber nothing c r
   unfolding recordJudged recordHeld
   recordJudged-number =
-      unless-number readNumber (refusedRecord (stateOf c)) (recordHeld c r) (λ k. refl) (recordNumber nothing c r) refl
+      unless-number readNumber refusedRecord (recordHeld c r) (λ k. refl) (recordNumber nothing c r) refl
 
   pub recordJudged-done : recordNumber nothing c r ≡ 0 → recordJudged c r ≡ recordHeld c r
   unfolding recordJudged
   recordJudged-done e = rw e
 
-  pub recordJudged-refuses : (e : ℕ) → recordNumber nothing c r ≡ suc e → recordJudged c r ≡ refusedRecord (stateOf c) (suc e)
+  pub recordJudged-refuses : (e : ℕ) → recordNumber nothing c r ≡ suc e → recordJudged c r ≡ refusedRecord (suc e)
   unfolding recordJudged
   recordJudged-refuses e h = rw h
 
 -- ---- reading
 module _ (c : Context) (r m : List ℕ) where
   pub recordRead-answer : recordRead c r m .answer
-      ≡ unless (recordNumber (lent (length m)) c r) (refusedRecord (stateOf c)) (recordHeld c r)
+      ≡ unless (recordNumber (lent (length m)) c r) refusedRecord (recordHeld c r)
   unfolding recordRead
   recordRead-answer =
       unless-part (λ (o : Outcome RecordRead). o .answer) (recordNumber (lent (length m)) c r)
-      (λ e. outcome (refusedRecord (stateOf c) e) m) (writes (recordHeld c r) (recordContent c r) m)
+      (λ e. outcome (refusedRecord e) m) (writes (recordHeld c r) (recordContent c r) m)
 
   pub recordRead-number : recordRead c r m .answer .number ≡ recordNumber (lent (length m)) c r
   unfolding recordHeld
   recordRead-number =
       ap readNumber recordRead-answer
-      ∙ unless-number readNumber (refusedRecord (stateOf c)) (recordHeld c r) (λ k. refl) (recordNumber (lent (length m)) c r) refl
+      ∙ unless-number readNumber refusedRecord (recordHeld c r) (λ k. refl) (recordNumber (lent (length m)) c r) refl
 
   pub recordRead-done : recordNumber (lent (length m)) c r ≡ 0 → recordRead c r m ≡ writes (recordHeld c r) (recordContent c r) m
   unfolding recordRead
   recordRead-done e = rw e
 
   pub recordRead-refuses : (e : ℕ) → recordNumber (lent (length m)) c r ≡ suc e
-      → recordRead c r m ≡ outcome (refusedRecord (stateOf c) (suc e)) m
+      → recordRead c r m ≡ outcome (refusedRecord (suc e)) m
   unfolding recordRead
   recordRead-refuses e h = rw h
 

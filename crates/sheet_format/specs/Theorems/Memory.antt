@@ -16,26 +16,26 @@ use Rattle.sheet_format.specs.Writing.Laws.{writeNumber-room, recordWrit
 
 -- ---- judging and reading
 pub recordJudged-refused : (c : Context) (r : List ℕ) → (recordJudged c r .number ≡ 0 → ⊥)
-    → recordJudged c r ≡ refusedRecord (stateOf c) (recordJudged c r .number)
+    → recordJudged c r ≡ refusedRecord (recordJudged c r .number)
 unfolding recordJudged recordHeld
 recordJudged-refused c r =
-    unless-in (λ a. (a .number ≡ 0 → ⊥) → a ≡ refusedRecord (stateOf c) (a .number)) (recordNumber nothing c r)
-    (refusedRecord (stateOf c)) (recordHeld c r) (λ k e some. refl) (λ e some. absurd (some refl))
+    unless-in (λ a. (a .number ≡ 0 → ⊥) → a ≡ refusedRecord (a .number)) (recordNumber nothing c r)
+    refusedRecord (recordHeld c r) (λ k e some. refl) (λ e some. absurd (some refl))
 
 pub recordRead-kept : (c : Context) (r m : List ℕ) → (recordRead c r m .answer .number ≡ 0 → ⊥)
-    → Kept (refusedRecord (stateOf c) (recordRead c r m .answer .number)) m (recordRead c r m)
+    → Kept (refusedRecord (recordRead c r m .answer .number)) m (recordRead c r m)
 unfolding recordRead recordHeld
 recordRead-kept c r m =
-    unless-kept (refusedRecord (stateOf c)) m (writes (recordHeld c r) (recordContent c r) m) readNumber (λ k. refl)
+    unless-kept refusedRecord m (writes (recordHeld c r) (recordContent c r) m) readNumber (λ k. refl)
     (recordNumber (lent (length m)) c r) (λ some. absurd (some refl))
 
 -- ---- writing
 module _ (code : ℕ) (h : Heading) (c : Context) (x m : List ℕ) where
   pub recordWritten-kept : (recordWritten code h c x m .answer .number ≡ 0 → ⊥)
-      → Kept (notWritten (stateOf c) (recordWritten code h c x m .answer .number)) m (recordWritten code h c x m)
+      → Kept (notWritten (recordWritten code h c x m .answer .number)) m (recordWritten code h c x m)
   unfolding recordWritten
   recordWritten-kept =
-      unless-kept (notWritten (stateOf c)) m (writes (recordDone code h c x) (recordFor code h c x) m)
+      unless-kept notWritten m (writes (recordDone code h c x) (recordFor code h c x) m)
       (λ (a : RecordWritten). a .number) (λ k. refl) (writeNumber code h c x (length m)) (λ some. absurd (some refl))
 
   pub recordWritten-within : Within (recordWritten code h c x m .answer .count) m (recordWritten code h c x m)

@@ -59,7 +59,7 @@ pub recordRead-judged : (c : Context) (r m : List ℕ) → 16384 ≤ length m �
 unfolding recordJudged
 recordRead-judged c r m enough =
     recordRead-answer c r m
-    ∙ ap (λ (e : ℕ). unless e (refusedRecord (stateOf c)) (recordHeld c r)) (recordNumber-enough (length m) enough c r)
+    ∙ ap (λ (e : ℕ). unless e refusedRecord (recordHeld c r)) (recordNumber-enough (length m) enough c r)
 
 -- ---- of a record that judging accepts
 module _ (c : Context) (r m : List ℕ) (ok : recordJudged c r .number ≡ 0) where

@@ -16,7 +16,7 @@ use Rattle.sheet_format.specs.Reading.{contextAfter, recordJudged}
 use Rattle.sheet_format.specs.Reading.Laws.{contextAfter-of, judged-read, judged-state}
 
 -- a table comes where none is counted
-afterRecord-kept : (s : Payload) (h : Heading) (b tb : List ℕ) (st : SheetState) → (s ≡ aTable → st .tables ≡ 0)
+afterRecord-kept : (s : Payload) (h : Heading) (b tb : List ℕ) (st : SheetState) → (s ≡ aTable → st .«has_table» ≡ 0)
     → afterRecord s h b (contextOf tb st) ≡ contextOf (tableKept s tb b) (stateOf (afterRecord s h b (contextOf tb st)))
 afterRecord-kept aTable h b tb st first = rw (first refl)
 afterRecord-kept aRow h b tb st first = rw (tables-contextOf tb st)

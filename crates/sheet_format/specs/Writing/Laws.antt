@@ -118,7 +118,7 @@ module _ (code : ℕ) (h : Heading) (c : Context) (x : List ℕ) where
     pub recordWritten-number : recordWritten code h c x m .answer .number ≡ writeNumber code h c x (length m)
     unfolding recordWritten
     recordWritten-number =
-        unless-number (λ (o : Outcome RecordWritten). o .answer .number) (λ e. outcome (notWritten (stateOf c) e) m)
+        unless-number (λ (o : Outcome RecordWritten). o .answer .number) (λ e. outcome (notWritten e) m)
         (writes (recordDone code h c x) (recordFor code h c x) m) (λ k. refl) (writeNumber code h c x (length m)) refl
 
     pub recordWritten-done : writeNumber code h c x (length m) ≡ 0
@@ -127,7 +127,7 @@ module _ (code : ℕ) (h : Heading) (c : Context) (x : List ℕ) where
     recordWritten-done e = rw e
 
     pub recordWritten-refused : (e : ℕ) → writeNumber code h c x (length m) ≡ suc e
-        → recordWritten code h c x m ≡ outcome (notWritten (stateOf c) (suc e)) m
+        → recordWritten code h c x m ≡ outcome (notWritten (suc e)) m
     unfolding recordWritten
     recordWritten-refused e h = rw h
 

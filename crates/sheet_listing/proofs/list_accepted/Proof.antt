@@ -47,7 +47,7 @@ returns c =
     let at-start = at-put-record-line .before .before .before .before in
     let put = at-put-record-line .put-record-line .ensures in (
       rw (c .refused .ensures)
-          (listed-full (answerLine (at-start .args .read) (at-start .args .body .now)) (at-start .args .read) (at-start .args .state)
+          (listed-full (answerLine (at-start .args .read) (at-start .args .body .now)) (at-start .args .read)
           (at-start .args .out .now) (rw (put-front (put .0)) at (at-give .give .ensures)) (c .before .if1 .taken)),
       omega (arith, put .0 .next, put .1),
     )
@@ -61,7 +61,7 @@ returns-2 c =
     let at-put-record-line = at-give .before .before .before .before in
     let at-start = at-put-record-line .before .before .before .before in
     let put = at-put-record-line .put-record-line .ensures in (
-      listed-line (answerLine (at-start .args .read) (at-start .args .body .now)) (at-start .args .read) (at-start .args .state)
+      listed-line (answerLine (at-start .args .read) (at-start .args .body .now)) (at-start .args .read)
           (at-start .args .out .now) (rw (put-front (put .0)) at (at-give .give .ensures)) (c .if1 .left),
       omega (arith, put .0 .next, put .1),
     )

@@ -13,8 +13,7 @@ use Rattle.row_format.specs.Lists.Laws.{by-test, drop-take}
 use Rattle.row_format.specs.Table.{tableNumber}
 use Rattle.sheet_format.specs.declared.SheetState.{SheetState}
 use Rattle.sheet_format.specs.declared.RecordRead.{RecordRead}
-use Rattle.sheet_format.specs.Context.{stateOf, contextOf}
-use Rattle.sheet_format.specs.Context.Laws.{stateOf-contextOf}
+use Rattle.sheet_format.specs.Context.{contextOf}
 use Rattle.sheet_format.specs.Reading.{refusedRecord, recordJudged}
 use Rattle.sheet_format.specs.Sheet.{recordHere}
 use Rattle.sheet_format.specs.Theorems.{record-length, kept-table, judged-refused-keeps}
@@ -23,11 +22,11 @@ use Rattle.sheet_listing.specs.declared.Listed.{Listed}
 use Rattle.sheet_listing.specs.Line.{answerLine, recordLine}
 use Rattle.sheet_listing.specs.Listed.{noRoom, lineGiven, judgedListed, lineListed, recordListed}
 
-refused-any : (a : RecordRead) (st : SheetState) (l m : List ℕ) → (a .number ≡ 0 → ⊥) → a ≡ refusedRecord st (a .number)
-    → outcome (record { read = a; count = 0 }) m ≡ judgedListed (a .number orElse noRoom l m) st a l m
-refused-any a st l m h e = go (a .number) refl
+refused-any : (a : RecordRead) (l m : List ℕ) → (a .number ≡ 0 → ⊥) → a ≡ refusedRecord (a .number)
+    → outcome (record { read = a; count = 0 }) m ≡ judgedListed (a .number orElse noRoom l m) a l m
+refused-any a l m h e = go (a .number) refl
   where
-    go : (n : ℕ) → a .number ≡ n → outcome (record { read = a; count = 0 }) m ≡ judgedListed (n orElse noRoom l m) st a l m
+    go : (n : ℕ) → a .number ≡ n → outcome (record { read = a; count = 0 }) m ≡ judgedListed (n orElse noRoom l m) a l m
     go zero z = absurd (h z)
     go (suc n) z = rw (e, z)
 
@@ -52,19 +51,19 @@ module _ (l m : List ℕ) where
       (λ t. omega (arith, ap (λ (o : Outcome Answer). o .answer .count) (rw t at e), ltb-false (length m) (length l) t))
 
 -- what was given of a line, as what was listed
-module _ (l : List ℕ) (a : RecordRead) (st : SheetState) (m : List ℕ) {g : Answer} {m′ : List ℕ} (given : outcome g m′ ≡ lineGiven l m) where
-  pub listed-line : g .number ≡ 0 → outcome (record { read = a; count = g .count }) m′ ≡ lineListed l a st m
+module _ (l : List ℕ) (a : RecordRead) (m : List ℕ) {g : Answer} {m′ : List ℕ} (given : outcome g m′ ≡ lineGiven l m) where
+  pub listed-line : g .number ≡ 0 → outcome (record { read = a; count = g .count }) m′ ≡ lineListed l a m
   unfolding lineGiven
   listed-line e = by-test (ltb (length m) (length l))
       (λ t. let n : g .number ≡ 5 = ap (λ (o : Outcome Answer). o .answer .number) (rw t at given) in absurd (omega arith))
       (λ t. let same = rw t at given in
       rw t (λ i. outcome (record { read = a; count = same i .answer .count }) (same i .memory)))
 
-  pub listed-full : (g .number ≡ 0 → ⊥) → outcome (record { read = refusedRecord st (g .number); count = g .count }) m′ ≡ lineListed l a st m
+  pub listed-full : (g .number ≡ 0 → ⊥) → outcome (record { read = refusedRecord (g .number); count = g .count }) m′ ≡ lineListed l a m
   unfolding lineGiven
   listed-full h = by-test (ltb (length m) (length l))
       (λ t. let same = rw t at given in
-      rw t (λ i. outcome (record { read = refusedRecord st (same i .answer .number); count = same i .answer .count }) (same i .memory)))
+      rw t (λ i. outcome (record { read = refusedRecord (same i .answer .number); count = same i .answer .count }) (same i .memory)))
       (λ t. absurd (h (ap (λ (o : Outcome Answer). o .answer .number) (rw t at given))))
 
 -- ---- a record
@@ -75,7 +74,7 @@ module _ (tb r : List ℕ) (st : SheetState) (m : List ℕ) (a : RecordRead) (ju
   listed-refused h =
       let still : recordJudged (contextOf tb st) r .number ≡ 0 → ⊥ = λ e. h (ap (λ (x : RecordRead). x .number) judged ∙ e) in
       rw judged
-      (refused-any (recordJudged (contextOf tb st) r) (stateOf (contextOf tb st)) (recordLine (recordHere (contextOf tb st) r)) m still
+      (refused-any (recordJudged (contextOf tb st) r) (recordLine (recordHere (contextOf tb st) r)) m still
       (judged-refused-keeps (contextOf tb st) r still))
 
   module _ (ok : a .number ≡ 0) where
@@ -98,14 +97,14 @@ module _ (tb r : List ℕ) (st : SheetState) (m : List ℕ) (a : RecordRead) (ju
     pub line-is : answerLine a (take (a .length - 6) (drop 6 r)) ≡ recordLine (recordHere (contextOf tb st) r)
     line-is = rw (← drop-take 6 (a .length) r, judged)
 
-    pub listed-accepted : lineListed (answerLine a (take (a .length - 6) (drop 6 r))) a st m ≡ recordListed (contextOf tb st) r m
+    pub listed-accepted : lineListed (answerLine a (take (a .length - 6) (drop 6 r))) a m ≡ recordListed (contextOf tb st) r m
     unfolding recordListed
-    listed-accepted = rw (← drop-take 6 (a .length) r, judged, same-number, stateOf-contextOf tb st)
+    listed-accepted = rw (← drop-take 6 (a .length) r, judged, same-number)
 
 -- ---- what a caller learns of a listed record
-unless-fits : (n : ℕ) (st : SheetState) (a : RecordRead) (l m : List ℕ) → n ≡ 0 → length l ≤ length m
-    → judgedListed (n orElse noRoom l m) st a l m ≡ outcome (record { read = a; count = length l }) (l ++ drop (length l) m)
-unless-fits n st a l m ok fits = rw (ok, le-ltb (length m) (length l) fits)
+unless-fits : (n : ℕ) (a : RecordRead) (l m : List ℕ) → n ≡ 0 → length l ≤ length m
+    → judgedListed (n orElse noRoom l m) a l m ≡ outcome (record { read = a; count = length l }) (l ++ drop (length l) m)
+unless-fits n a l m ok fits = rw (ok, le-ltb (length m) (length l) fits)
 
 module _ (tb r : List ℕ) (st : SheetState) (m : List ℕ) where
   -- where its line fits, an accepted record is listed
@@ -113,7 +112,7 @@ module _ (tb r : List ℕ) (st : SheetState) (m : List ℕ) where
       → recordListed (contextOf tb st) r m
       ≡ (let l = recordLine (recordHere (contextOf tb st) r) in outcome (record { read = recordJudged (contextOf tb st) r; count = length l }) (l ++ drop (length l) m))
   unfolding recordListed
-  recordListed-fits = unless-fits (recordJudged (contextOf tb st) r .number) (stateOf (contextOf tb st)) (recordJudged (contextOf tb st) r) (recordLine (recordHere (contextOf tb st) r)) m
+  recordListed-fits = unless-fits (recordJudged (contextOf tb st) r .number) (recordJudged (contextOf tb st) r) (recordLine (recordHere (contextOf tb st) r)) m
 
 room-there : (n : ℕ) (l m : List ℕ) → n orElse noRoom l m ≡ 0 → length l ≤ length m
 room-there zero l m e = by-test (ltb (length m) (length l))
@@ -121,29 +120,29 @@ room-there zero l m e = by-test (ltb (length m) (length l))
     (λ t. ltb-false (length m) (length l) t)
 room-there (suc n) l m e = absurd (omega arith)
 
-unless-count : (e : ℕ) (st : SheetState) (a : RecordRead) (l m : List ℕ) → (e ≡ 0 → length l ≤ length m)
-    → judgedListed e st a l m .answer .count ≤ length m
-unless-count zero st a l m h = h refl
-unless-count (suc e) st a l m h = omega arith
+unless-count : (e : ℕ) (a : RecordRead) (l m : List ℕ) → (e ≡ 0 → length l ≤ length m)
+    → judgedListed e a l m .answer .count ≤ length m
+unless-count zero a l m h = h refl
+unless-count (suc e) a l m h = omega arith
 
-unless-read : (e : ℕ) (st : SheetState) (a : RecordRead) (l m : List ℕ) → judgedListed e st a l m .answer .read .number ≡ 0
-    → judgedListed e st a l m .answer .read ≡ a
-unless-read zero st a l m z = refl
-unless-read (suc e) st a l m z = absurd (omega arith)
+unless-read : (e : ℕ) (a : RecordRead) (l m : List ℕ) → judgedListed e a l m .answer .read .number ≡ 0
+    → judgedListed e a l m .answer .read ≡ a
+unless-read zero a l m z = refl
+unless-read (suc e) a l m z = absurd (omega arith)
 
 module _ (tb r : List ℕ) (st : SheetState) (m : List ℕ) where
   count-within : recordListed (contextOf tb st) r m .answer .count ≤ length m
   unfolding recordListed
   count-within =
       let l : List ℕ = recordLine (recordHere (contextOf tb st) r) in
-      unless-count (recordJudged (contextOf tb st) r .number orElse noRoom l m) (stateOf (contextOf tb st)) (recordJudged (contextOf tb st) r) l m
+      unless-count (recordJudged (contextOf tb st) r .number orElse noRoom l m) (recordJudged (contextOf tb st) r) l m
       (room-there (recordJudged (contextOf tb st) r .number) l m)
 
   read-is : recordListed (contextOf tb st) r m .answer .read .number ≡ 0 → recordListed (contextOf tb st) r m .answer .read ≡ recordJudged (contextOf tb st) r
   unfolding recordListed
   read-is =
       let l : List ℕ = recordLine (recordHere (contextOf tb st) r) in
-      unless-read (recordJudged (contextOf tb st) r .number orElse noRoom l m) (stateOf (contextOf tb st)) (recordJudged (contextOf tb st) r) l m
+      unless-read (recordJudged (contextOf tb st) r .number orElse noRoom l m) (recordJudged (contextOf tb st) r) l m
 
   module _ {x : Listed} {m′ : List ℕ} (e : outcome x m′ ≡ recordListed (contextOf tb st) r m) where
     same-answer : x ≡ recordListed (contextOf tb st) r m .answer

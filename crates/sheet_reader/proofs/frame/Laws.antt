@@ -7,7 +7,6 @@ use lib.ListN.{length, take, drop, length-take}
 use borrow.Author.Tests.{lt-ltb, le-ltb}
 use Rattle.answer.specs.Outcome.{outcome, lent}
 use Rattle.answer.specs.Outcome.Laws.{given-first}
-use Rattle.sheet_format.specs.declared.SheetState.{SheetState}
 use Rattle.sheet_format.specs.declared.RecordRead.{RecordRead}
 use Rattle.sheet_format.specs.Context.{Context, stateOf, contextOf}
 use Rattle.sheet_format.specs.Context.Laws.{stateOf-contextOf}
@@ -52,13 +51,13 @@ pub body-short : (r : List ℕ) (size : ℕ) → size ≤ 32774 → length (take
 body-short r size h = omega (arith, length-take (4 + size - 6) (drop 6 r))
 
 -- ---- a record, by its length, and by its body
-module _ {room : ℕ} {c : Context} {st : SheetState} {r m : List ℕ} {x : RecordRead} {n : ℕ} (is : n ≡ lengthNumber r) where
-  pub frame-refuses : x ≡ refusedRecord st n → (n ≡ 0 → ⊥) → RecordLeaves room c st r m x m
+module _ {room : ℕ} {c : Context} {r m : List ℕ} {x : RecordRead} {n : ℕ} (is : n ≡ lengthNumber r) where
+  pub frame-refuses : x ≡ refusedRecord n → (n ≡ 0 → ⊥) → RecordLeaves room c r m x m
   unfolding recordNumber
   frame-refuses refused some = record { leaves = refuses refused (given-first (lengthNumber r) _ is some) some }
 
   pub frame-leaves : n ≡ 0 → {m′ : List ℕ} (size code : ℕ) → size ≡ lengthField r → code ≡ kindField r
-      → BodyLeaves room code (4 + size) c st (take (4 + size - 6) (drop 6 r)) m x m′ → RecordLeaves room c st r m x m′
+      → BodyLeaves room code (4 + size) c (take (4 + size - 6) (drop 6 r)) m x m′ → RecordLeaves room c r m x m′
   unfolding recordNumber recordHeld recordContent
   frame-leaves none {m′} size code size-is code-is l =
       let end : 4 + size - 6 ≡ lengthField r - 2 = omega arith in
@@ -66,28 +65,28 @@ module _ {room : ℕ} {c : Context} {st : SheetState} {r m : List ℕ} {x : Reco
       record { leaves = rw (sym is ∙ none) l′ }
 
 -- ---- a body, by its kind
-module _ {room : ℕ} {c : Context} {st : SheetState} {b m : List ℕ} {x : RecordRead} {code whole : ℕ} where
-  pub table-leaves : code ≡ 1 → x ≡ tableJudged whole c st b → BodyLeaves room code whole c st b m x m
+module _ {room : ℕ} {c : Context} {b m : List ℕ} {x : RecordRead} {code whole : ℕ} where
+  pub table-leaves : code ≡ 1 → x ≡ tableJudged whole c b → BodyLeaves room code whole c b m x m
   unfolding contentNumber tableOwn
   table-leaves is judged =
       let number = contentNumber tableKind (lent room) c b in
       let a = held tableKind 1 whole c b in
       record {
-        leaves = rw is (record { answer = judged; memory = λ enough. rw judged (leaves-nothing number st m a) });
+        leaves = rw is (record { answer = judged; memory = λ enough. rw judged (leaves-nothing number m a) });
       }
 
-  pub packed-leaves : {m′ : List ℕ} → code ≡ 2 → ContentLeaves packedKind room 2 whole c st b m x m′
-      → BodyLeaves room code whole c st b m x m′
+  pub packed-leaves : {m′ : List ℕ} → code ≡ 2 → ContentLeaves packedKind room 2 whole c b m x m′
+      → BodyLeaves room code whole c b m x m′
   packed-leaves is l = record { leaves = rw is (l .leaves) }
 
-  pub plain-leaves : {m′ : List ℕ} → code ≡ 3 → ContentLeaves plainKind room 3 whole c st b m x m′
-      → BodyLeaves room code whole c st b m x m′
+  pub plain-leaves : {m′ : List ℕ} → code ≡ 3 → ContentLeaves plainKind room 3 whole c b m x m′
+      → BodyLeaves room code whole c b m x m′
   plain-leaves is l = record { leaves = rw is (l .leaves) }
 
-  pub line-leaves : {m′ : List ℕ} → code ≡ 4 → ContentLeaves lineKind room 4 whole c st b m x m′
-      → BodyLeaves room code whole c st b m x m′
+  pub line-leaves : {m′ : List ℕ} → code ≡ 4 → ContentLeaves lineKind room 4 whole c b m x m′
+      → BodyLeaves room code whole c b m x m′
   line-leaves is l = record { leaves = rw is (l .leaves) }
 
-  pub unknown-leaves : (code ≡ 1 → ⊥) → (code ≡ 2 → ⊥) → (code ≡ 3 → ⊥) → (code ≡ 4 → ⊥) → x ≡ refusedRecord st 15
-      → BodyLeaves room code whole c st b m x m
+  pub unknown-leaves : (code ≡ 1 → ⊥) → (code ≡ 2 → ⊥) → (code ≡ 3 → ⊥) → (code ≡ 4 → ⊥) → x ≡ refusedRecord 15
+      → BodyLeaves room code whole c b m x m
   unknown-leaves p q s t is = record { leaves = rw (kindOf-other code p q s t) (refuses is refl (λ e. omega arith)) }

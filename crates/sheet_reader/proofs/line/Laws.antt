@@ -75,18 +75,18 @@ line-chain : (b : List ℕ) (c : Context) (room : ℕ) → 2 ≤ length b → {p
 unfolding contentNumber
 line-chain b c room there place-is = rw (le-ltb (length b) 2 there, place-is)
 
-module _ {b : List ℕ} {st : SheetState} {room whole : ℕ} {m : List ℕ} {x : RecordRead} {c : Context} where
-  pub line-missing : length b < 2 → x ≡ refusedRecord st 14 → ContentLeaves lineKind room 4 whole c st b m x m
+module _ {b : List ℕ} {room whole : ℕ} {m : List ℕ} {x : RecordRead} {c : Context} where
+  pub line-missing : length b < 2 → x ≡ refusedRecord 14 → ContentLeaves lineKind room 4 whole c b m x m
   unfolding contentNumber
   line-missing h is = record { leaves = refuses is (rw (lt-ltb (length b) 2 h)) (λ e. omega arith) }
 
   module _ (there : 2 ≤ length b) {place : ℕ} (place-is : place ≡ linePlace c noHeading) where
-    pub line-misplaced : x ≡ refusedRecord st place → (place ≡ 0 → ⊥) → ContentLeaves lineKind room 4 whole c st b m x m
+    pub line-misplaced : x ≡ refusedRecord place → (place ≡ 0 → ⊥) → ContentLeaves lineKind room 4 whole c b m x m
     line-misplaced is some =
         record { leaves = refuses is (given-first place _ refl some ∙ sym (line-chain b c room there place-is)) some }
 
-    pub line-refused : place ≡ 0 → {n : ℕ} → n ≡ lineOwn (lent room) c b → x ≡ refusedRecord st n → (n ≡ 0 → ⊥)
-        → ContentLeaves lineKind room 4 whole c st b m x m
+    pub line-refused : place ≡ 0 → {n : ℕ} → n ≡ lineOwn (lent room) c b → x ≡ refusedRecord n → (n ≡ 0 → ⊥)
+        → ContentLeaves lineKind room 4 whole c b m x m
     line-refused placed judged is some =
         record { leaves = refuses is (given-next placed judged ∙ sym (line-chain b c room there place-is)) some }
 
@@ -122,7 +122,7 @@ module _ {b : List ℕ} {room count : ℕ} {c : Context} (ok : LineAccepted b c 
   pub line-held : {st : SheetState} → stateOf c ≡ st → {whole : ℕ} {m : List ℕ} {x : RecordRead} {m′ : List ℕ}
       → x ≡ record { number = 0; kind = 4; row = 0; count = count; bits = 0; words = 0; length = whole; state = st }
       → (room ≤ length m → m′ ≡ numberBytes (readLine count (partFrom 2 b)) ++ drop (4 * count) m)
-      → ContentLeaves lineKind room 4 whole c st b m x m′
+      → ContentLeaves lineKind room 4 whole c b m x m′
   unfolding readNumbers
   line-held {st} shows {m = m} {m′ = m′} is kept =
       let size : length (readNumbers c b) ≡ 4 * count = rw (ok .count-is) (content .0) in

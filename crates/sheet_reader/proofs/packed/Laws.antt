@@ -168,13 +168,12 @@ own-number : (c : Context) (room : ℕ) (tb b : List ℕ) → tableFor c (rowHea
 unfolding packedOwn packedLeftover packedReading
 own-number c room tb b table = rw table
 
-module _ (tb : List ℕ) {b : List ℕ} {st : SheetState} {room whole : ℕ} {m : List ℕ} {x : RecordRead} where
-  pub packed-not-words : (length b % 4 ≡ 0 → ⊥) → x ≡ refusedRecord st 14
-      → ContentLeaves packedKind room 2 whole (contextOf tb st) st b m x m
-  unfolding contentNumber
-  packed-not-words odd is = record {
-    leaves = refuses is (rw (unequalNumber-given (length b % 4) 0 14 odd) (sym (either (ltb (length b) 4) _))) (λ e. omega arith);
-  }
+pub packed-not-words : {c : Context} {b : List ℕ} {room whole : ℕ} {m : List ℕ} {x : RecordRead} → (length b % 4 ≡ 0 → ⊥)
+    → x ≡ refusedRecord 14 → ContentLeaves packedKind room 2 whole c b m x m
+unfolding contentNumber
+packed-not-words {b = b} odd is = record {
+  leaves = refuses is (rw (unequalNumber-given (length b % 4) 0 14 odd) (sym (either (ltb (length b) 4) _))) (λ e. omega arith);
+}
 
 -- the number after that of the fields and of the place
 module _ (tb : List ℕ) {b : List ℕ} {st : SheetState} {f : RowFields} (words : length b % 4 ≡ 0) (fields : FieldsOf b st f) where
@@ -195,13 +194,13 @@ module _ (tb : List ℕ) {b : List ℕ} {st : SheetState} {f : RowFields} (words
       (λ none. rowPlace-table c (rowHeading b) (orElse-zero-right (shorterThan 4 b) _ both) (tables-contextOf tb st ∙ none))
 
   module _ {room whole : ℕ} {m : List ℕ} {x : RecordRead} where
-    pub packed-misplaced : x ≡ refusedRecord st (f .number) → (f .number ≡ 0 → ⊥)
-        → ContentLeaves packedKind room 2 whole (contextOf tb st) st b m x m
+    pub packed-misplaced : x ≡ refusedRecord (f .number) → (f .number ≡ 0 → ⊥)
+        → ContentLeaves packedKind room 2 whole (contextOf tb st) b m x m
     packed-misplaced is some =
         record { leaves = refuses is (given-first (f .number) _ refl some ∙ sym (packed-chain room)) some }
 
-    pub packed-refused : f .number ≡ 0 → {a : Answer} {out : List ℕ} → RowRead room tb b a out → x ≡ refusedRecord st (a .number)
-        → (a .number ≡ 0 → ⊥) → ContentLeaves packedKind room 2 whole (contextOf tb st) st b m x m
+    pub packed-refused : f .number ≡ 0 → {a : Answer} {out : List ℕ} → RowRead room tb b a out → x ≡ refusedRecord (a .number)
+        → (a .number ≡ 0 → ⊥) → ContentLeaves packedKind room 2 whole (contextOf tb st) b m x m
     packed-refused placed row is some =
         let own = row .number ∙ sym (own-number (contextOf tb st) room tb b (table-is placed)) in
         record { leaves = refuses is (given-next placed own ∙ sym (packed-chain room)) some }
@@ -241,7 +240,7 @@ module _ {tb b : List ℕ} {st : SheetState} {room : ℕ} {f : RowFields} {a : A
         → ((c : Context) (d : List ℕ) → stateOf c ≡ st → after ≡ stateOf (afterRecord aRow (record { row = f .row }) d c))
         → x ≡ record { number = 0; kind = 2; row = f .row; count = f .count; bits = a .count; words = wordsFor (a .count); length = whole; state = after }
         → (room ≤ length m → m′ ≡ take (2 * f .count) out ++ drop (2 * f .count) m)
-        → ContentLeaves packedKind room 2 whole (contextOf tb st) st b m x m′
+        → ContentLeaves packedKind room 2 whole (contextOf tb st) b m x m′
     unfolding packedBits packedContent packedReading
     packed-held {m = m} {m′ = m′} after-is is kept =
         let c = contextOf tb st in

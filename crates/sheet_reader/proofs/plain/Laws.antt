@@ -68,12 +68,12 @@ module _ {b : List ℕ} {st : SheetState} (room : ℕ) {f : RowFields} (fields :
 
 module _ {b : List ℕ} {st : SheetState} {room whole : ℕ} {m : List ℕ} {x : RecordRead} {f : RowFields} {c : Context}
     (fields : FieldsOf b st f) (shows : stateOf c ≡ st) where
-  pub plain-misplaced : x ≡ refusedRecord st (f .number) → (f .number ≡ 0 → ⊥) → ContentLeaves plainKind room 3 whole c st b m x m
+  pub plain-misplaced : x ≡ refusedRecord (f .number) → (f .number ≡ 0 → ⊥) → ContentLeaves plainKind room 3 whole c b m x m
   plain-misplaced is some =
       record { leaves = refuses is (given-first (f .number) _ refl some ∙ sym (plain-chain room fields c shows)) some }
 
-  pub plain-refused : f .number ≡ 0 → {n : ℕ} → n ≡ plainOwn (lent room) c b → x ≡ refusedRecord st n → (n ≡ 0 → ⊥)
-      → ContentLeaves plainKind room 3 whole c st b m x m
+  pub plain-refused : f .number ≡ 0 → {n : ℕ} → n ≡ plainOwn (lent room) c b → x ≡ refusedRecord n → (n ≡ 0 → ⊥)
+      → ContentLeaves plainKind room 3 whole c b m x m
   plain-refused placed judged is some =
       record { leaves = refuses is (given-next placed judged ∙ sym (plain-chain room fields c shows)) some }
 
@@ -109,7 +109,7 @@ module _ {b : List ℕ} {room : ℕ} {f : RowFields} {c : Context} where
         → ((c : Context) (d : List ℕ) → stateOf c ≡ st → after ≡ stateOf (afterRecord aRow (record { row = f .row }) d c))
         → x ≡ record { number = 0; kind = 3; row = f .row; count = f .count; bits = 0; words = 0; length = whole; state = after }
         → (room ≤ length m → m′ ≡ take (2 * f .count) (partFrom 4 b) ++ drop (2 * f .count) m)
-        → ContentLeaves plainKind room 3 whole c st b m x m′
+        → ContentLeaves plainKind room 3 whole c b m x m′
     unfolding plainContent
     plain-held {st} shows {m = m} {m′ = m′} after-is is kept =
         let front : take (2 * f .count) (partFrom 4 b) ≡ rowContent b =

@@ -102,13 +102,13 @@ module _ {h : Heading} {c : Context} {x m : List ℕ} {start : ℕ} {r : Answer}
   pack-number = ap (λ o. o .answer .number) (ran .packs) ∙ packed-number (tableFor c h) x (partFrom start m)
 
   -- packing refused: the memory is as it was
-  pub pack-refused : {st : SheetState} → stateOf c ≡ st → (r .number ≡ 0 → ⊥)
-      → {a : RecordWritten} → a ≡ notWritten st (r .number) → outcome a (withPart start m y) ≡ recordWritten 2 h c x m
-  pack-refused is some {a} e =
+  pub pack-refused : (r .number ≡ 0 → ⊥)
+      → {a : RecordWritten} → a ≡ notWritten (r .number) → outcome a (withPart start m y) ≡ recordWritten 2 h c x m
+  pack-refused some {a} e =
       let kept = packed-kept (tableFor c h) x (partFrom start m) (λ z. some (ap (λ o. o .answer .number) (ran .packs) ∙ z)) in
       let same : y ≡ partFrom start m = ap (λ o. o .memory) (ran .packs) ∙ kept .memory in
       ap (outcome a) (ap (withPart start m) same ∙ put-same start (length m - start) m)
-      ∙ refused-number 2 h c x m is (r .number) (given-first _ _ pack-number some ∙ sym write-number) some e
+      ∙ refused-number 2 h c x m (r .number) (given-first _ _ pack-number some ∙ sym write-number) some e
 
   module _ (done : r .number ≡ 0) where
     none : packNumber (tableFor c h) (halvesOf x) (length (partFrom start m) / 4) ≡ 0
@@ -130,16 +130,16 @@ module _ {h : Heading} {c : Context} {x m : List ℕ} {start : ℕ} {r : Answer}
     pack-most = rw bits-are (rowBits-most (accepted-table (tableFor c h) (fine .table)) x refl pack-few)
 
     -- no room for the fields: nothing was packed, nor had it room
-    pub pack-short : {st : SheetState} → stateOf c ≡ st → start < 10
-        → {a : RecordWritten} → a ≡ notWritten st 5 → outcome a (withPart start m y) ≡ recordWritten 2 h c x m
-    pack-short is short {a} e =
+    pub pack-short : start < 10
+        → {a : RecordWritten} → a ≡ notWritten 5 → outcome a (withPart start m y) ≡ recordWritten 2 h c x m
+    pack-short short {a} e =
         let size =
         ap (λ o. length (o .memory)) (ran .packs) ∙ packed-within (tableFor c h) x (partFrom start m) .size ∙ length-part in
         let empty : y ≡ [] = sym (take-all 0 y (omega arith)) in
         let same : withPart start m y ≡ m =
         part-back start m y ∙ rw (empty, append-nil (take start m)) (take-all start m (omega arith)) in
         ap (outcome a) same
-        ∙ refused-number 2 h c x m is 5 (sym (write-number ∙ rw (none, lt-ltb start 10 short))) (λ z. omega arith) e
+        ∙ refused-number 2 h c x m 5 (sym (write-number ∙ rw (none, lt-ltb start 10 short))) (λ z. omega arith) e
 
     -- done
     pub pack-done : 10 ≤ start → {st : SheetState} → st ≡ stateOf (afterRecord aRow h x c)

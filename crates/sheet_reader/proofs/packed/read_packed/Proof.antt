@@ -10,9 +10,7 @@ refused-requires : tie.Need-refused-requires
 refused-requires c κs = search needs
 
 returns : tie.Need-returns
-returns c =
-    let at-if1 = c .before in
-    packed-not-words (at-if1 .before .before .before .before .args .table .now) (at-if1 .if1 .taken) (c .refused .ensures)
+returns c = packed-not-words (c .before .if1 .taken) (c .refused .ensures)
 
 row-fields-requires : tie.Need-row-fields-requires
 row-fields-requires c κs = search needs

@@ -13,7 +13,7 @@ refused-requires c κs = search needs
 returns : tie.Need-returns
 returns c = λ x shows.
     let at-start = c .before .before .before in
-    table-not-words (at-start .args .body .now) (at-start .args .whole) (at-start .args .state) x (c .before .if1 .taken)
+    table-not-words (at-start .args .body .now) (at-start .args .whole) x (c .before .if1 .taken)
     (c .refused .ensures)
 
 table-place-requires : tie.Need-table-place-requires
@@ -27,7 +27,7 @@ returns-2 c = λ x shows.
     let at-place = c .before .before in
     let at-if1 = at-place .before in
     let at-start = at-if1 .before .before in
-    table-misplaced (at-start .args .body .now) (at-start .args .whole) (at-start .args .state) x (at-if1 .if1 .left)
+    table-misplaced (at-start .args .body .now) (at-start .args .whole) x (at-if1 .if1 .left)
     (at-place .table-place .ensures x noHeading shows) (c .before .if2 .taken) (c .refused2 .ensures)
 
 table-number-requires : tie.Need-table-number-requires
@@ -43,7 +43,7 @@ returns-3 c = λ x shows.
     let at-place = at-if2 .before in
     let at-if1 = at-place .before in
     let at-start = at-if1 .before .before in
-    table-refused (at-start .args .body .now) (at-start .args .whole) (at-start .args .state) x (at-if1 .if1 .left)
+    table-refused (at-start .args .body .now) (at-start .args .whole) x (at-if1 .if1 .left)
     (at-place .table-place .ensures x noHeading shows) (at-if2 .if2 .left) (at-number .table-number .ensures)
     (c .before .if3 .taken) (c .refused3 .ensures)
 
@@ -68,9 +68,9 @@ returns-4 c = λ x shows.
     let b = at-start .args .body .now in
     let place-is = at-place .table-place .ensures x noHeading shows in
     let none =
-    no-tables b (at-start .args .whole) (at-start .args .state) x (at-if1 .if1 .left) place-is (at-if2 .if2 .left)
+    no-tables b (at-start .args .whole) x (at-if1 .if1 .left) place-is (at-if2 .if2 .left)
     (at-number .table-number .ensures) in
-    table-held b (at-start .args .whole) (at-start .args .state) x (at-if1 .if1 .left) place-is (at-if2 .if2 .left)
+    table-held b (at-start .args .whole) x (at-if1 .if1 .left) place-is (at-if2 .if2 .left)
     (at-number .table-number .ensures) (at-if3 .if3 .left)
     (c .held .ensures ∙ rw (at-after .after-table .ensures x noHeading b shows none))
 

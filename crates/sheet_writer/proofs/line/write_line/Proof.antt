@@ -47,7 +47,7 @@ returns : tie.Need-returns
 returns c = λ x h is.
     let at-line-number = c .before .before in
     let a = at-line-number .before .before .before .args in
-    frame-refused (line-frame h x (a .content .now)) (a .out .now) is (at-line-number .line-number .result)
+    frame-refused (line-frame h x (a .content .now)) (a .out .now) (at-line-number .line-number .result)
     (at-line-number .line-number .ensures x h is) (c .before .if1 .taken) (c .refused .ensures)
 
 line-bytes-requires : tie.Need-line-bytes-requires
@@ -64,7 +64,7 @@ returns-2 c = λ x h is.
     let at-line-bytes = c .before .before in
     let at-if1 = at-line-bytes .before in
     let a = entry at-if1 .args in
-    frame-full (line-frame h x (a .content .now)) (a .out .now) is (passed at-if1 x h is)
+    frame-full (line-frame h x (a .content .now)) (a .out .now) (passed at-if1 x h is)
     (omega (arith, at-line-bytes .line-bytes .ensures, c .before .if2 .taken)) (c .refused2 .ensures)
 
 sub-put-numbers : tie.Need-sub-put-numbers

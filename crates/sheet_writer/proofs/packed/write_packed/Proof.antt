@@ -68,7 +68,7 @@ returns c =
     let a = at-start .args in
     let place = at-row-place .row-place in
     let is = state-is at-start in
-    frame-refused (packed-frame (heading at-start) (context at-start) (a .content .now)) (a .out .now) is (place .result)
+    frame-refused (packed-frame (heading at-start) (context at-start) (a .content .now)) (a .out .now) (place .result)
     (given-first _ _ (place .ensures (context at-start) is) (c .before .if1 .taken)) (c .before .if1 .taken) (c .refused .ensures)
 
 lesser-requires : tie.Need-lesser-requires
@@ -95,8 +95,7 @@ same-length c = search needs
 returns-2 : tie.Need-returns-2
 returns-2 c =
     let at-pack = c .before .before .before .before .before in
-    let is = state-is (entry (at-pack .before .before .before)) in
-    pack-refused (ran at-pack) is (c .before .if2 .taken) (c .refused2 .ensures)
+    pack-refused (ran at-pack) (c .before .if2 .taken) (c .refused2 .ensures)
 
 refused-requires-3 : tie.Need-refused-requires-3
 refused-requires-3 c κs = search needs
@@ -108,8 +107,7 @@ returns-3 : tie.Need-returns-3
 returns-3 c =
     let at-if2 = c .before .before in
     let at-pack = at-if2 .before .before .before .before in
-    let is = state-is (entry (at-pack .before .before .before)) in
-    pack-short (ran at-pack) (at-if2 .if2 .left) is (c .before .if3 .taken) (c .refused3 .ensures)
+    pack-short (ran at-pack) (at-if2 .if2 .left) (c .before .if3 .taken) (c .refused3 .ensures)
 
 add-words : tie.Need-add-words
 add-words c = omega (arith, pack-most (ran (c .before .before .before .before .before .before)) (c .before .before .if2 .left))

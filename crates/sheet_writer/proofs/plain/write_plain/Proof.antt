@@ -47,7 +47,7 @@ returns : tie.Need-returns
 returns c = λ x is.
     let at-plain-number = c .before .before in
     let at-start = at-plain-number .before .before .before in
-    frame-refused (plain-frame (heading at-start) x (at-start .args .content .now)) (at-start .args .out .now) is
+    frame-refused (plain-frame (heading at-start) x (at-start .args .content .now)) (at-start .args .out .now)
     (at-plain-number .plain-number .result) (at-plain-number .plain-number .ensures x is) (c .before .if1 .taken)
     (c .refused .ensures)
 
@@ -64,7 +64,7 @@ returns-2 : tie.Need-returns-2
 returns-2 c = λ x is.
     let at-if1 = c .before .before in
     let a = entry at-if1 .args in
-    frame-full (plain-frame (heading (entry at-if1)) x (a .content .now)) (a .out .now) is (passed at-if1 x is)
+    frame-full (plain-frame (heading (entry at-if1)) x (a .content .now)) (a .out .now) (passed at-if1 x is)
     (omega (arith, length-wholePixels (a .content .now), c .before .if2 .taken)) (c .refused2 .ensures)
 
 slice-aggregate-copy : tie.Need-slice-aggregate-copy

@@ -78,7 +78,7 @@ returns-5 c =
     let a = at-start .args in
     let none = c .before .match .rest in
     let is = kindOf-other (a .kind) (none .0 .0 .0 .1) (none .0 .0 .1) (none .0 .1) (none .1) in
-    refused-number (a .kind) (heading at-start) (context at-start) (a .content .now) (a .out .now) (state-is at-start) 15
+    refused-number (a .kind) (heading at-start) (context at-start) (a .content .now) (a .out .now) 15
     (rw is) (λ e. omega arith) (c .refused .ensures)
 
 pub write-record-spec : {M : Type 1} → statement M

@@ -43,7 +43,7 @@ returns : tie.Need-returns
 returns c = λ x h is.
     let at-table-number = c .before .before in
     let a = at-table-number .before .before .before .args in
-    frame-refused (table-frame h x (a .content .now)) (a .out .now) is (at-table-number .table-number .result)
+    frame-refused (table-frame h x (a .content .now)) (a .out .now) (at-table-number .table-number .result)
     (at-table-number .table-number .ensures x h is) (c .before .if1 .taken) (c .refused .ensures)
 
 add-record-bytes : tie.Need-add-record-bytes
@@ -56,7 +56,7 @@ returns-2 : tie.Need-returns-2
 returns-2 c = λ x h is.
     let at-if1 = c .before .before in
     let a = entry at-if1 .args in
-    frame-full (table-frame h x (a .content .now)) (a .out .now) is (passed at-if1 x h is) (c .before .if2 .taken)
+    frame-full (table-frame h x (a .content .now)) (a .out .now) (passed at-if1 x h is) (c .before .if2 .taken)
     (c .refused2 .ensures)
 
 sub-copy : tie.Need-sub-copy

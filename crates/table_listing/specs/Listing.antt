@@ -15,6 +15,7 @@ use Rattle.table_listing.specs.declared.Listed.{Listed}
 pub mod Laws
 pub mod Blocks
 pub mod Answers
+pub mod Told
 pub mod Long
 
 -- the places of a table's strings in tree order, "never deeper than 27"

@@ -59,9 +59,9 @@ listing-accepted = lines-accepted
 pub listing-refused : (b : List ℕ) → (tableNumber b ≡ 0 → ⊥) → lines b ≡ refusedLine (tableNumber b) ∷ []
 listing-refused = lines-refused
 
--- whoever reads a table need not keep more than 32776 bytes of it
-pub listing-cut : (b : List ℕ) → listing (take 32776 b) ≡ listing b
-listing-cut b = ap joined (lines-cut b)
+-- whoever reads a table need not keep more than 32773 bytes of it
+pub listing-cut : (n : ℕ) (b : List ℕ) → 32772 < n → listing (take n b) ≡ listing b
+listing-cut n b h = ap joined (lines-cut n b h)
 
 -- ---- the call that gives the lines, a block at a time
 -- a block is some lines; the listing from its first line on is these and then the listing from the next line on

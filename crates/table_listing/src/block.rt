@@ -18,7 +18,9 @@ ghost use Rattle.table_listing.specs.Append.{Appended};
 pub fn list_lines(table: &[u8], list: &[u16], first: usize, out: &mut [u8]) -> Listed
     requires { ⌜ WholeTable (now table) ⌝ }
     requires { ⌜ Below (3 + tableSize (wordsOf (now table))) (now list) ⌝ }
-    ensures { λ r. ⌜ outcome r (now (out .exit)) ≡ blockOf (nextNumber (drop first (map (line (wordsOf (now (table .entry)))) (now (list .entry)))) (length (now (out .entry)))) (drop first (map (line (wordsOf (now (table .entry)))) (now (list .entry)))) (now (out .entry)) ⌝ }
+    ensures { λ r. ⌜ outcome r (now (out .exit)) ≡
+        blockOf (nextNumber (drop first (map (line (wordsOf (now (table .entry)))) (now (list .entry)))) (length (now (out .entry))))
+        (drop first (map (line (wordsOf (now (table .entry)))) (now (list .entry)))) (now (out .entry)) ⌝ }
 {
     let mut at = 0;
     let mut i = first;

@@ -138,6 +138,12 @@ module _ (b : List ℕ) (first : ℕ) (m : List ℕ) where
       (λ k e. record { size = refl; rest = refl })
       (λ e. writes-within (done .answer) (length text) text m refl (fitting-room (length m) (linesFrom b first)))
 
+  pub block-bytes : block b first m .answer .bytes ≤ length m
+  unfolding block blockOf
+  block-bytes =
+      unless-in (λ (o : Outcome Listed). o .answer .bytes ≤ length m) (tableNumber b orElse next) (λ k. outcome (notListed k) m) done
+      (λ k e. omega arith) (λ e. fitting-room (length m) (linesFrom b first))
+
   pub block-text : take (block b first m .answer .bytes) (block b first m .memory)
       ≡ joined (take (block b first m .answer .lines) (drop first (lines b)))
   unfolding block blockOf joined

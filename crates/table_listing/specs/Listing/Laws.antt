@@ -2,7 +2,7 @@
 use Prim.Native.Nat.{ℕ, zero, suc, _+_, _-_, _/_, _%_}
 use native.Mathlib.Omega.{arith}
 use mathlib.Core.Path.{_≡_, refl}
-use mathlib.Core.List.{List, [], _∷_}
+use mathlib.Core.List.{List, [], _∷_, append-nil}
 use lib.ListN.{length, getD}
 use Rattle.bitstream.specs.Bits.{wordsOf, Below}
 use Rattle.bitstream.specs.Bits.Laws.{below-digits}
@@ -12,7 +12,7 @@ use Rattle.code_table.specs.Check.{WholeTable}
 use Rattle.code_table.specs.Check.Laws.{length-words, whole-table-words}
 use Rattle.text.specs.Lines.{refusedLine}
 use Rattle.table_listing.specs.Order.Once.{order-below}
-use Rattle.table_listing.specs.Listing.{treeOrder, stringLines, linesFor, lines}
+use Rattle.table_listing.specs.Listing.{treeOrder, stringLines, linesFor, lines, joined}
 
 -- a string's bits are 0 and 1
 pub codewordAt-bits : (t : List ℕ) (p : ℕ) → Below 2 (codewordAt t p)
@@ -43,3 +43,8 @@ lines-refused b some = go (tableNumber b) some
     go : (e : ℕ) → (e ≡ 0 → ⊥) → linesFor e (wordsOf b) ≡ refusedLine e ∷ []
     go zero h = absurd (h refl)
     go (suc e) h = refl
+
+-- one text alone
+pub joined-one : (l : List ℕ) → joined (l ∷ []) ≡ l
+unfolding joined
+joined-one l = append-nil l

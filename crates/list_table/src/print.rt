@@ -8,32 +8,34 @@ ghost use mathlib.Core.Bool.{true};
 ghost use Prim.Native.Nat.{_≤_};
 ghost use lib.ListN.{length, take, drop};
 ghost use Rattle.row_format.specs.Table.{tableNumber};
-ghost use Rattle.table_listing.specs.Listing.{lines, joined};
+ghost use Rattle.table_listing.specs.Listing.{lines, joined, listing};
 
 // number   the table's, 0 where it is accepted
-// lines    the lines that were printed
+// bytes    the bytes that were printed
 // whole    whether they are all: false where a write failed, which is said on standard error
 pub struct Printed {
     pub number: u32,
-    pub lines: usize,
+    pub bytes: usize,
     pub whole: bool,
 }
 
 pub fn print_listing(table: &[u8]) -> Printed
     ensures number { λ r. ⌜ r .number ≡ tableNumber (now (table .entry)) ⌝ }
-    ensures whole { λ r. ⌜ (r .whole ≡ true → r .lines ≡ length (lines (now (table .entry)))) ⌝ }
+    ensures whole { λ r. ⌜ (r .whole ≡ true → r .bytes ≡ length (listing (now (table .entry)))) ⌝ }
 {
     let mut block = io::large_buffer();
     print_blocks(table, &mut block)
 }
 
-// The lines before `first` are printed, those from it on are not.
+// first     the lines before it are printed, those from it on are not
+// printed   the bytes of those lines, as they were handed over
 fn print_blocks(table: &[u8], block: &mut [u8]) -> Printed
     requires { ⌜ 128 ≤ length (now block) ⌝ }
     ensures number { λ r. ⌜ r .number ≡ tableNumber (now (table .entry)) ⌝ }
-    ensures whole { λ r. ⌜ (r .whole ≡ true → r .lines ≡ length (lines (now (table .entry)))) ⌝ }
+    ensures whole { λ r. ⌜ (r .whole ≡ true → r .bytes ≡ length (listing (now (table .entry)))) ⌝ }
 {
     let mut first = 0;
+    let mut printed = 0;
     loop {
         let listed = list_table(table, first, block);
         let number = listed.number;
@@ -44,17 +46,18 @@ fn print_blocks(table: &[u8], block: &mut [u8]) -> Printed
         if count == 0 {
             return Printed {
                 number,
-                lines: first,
+                bytes: printed,
                 whole: true,
             };
         }
         let bytes = listed.bytes;
         if print_lines(table, first, count, &block[..bytes]) {
             first += count;
+            printed += bytes;
         } else {
             return Printed {
                 number,
-                lines: first,
+                bytes: printed,
                 whole: false,
             };
         }
@@ -66,20 +69,20 @@ fn print_refusal(table: &[u8], number: u32) -> Printed
     requires { ⌜ number ≡ tableNumber (now table) ⌝ }
     requires { ⌜ (number ≡ 0 → ⊥) ⌝ }
     ensures number { λ r. ⌜ r .number ≡ tableNumber (now (table .entry)) ⌝ }
-    ensures whole { λ r. ⌜ (r .whole ≡ true → r .lines ≡ length (lines (now (table .entry)))) ⌝ }
+    ensures whole { λ r. ⌜ (r .whole ≡ true → r .bytes ≡ length (listing (now (table .entry)))) ⌝ }
 {
     let mut text = [0u8; 128];
     let n = put_refused_line(&mut text, 0, number);
     if print_lines(table, 0, 1, &text[..n]) {
         return Printed {
             number,
-            lines: 1,
+            bytes: n,
             whole: true,
         };
     }
     Printed {
         number,
-        lines: 0,
+        bytes: 0,
         whole: false,
     }
 }

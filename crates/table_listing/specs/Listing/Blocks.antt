@@ -1,11 +1,11 @@
 -- The lines of a listing: blocks of them make it up, none has more than 128 bytes, and as many fit as are within the room.
 -- Assumes nothing.
-use Prim.Native.Nat.{ℕ, zero, suc, _+_, _-_, _≤_}
+use Prim.Native.Nat.{ℕ, zero, suc, _+_, _-_, _*_, _≤_}
 use native.Mathlib.Omega.{arith}
 use mathlib.Core.Path.{_≡_, refl, sym, ap, _∙_}
 use mathlib.Core.List.{List, [], _∷_, _++_, append-assoc, map}
 use lib.ListN.{length, take, drop, getD, length-append, length-drop, length-map, take-append-drop, List·getD-eq-default}
-use lib.Seq.{drop-drop}
+use lib.Seq.{drop-drop, take-add}
 use lib.Dec.{leb, ltb}
 use borrow.Author.Tests.{le-leb, leb-true, ltb-true, ltb-false}
 use Rattle.bitstream.specs.Bits.{wordsOf}
@@ -35,6 +35,10 @@ block-then b first n =
     sym (ap joined (take-append-drop n (drop first (lines b))))
     ∙ joined-append (take n (drop first (lines b))) (drop n (drop first (lines b)))
     ∙ ap (λ (ls : List (List ℕ)). joined (take n (drop first (lines b))) ++ joined ls) (drop-drop n first (lines b))
+
+-- so many lines and then some more
+pub joined-more : (first n : ℕ) (ls : List (List ℕ)) → joined (take (first + n) ls) ≡ joined (take first ls) ++ joined (take n (drop first ls))
+joined-more first n ls = ap joined (take-add first n ls) ∙ joined-append (take first ls) (take n (drop first ls))
 
 -- ---- no line has more than 128 bytes
 pub tableNumber-most : (b : List ℕ) → tableNumber b ≤ 3
@@ -106,3 +110,19 @@ lines-few b = go (tableNumber b) refl
     go (suc e) is =
         let these : lines b ≡ refusedLine (suc e) ∷ [] = unfold lines linesFor in rw is in
         rw these (omega arith)
+
+-- ---- the bytes of some lines
+joined-most : (ls : List (List ℕ)) → ((k : ℕ) → length (getD ls k []) ≤ 128) → length (joined ls) ≤ length ls * 128
+unfolding joined
+joined-most [] h = omega arith
+joined-most (l ∷ ls) h = omega (arith, length-append l (joined ls), h 0, joined-most ls (λ k. h (suc k)))
+
+pub listing-few : (b : List ℕ) → length (joined (lines b)) ≤ 1048320
+listing-few b = omega (arith, joined-most (lines b) (lines-most b), lines-few b)
+
+-- those of the first lines are no more than those of all
+pub joined-within : (n : ℕ) (ls : List (List ℕ)) → length (joined (take n ls)) ≤ length (joined ls)
+joined-within n ls =
+    let whole : joined ls ≡ joined (take n ls) ++ joined (drop n ls) =
+    sym (ap joined (take-append-drop n ls)) ∙ joined-append (take n ls) (drop n ls) in
+    omega (arith, ap length whole, length-append (joined (take n ls)) (joined (drop n ls)))

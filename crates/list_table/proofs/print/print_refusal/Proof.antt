@@ -7,8 +7,8 @@ use lib.ListN.{length}
 use lib.Seq.{length-take-le}
 use borrow.Author.Needs.{needs}
 use Rattle.text.specs.Lines.{refusedLine}
-use Rattle.text.specs.Put.Laws.{put-front}
-use Rattle.table_listing.specs.Listing.{lines}
+use Rattle.text.specs.Put.Laws.{put-front, put-start}
+use Rattle.table_listing.specs.Listing.{lines, joined, listing}
 use Rattle.table_listing.specs.Listing.Laws.{lines-refused, joined-one}
 use Rattle.list_table.proofs.print.print_refusal.Statement.{statement}
 use Rattle.list_table.proofs.print.print_refusal.Tie as tie
@@ -16,6 +16,9 @@ use Rattle.list_table.proofs.print.print_refusal.Tie as tie
 -- the listing is that line
 line-is : (c : tie.Start) → lines (c .args .table .now) ≡ refusedLine (c .args .number) ∷ []
 line-is c = rw (c .pre .0) (lines-refused (c .args .table .now) (λ e. c .pre .1 (c .pre .0 ∙ e)))
+
+listing-is : (c : tie.Start) → listing (c .args .table .now) ≡ refusedLine (c .args .number)
+listing-is c = ap joined (line-is c) ∙ joined-one (refusedLine (c .args .number))
 
 slice-aggregate-put-refused-line : tie.Need-slice-aggregate-put-refused-line
 slice-aggregate-put-refused-line c = search needs
@@ -40,7 +43,8 @@ print-lines-requires c κs =
 returns : tie.Need-returns
 returns c =
     let start = c .before .before .before .before .before .before .before in
-    (start .pre .0, λ e. sym (ap length (line-is start)))
+    let put = c .before .before .before .before .put-refused-line in
+    (start .pre .0, λ e. put-start (put .ensures .0) .0 ∙ sym (ap length (listing-is start)))
 
 returns-2 : tie.Need-returns-2
 returns-2 c = (c .before .before .before .before .before .before .before .pre .0, λ e. absurd (false≢true e))

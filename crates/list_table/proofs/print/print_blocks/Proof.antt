@@ -39,8 +39,11 @@ module _ (c : tie.After-list-table Inv-loop μ-loop) where
 
   within : c .list-table .result .bytes ≤ length (c .list-table .last .1 .1 .0)
   within =
-      omega (arith, told-bytes (entry (turn c) .args .table .now) (turn c .loop .first) (turn c .loop .block) (c .list-table .ensures),
-      c .list-table .kept .1 .1 .0)
+      omega (
+        arith,
+        told-bytes (entry (turn c) .args .table .now) (turn c .loop .first) (turn c .loop .block) (c .list-table .ensures),
+        c .list-table .kept .1 .1 .0,
+      )
 
   text-is : take (c .list-table .result .bytes) (c .list-table .last .1 .1 .0)
       ≡ joined (take (c .list-table .result .lines) (drop (turn c .loop .first) (lines (entry (turn c) .args .table .now))))

@@ -44,7 +44,14 @@ fn main() {
 fn write_usage(file: i32) {
     if io::write_all(
         file,
-        b"usage: list_table [FILE ...]\n\nLists the codewords of each table in tree order, or says by which rule it is refused.\nWith no FILE, and where FILE is -, it reads standard input.\n\n  --help     prints this\n  --version  prints the version\n  --         ends the options\n",
+        b"usage: list_table [FILE ...]\n\
+\n\
+Lists the codewords of each table in tree order, or says by which rule it is refused.\n\
+With no FILE, and where FILE is -, it reads standard input.\n\
+\n\
+\x20 --help     prints this\n\
+\x20 --version  prints the version\n\
+\x20 --         ends the options\n",
     ) {
         return;
     }

@@ -37,11 +37,14 @@ module _ (b : List ℕ) (ok : tableNumber b ≡ 0) where
   as-many = length-order (codewordAt (wordsOf b)) (codewordAt-bits (wordsOf b)) 27 (length (wordsOf b) - 3) ∙ words-count
 
   pub each-once : (p : ℕ) → p < 3 + tableSize (wordsOf b) → occurs p (treeOrder (wordsOf b)) ≡ 1
-  each-once p h = order-once (codewordAt (wordsOf b)) (codewordAt-bits (wordsOf b)) 27 (length (wordsOf b) - 3) p (omega (arith, words-count))
+  each-once p h =
+      let t = wordsOf b in
+      order-once (codewordAt t) (codewordAt-bits t) 27 (length t - 3) p (omega (arith, words-count))
 
   -- "the 0-branch before the 1-branch", and 27 bits are deep enough
-  pub in-tree-order : (i j : ℕ) → i < j → j < 3 + tableSize (wordsOf b)
-      → before (codewordAt (wordsOf b) (getD (treeOrder (wordsOf b)) i 0)) (codewordAt (wordsOf b) (getD (treeOrder (wordsOf b)) j 0)) ≡ true
+  pub in-tree-order : (i j : ℕ) → i < j → j < 3 + tableSize (wordsOf b) →
+      let string : ℕ → List ℕ = λ k. codewordAt (wordsOf b) (getD (treeOrder (wordsOf b)) k 0) in
+      before (string i) (string j) ≡ true
   in-tree-order i j below h =
       let t = wordsOf b in
       let n = length t - 3 in

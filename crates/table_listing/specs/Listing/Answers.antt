@@ -92,7 +92,8 @@ unfolding blockOf
 blockOf-done ls m = refl
 
 -- by the table's number
-pub block-refused : (b : List ℕ) (first : ℕ) (m : List ℕ) → (tableNumber b ≡ 0 → ⊥) → block b first m ≡ outcome (notListed (tableNumber b)) m
+pub block-refused : (b : List ℕ) (first : ℕ) (m : List ℕ) → (tableNumber b ≡ 0 → ⊥)
+    → block b first m ≡ outcome (notListed (tableNumber b)) m
 unfolding block blockOf
 block-refused b first m some =
     unless-first (tableNumber b) (nextNumber (linesFrom b first) (length m)) (λ k. outcome (notListed k) m)
@@ -203,14 +204,16 @@ module _ (b : List ℕ) (first : ℕ) (m : List ℕ) (ok : tableNumber b ≡ 0) 
           (number, omega (arith, accepted-lines number, fitting-within (length m) (linesFrom b first)))
 
   -- with room for 128 bytes there is a line where the listing has one
-  pub accepted-some : 128 ≤ length m → first < length (lines b) → (block b first m .answer .number ≡ 0) × (1 ≤ block b first m .answer .lines)
+  pub accepted-some : 128 ≤ length m → first < length (lines b)
+      → (block b first m .answer .number ≡ 0) × (1 ≤ block b first m .answer .lines)
   accepted-some room h =
       let short : length (getD (linesFrom b first) 0 []) ≤ 128 = rw (next-line, lines-accepted b ok) (strings-most b ok first) in
       let some = fitting-some (length m) (linesFrom b first) (omega (arith, left-over)) (omega arith) in
       let number = accepted-number ∙ next-fits (length m) (linesFrom b first) some in
       (number, omega (arith, accepted-lines number))
 
-  pub accepted-within : first ≤ length (lines b) → block b first m .answer .number ≡ 0 → first + block b first m .answer .lines ≤ length (lines b)
+  pub accepted-within : first ≤ length (lines b) → block b first m .answer .number ≡ 0
+      → first + block b first m .answer .lines ≤ length (lines b)
   accepted-within h e = omega (arith, accepted-lines e, fitting-within (length m) (linesFrom b first), left-over)
 
 -- ---- with room for 128 bytes the number is the table's

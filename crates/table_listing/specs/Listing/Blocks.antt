@@ -37,7 +37,8 @@ block-then b first n =
     ∙ ap (λ (ls : List (List ℕ)). joined (take n (drop first (lines b))) ++ joined ls) (drop-drop n first (lines b))
 
 -- so many lines and then some more
-pub joined-more : (first n : ℕ) (ls : List (List ℕ)) → joined (take (first + n) ls) ≡ joined (take first ls) ++ joined (take n (drop first ls))
+pub joined-more : (first n : ℕ) (ls : List (List ℕ))
+    → joined (take (first + n) ls) ≡ joined (take first ls) ++ joined (take n (drop first ls))
 joined-more first n ls = ap joined (take-add first n ls) ∙ joined-append (take first ls) (take n (drop first ls))
 
 -- ---- no line has more than 128 bytes

@@ -45,9 +45,17 @@ pick-requires-3 : tie.Need-pick-requires-3
 pick-requires-3 c κs =
     let at-pick2 = c .before .before .before in
     let at-pick = second at-pick2 in
-    let start = first at-pick in
-    (start .pre .0, omega (arith, room start, at-pick .pick .ensures .next, at-pick .pick .kept .1 .1 .1 .1 .0,
-    at-pick2 .pick2 .ensures .next, at-pick2 .pick2 .kept .1 .1 .1 .1 .0))
+    let start = first at-pick in (
+      start .pre .0,
+      omega (
+        arith,
+        room start,
+        at-pick .pick .ensures .next,
+        at-pick .pick .kept .1 .1 .1 .1 .0,
+        at-pick2 .pick2 .ensures .next,
+        at-pick2 .pick2 .kept .1 .1 .1 .1 .0,
+      ),
+    )
 
 same-length : tie.Need-same-length
 same-length c = search needs

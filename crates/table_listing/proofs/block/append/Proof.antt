@@ -14,10 +14,14 @@ same-length : tie.Need-same-length
 same-length c = search needs
 
 returns : tie.Need-returns
-returns c = append-fits (c .before .before .before .before .if1 .taken) (c .before .before .before .before .before .before .before .pre) (c .before .before .put-bytes .ensures)
+returns c =
+    let at-if1 = c .before .before .before .before in
+    append-fits (at-if1 .if1 .taken) (at-if1 .before .before .before .pre) (c .before .before .put-bytes .ensures)
 
 returns-2 : tie.Need-returns-2
-returns-2 c = append-stays (c .before .before .before .args .out .now) (c .before .before .before .args .at) (c .before .before .before .args .text .now) (c .if1 .left)
+returns-2 c =
+    let a = c .before .before .before .args in
+    append-stays (a .out .now) (a .at) (a .text .now) (c .if1 .left)
 
 pub append-spec : {M : Type 1} → statement M
 append-spec = tie.close (tie.spec sub-if1 put-bytes-requires same-length returns returns-2)

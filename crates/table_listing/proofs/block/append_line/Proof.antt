@@ -17,7 +17,9 @@ array-share-prefix-text : tie.Need-array-share-prefix-text
 array-share-prefix-text c = search needs
 
 slice-aggregate-append : tie.Need-slice-aggregate-append
-slice-aggregate-append c = sym (length-take-le (c .before .before .before .put-line .result) (c .before .before .before .put-line .last .0) (omega (arith, c .before .before .before .put-line .kept .0)))
+slice-aggregate-append c =
+    let put = c .before .before .before .put-line in
+    sym (length-take-le (put .result) (put .last .0) (omega (arith, put .kept .0)))
 
 append-requires : tie.Need-append-requires
 append-requires c κs = search needs

@@ -37,7 +37,8 @@ returns c =
     let at-space = at-bits .before .before .before .before .before in
     let at-name = at-space .before .before .before .before .before in
     let start = at-name .before .before .before .before in (
-      put-parts (wordsOf (start .args .table .now)) (start .args .place) (at-bits .before .string-word .result) (omega arith) (at-bits .before .string-word .ensures)
+      let word = at-bits .before .string-word in
+          put-parts (wordsOf (start .args .table .now)) (start .args .place) (word .result) (omega arith) (word .ensures)
           (at-name .put-name .ensures .0) (at-space .put-bytes .ensures) (at-bits .put-bits .ensures .0) (at-end .put-bytes2 .ensures),
       search needs,
     )

@@ -1,80 +1,135 @@
-// The table lister: reads one table from standard input and prints its strings in tree order, a line each, or `refused N`.
-// A read or a write that fails is reported on standard error.
+// The table lister: prints the strings of each table in tree order, a line each, or `refused N`. What cannot be opened, read
+// or written is said on standard error.
+mod input;
+mod print;
+mod sheet;
+
+use command::Files;
+use command::Request;
+use command::close;
+use command::count_files;
+use command::is_file;
+use command::open;
+use command::read_request;
+use command::say::complain;
+use command::say::hint;
+use command::say::print_file;
+use command::say::print_version;
+use command::say::refuse_option;
+use command::word_at;
+use input::Input;
+use input::read_table;
+use libc::STDERR_FILENO;
 use libc::STDIN_FILENO;
 use libc::STDOUT_FILENO;
-use table_listing::list_table;
-ghost use Prim.Native.Nat.{_+_, _≤_};
-ghost use lib.ListN.{length};
-ghost use Rattle.table_listing.specs.Listing.{lines};
-ghost use Rattle.list_table.specs.Input.{Within};
+use print::print_listing;
+use sheet::begins_sheet;
 
-// How many bytes were read, or that a read failed.
-enum Input {
-    Bytes(usize),
-    Failed,
-}
+pub const PROGRAM: [u8; 10] = *b"list_table";
 
 fn main() {
-    // a table has at most 32772 bytes: with four more that are read it is too long, however much follows
-    let mut table = [0u8; 32776];
-    match read_table(&mut table) {
-        Input::Bytes(n) => print_listing(&table[..n]),
-        Input::Failed => os::fail(b"standard input"),
-    }
-}
-
-// Reads until the buffer is full or the input ends.
-fn read_table(table: &mut [u8]) -> Input
-    ensures { λ r. ⌜ Within (length (now (table .entry))) r ⌝ }
-{
-    let mut at = 0;
-    while at < table.len() {
-        let Input::Bytes(n) = read_some(&mut table[at..]) else {
-            return Input::Failed;
-        };
-        if n == 0 {
-            return Input::Bytes(at);
+    match read_request() {
+        Request::Help => write_usage(STDOUT_FILENO),
+        Request::Version => {
+            print_version(&PROGRAM);
         }
-        at += n;
+        Request::Unknown(i) => {
+            refuse_option(&PROGRAM, i);
+            write_usage(STDERR_FILENO);
+        }
+        Request::Files(files) => list_files(files),
     }
-    Input::Bytes(at)
 }
 
-// One read; no bytes at the end of the input.
-fn read_some(rest: &mut [u8]) -> Input
-    ensures { λ r. ⌜ Within (length (now (rest .entry))) r ⌝ }
-{
-    let got = libc::read(STDIN_FILENO, rest);
-    if got < 0 {
-        return Input::Failed;
+fn write_usage(file: i32) {
+    if io::write_all(
+        file,
+        b"usage: list_table [FILE ...]\n\
+\n\
+Lists the codewords of each table in tree order, or says by which rule it is refused.\n\
+With no FILE, and where FILE is -, it reads standard input.\n\
+\n\
+\x20 --help     prints this\n\
+\x20 --version  prints the version\n\
+\x20 --         ends the options\n",
+    ) {
+        return;
     }
-    Input::Bytes(io::count(got, rest))
+    complain(&PROGRAM, b"standard output");
 }
 
-// Prints a table's listing block by block.
-fn print_listing(table: &[u8]) {
-    let mut first = 0;
-    loop {
-        let n = print_block(table, first);
-        if n == 0 {
+// Each file in its turn; standard input where none is named.
+fn list_files(files: Files) {
+    let count = count_files(files);
+    if count == 0 {
+        list_file(STDIN_FILENO, b"-");
+        return;
+    }
+    let several = 1 < count;
+    let mut i = 1;
+    while i < files.arguments {
+        if list_argument(files, i, several) {
+            i += 1;
+        } else {
             return;
         }
-        first += n;
     }
 }
 
-// Prints the lines from `first` on, as many as a block holds, and answers how many: none at the listing's end or where the
-// write fails.
-fn print_block(table: &[u8], first: usize) -> usize
-    requires { ⌜ first ≤ length (lines (now table)) ⌝ }
-    ensures { λ r. ⌜ first + r ≤ length (lines (now (table .entry))) ⌝ }
-{
-    let mut block = io::large_buffer();
-    let listed = list_table(table, first, &mut block);
-    let bytes = listed.bytes;
-    if io::write_all(STDOUT_FILENO, &block[..bytes]) {
-        return listed.lines;
+// The argument at place i, where it is a file. False where nothing more can be written.
+fn list_argument(files: Files, i: usize, several: bool) -> bool {
+    if is_file(files, i) {
+        return list_named(i, several);
     }
-    os::fail(b"standard output");
-    0
+    true
+}
+
+fn list_named(i: usize, several: bool) -> bool {
+    let mut word = io::buffer();
+    let n = word_at(i, &mut word);
+    let name = &word[..n];
+    if several {
+        if print_file(&PROGRAM, name) {
+            return list_opened(name);
+        }
+        return false;
+    }
+    list_opened(name)
+}
+
+fn list_opened(name: &[u8]) -> bool {
+    let file = open(&PROGRAM, name);
+    if file < 0 {
+        return true;
+    }
+    let written = list_file(file, name);
+    close(file);
+    written
+}
+
+fn list_file(file: i32, name: &[u8]) -> bool {
+    // a table has at most 32772 bytes: with one more that is read it is refused, however much follows. The first record of a
+    // sheet has at most 32778
+    let mut table = [0u8; 32778];
+    match read_table(file, &mut table) {
+        Input::Bytes(n) => list_bytes(&table[..n], name),
+        Input::Failed => {
+            complain(&PROGRAM, name);
+            true
+        }
+    }
+}
+
+fn list_bytes(table: &[u8], name: &[u8]) -> bool {
+    let printed = print_listing(table);
+    if printed.number != 0 {
+        if begins_sheet(table) {
+            hint(
+                &PROGRAM,
+                name,
+                b"this looks like a sheet; list_sheet lists it",
+            );
+        }
+    }
+    printed.whole
 }

@@ -1,12 +1,12 @@
--- The listing of a table: its strings in tree order, a line each, or the one line `refused N`. Definitions only; their laws
--- are in Listing/. Assumes nothing.
+-- The listing of a table: its strings in tree order, a line each, or the one line `refused N`; and the call that gives the
+-- lines of an accepted table, a block of them at a time. Definitions only; their laws are in Listing/. Assumes nothing.
 use Prim.Native.Nat.{ℕ, zero, suc, _-_}
 use mathlib.Core.Bool.{cond}
 use mathlib.Core.List.{List, [], _∷_, _++_, map}
 use lib.ListN.{length, take, drop}
 use lib.Dec.{leb}
 use Rattle.bitstream.specs.Bits.{wordsOf}
-use Rattle.bitstream.specs.Memory.{overwritten}
+use Rattle.answer.specs.Outcome.{Outcome, outcome, writes, _orElse_, unless, lent, roomNumber}
 use Rattle.row_format.specs.Table.{codewordAt, tableNumber}
 use Rattle.text.specs.Lines.{refusedLine}
 use Rattle.table_listing.specs.Order.{order, places}
@@ -14,15 +14,21 @@ use Rattle.table_listing.specs.Line.{line}
 use Rattle.table_listing.specs.declared.Listed.{Listed}
 pub mod Laws
 pub mod Blocks
+pub mod Answers
+pub mod Told
 pub mod Long
 
 -- the places of a table's strings in tree order, "never deeper than 27"
 abbrev pub treeOrder : List ℕ → List ℕ
 treeOrder t = order (codewordAt t) 27 0 (places (length t - 3))
 
--- the lines for a table's number and words
+-- a line for each string
+abbrev pub stringLines : List ℕ → List (List ℕ)
+stringLines t = map (line t) (treeOrder t)
+
+-- what is printed for a table's number and words
 unfoldable pub linesFor : ℕ → List ℕ → List (List ℕ)
-linesFor zero t = map (line t) (treeOrder t)
+linesFor zero t = stringLines t
 linesFor (suc e) t = refusedLine (suc e) ∷ []
 
 -- and for its bytes
@@ -38,28 +44,40 @@ joined (l ∷ ls) = l ++ joined ls
 abbrev pub listing : List ℕ → List ℕ
 listing b = joined (lines b)
 
--- ---- a block of it
+-- ---- the call: a block of lines at the front of the memory m lent for it
 -- how many lines, from the first on, fit whole into a room
 unfoldable pub fitting : ℕ → List (List ℕ) → ℕ
 fitting room [] = 0
 fitting room (l ∷ ls) = let q : ℕ = fitting (room - length l) ls in cond (leb (length l) room) (suc q) 0
 
--- what is answered, and what the memory lent for writing is then
-pub record Block : Type 0 where
-  pub answer : Listed
-  pub memory : List ℕ
+-- 5 where there is a next line and it does not fit
+unfoldable pub nextNumber : List (List ℕ) → ℕ → ℕ
+nextNumber [] room = 0
+nextNumber (l ∷ ls) room = roomNumber (lent room) (length l)
 
--- of some lines as many as fit are put at the front of the memory, whose rest is as it was
-abbrev pub blockOf : List (List ℕ) → List ℕ → Block
-blockOf ls m =
-    record {
-      answer = record { lines = fitting (length m) ls; bytes = length (joined (take (fitting (length m) ls) ls)) };
-      memory = overwritten m 0 (joined (take (fitting (length m) ls) ls));
-    }
+abbrev pub listedOf : ℕ → ℕ → ℕ → Listed
+listedOf e n k = record { number = e; lines = n; bytes = k }
 
--- the lines of a listing from one of them on
-abbrev pub block : List ℕ → ℕ → List ℕ → Block
-block b first m = blockOf (drop first (lines b)) m
+-- the number where the next line does not fit and n lines are put before it
+abbrev pub stopNumber : ℕ → ℕ
+stopNumber zero = 5
+stopNumber (suc n) = 0
 
-abbrev pub left : Listed → List ℕ → Block
-left r m = record { answer = r; memory = m }
+abbrev pub notListed : ℕ → Listed
+notListed e = listedOf e 0 0
+
+-- so many of some lines
+abbrev pub linesPut : ℕ → List (List ℕ) → List ℕ → Outcome Listed
+linesPut n ls m = writes (listedOf 0 n (length (joined (take n ls)))) (joined (take n ls)) m
+
+-- as many as fit, unless a number refuses the call; no lines where none are left
+unfoldable pub blockOf : ℕ → List (List ℕ) → List ℕ → Outcome Listed
+blockOf e ls m = unless e (λ k. outcome (notListed k) m) (linesPut (fitting (length m) ls) ls m)
+
+-- the lines that a table has from the line `first` on
+abbrev pub linesFrom : List ℕ → ℕ → List (List ℕ)
+linesFrom b first = drop first (stringLines (wordsOf b))
+
+-- "1, 2, 3" for the table, then 5
+unfoldable pub block : List ℕ → ℕ → List ℕ → Outcome Listed
+block b first m = blockOf (tableNumber b orElse nextNumber (linesFrom b first) (length m)) (linesFrom b first) m

@@ -88,7 +88,8 @@ fn copy(from: &[u16], to: &mut [u16])
 fn pick(table: &[u8], from: &[u16], d: u32, k: u32, out: &mut [u16], at: usize) -> usize
     requires { ⌜ d < 32 ⌝ }
     requires { ⌜ at + length (picked (codewordAt (wordsOf (now table))) d k (now from)) ≤ length (now out) ⌝ }
-    ensures { λ r. ⌜ Put (now (out .entry)) at (picked (codewordAt (wordsOf (now (table .entry)))) d k (now (from .entry))) r (now (out .exit)) ⌝ }
+    ensures { λ r. ⌜ Put (now (out .entry)) at
+        (picked (codewordAt (wordsOf (now (table .entry)))) d k (now (from .entry))) r (now (out .exit)) ⌝ }
 {
     let mut next = at;
     let mut i = 0;

@@ -1,57 +1,60 @@
 // A block of lines in lent memory: as many whole lines as there is room for.
 use crate::Listed;
 use crate::line::put_line;
-use text::line::put_refused_line;
 use text::put::put_bytes;
 ghost use mathlib.Core.Path.{_≡_};
-ghost use mathlib.Core.List.{[], _∷_, map};
+ghost use mathlib.Core.List.{map};
 ghost use Prim.Native.Nat.{_+_, _≤_, _<_};
 ghost use lib.ListN.{length, drop};
+ghost use Rattle.answer.specs.Outcome.{outcome};
 ghost use Rattle.bitstream.specs.Bits.{wordsOf, Below};
 ghost use Rattle.row_format.specs.Table.{tableSize};
 ghost use Rattle.code_table.specs.Check.{WholeTable};
-ghost use Rattle.text.specs.Lines.{refusedLine};
 ghost use Rattle.table_listing.specs.Line.{line};
-ghost use Rattle.table_listing.specs.Listing.{left, blockOf};
+ghost use Rattle.table_listing.specs.Listing.{stopNumber, listedOf, nextNumber, blockOf};
 ghost use Rattle.table_listing.specs.Append.{Appended};
 
 // The lines of the strings at some places, from the place numbered `first` on.
 pub fn list_lines(table: &[u8], list: &[u16], first: usize, out: &mut [u8]) -> Listed
     requires { ⌜ WholeTable (now table) ⌝ }
     requires { ⌜ Below (3 + tableSize (wordsOf (now table))) (now list) ⌝ }
-    ensures { λ r. ⌜ left r (now (out .exit)) ≡ blockOf (drop first (map (line (wordsOf (now (table .entry)))) (now (list .entry)))) (now (out .entry)) ⌝ }
+    ensures { λ r. ⌜ outcome r (now (out .exit)) ≡
+        blockOf (nextNumber (drop first (map (line (wordsOf (now (table .entry)))) (now (list .entry)))) (length (now (out .entry))))
+        (drop first (map (line (wordsOf (now (table .entry)))) (now (list .entry)))) (now (out .entry)) ⌝ }
 {
     let mut at = 0;
     let mut i = first;
     while i < list.len() {
         let next = append_line(out, at, table, list[i]);
         if next == at {
-            return Listed {
-                lines: i - first,
-                bytes: at,
-            };
+            return stopped(i - first, at);
         }
         at = next;
         i += 1;
     }
     Listed {
+        number: 0,
         lines: i - first,
         bytes: at,
     }
 }
 
-// The one line of a refused table.
-pub fn list_refusal(number: u32, first: usize, out: &mut [u8]) -> Listed
-    ensures { λ r. ⌜ left r (now (out .exit)) ≡ blockOf (drop first (refusedLine number ∷ [])) (now (out .entry)) ⌝ }
+// What is answered where the next line does not fit: 5 where it is the first.
+fn stopped(lines: usize, bytes: usize) -> Listed
+    ensures { λ r. ⌜ r ≡ listedOf (stopNumber lines) lines bytes ⌝ }
 {
-    if 0 < first {
-        return Listed { lines: 0, bytes: 0 };
+    if lines == 0 {
+        return Listed {
+            number: 5,
+            lines,
+            bytes,
+        };
     }
-    let bytes = append_refused(out, 0, number);
-    if bytes == 0 {
-        return Listed { lines: 0, bytes: 0 };
+    Listed {
+        number: 0,
+        lines,
+        bytes,
     }
-    Listed { lines: 1, bytes }
 }
 
 // The line of the string at a place, put where it fits.
@@ -63,16 +66,6 @@ fn append_line(out: &mut [u8], at: usize, table: &[u8], place: u16) -> usize
 {
     let mut text = [0u8; 128];
     let n = put_line(&mut text, 0, table, place);
-    append(out, at, &text[..n])
-}
-
-// The line `refused N`, put where it fits.
-fn append_refused(out: &mut [u8], at: usize, number: u32) -> usize
-    requires { ⌜ at ≤ length (now out) ⌝ }
-    ensures { λ r. ⌜ Appended (now (out .entry)) at (refusedLine number) r (now (out .exit)) ⌝ }
-{
-    let mut text = [0u8; 128];
-    let n = put_refused_line(&mut text, 0, number);
     append(out, at, &text[..n])
 }
 

@@ -9,11 +9,13 @@ newline = ascii "\n"
 
 -- `table 1 low 3837 size 512 worst 14`
 abbrev pub tableLine : ℕ → ℕ → ℕ → ℕ → List ℕ
-tableLine id low size worst = fields (ascii "table ") id (ascii " low ") low ++ (fields (ascii " size ") size (ascii " worst ") worst ++ newline)
+tableLine id low size worst =
+    fields (ascii "table ") id (ascii " low ") low ++ (fields (ascii " size ") size (ascii " worst ") worst ++ newline)
 
 -- `row 0 pixels 2 bits 13 words 1`: a row of kind 2
 abbrev pub packedLine : ℕ → ℕ → ℕ → ℕ → List ℕ
-packedLine row pixels bits words = fields (ascii "row ") row (ascii " pixels ") pixels ++ (fields (ascii " bits ") bits (ascii " words ") words ++ newline)
+packedLine row pixels bits words =
+    fields (ascii "row ") row (ascii " pixels ") pixels ++ (fields (ascii " bits ") bits (ascii " words ") words ++ newline)
 
 -- `row R pixels P plain`: a row of kind 3
 abbrev pub plainLine : ℕ → ℕ → List ℕ

@@ -28,7 +28,8 @@ fn put_two(
     end: &[u8],
 ) -> usize
     requires { ⌜ at + length (now words) + length (now more) + length (now end) + 40 ≤ length (now out) ⌝ }
-    ensures put { λ r. ⌜ Put (now (out .entry)) at (fields (now (words .entry)) n (now (more .entry)) k ++ now (end .entry)) r (now (out .exit)) ⌝ }
+    ensures put { λ r. ⌜ Put (now (out .entry)) at
+        (fields (now (words .entry)) n (now (more .entry)) k ++ now (end .entry)) r (now (out .exit)) ⌝ }
     ensures most { λ r. ⌜ r ≤ at + length (now (words .entry)) + length (now (more .entry)) + length (now (end .entry)) + 40 ⌝ }
 {
     let next = put_fields(out, at, words, n, more, k);
@@ -48,8 +49,11 @@ fn put_four(
     n: u64,
 ) -> usize
     requires { ⌜ at + length (now first) + length (now second) + length (now third) + length (now fourth) + 81 ≤ length (now out) ⌝ }
-    ensures put { λ r. ⌜ Put (now (out .entry)) at (fields (now (first .entry)) i (now (second .entry)) j ++ (fields (now (third .entry)) k (now (fourth .entry)) n ++ newline)) r (now (out .exit)) ⌝ }
-    ensures most { λ r. ⌜ r ≤ at + length (now (first .entry)) + length (now (second .entry)) + length (now (third .entry)) + length (now (fourth .entry)) + 81 ⌝ }
+    ensures put { λ r. ⌜ Put (now (out .entry)) at
+        (fields (now (first .entry)) i (now (second .entry)) j ++ (fields (now (third .entry)) k (now (fourth .entry)) n ++ newline))
+        r (now (out .exit)) ⌝ }
+    ensures most { λ r. ⌜ r ≤ at + length (now (first .entry)) + length (now (second .entry)) + length (now (third .entry))
+        + length (now (fourth .entry)) + 81 ⌝ }
 {
     let middle = put_fields(out, at, first, i, second, j);
     put_two(out, middle, third, k, fourth, n, b"\n")

@@ -1,5 +1,5 @@
 -- A block of lines on the way, and its laws. Assumes nothing.
-use Prim.Native.Nat.{ℕ, suc, _+_, _-_, _≤_, _<_}
+use Prim.Native.Nat.{ℕ, zero, suc, _+_, _-_, _≤_, _<_}
 use native.Mathlib.Nat.{zero-add, add-zero}
 use native.Mathlib.Numerals.{add-one}
 use native.Mathlib.Omega.{arith}
@@ -9,13 +9,15 @@ use lib.ListN.{length, take, drop, getD, length-append, length-drop, length-map,
 use lib.Seq.{take-suc, drop-cons, getD-drop}
 use lib.Dec.{leb}
 use borrow.Author.Tests.{le-leb, lt-leb, leb-true, leb-false}
+use Rattle.answer.specs.Outcome.{outcome}
 use Rattle.row_format.specs.Lists.Laws.{by-test}
 use Rattle.row_format.specs.Table.{codewordAt}
 use Rattle.text.specs.Put.{Put}
-use Rattle.text.specs.Put.Laws.{put-none, put-put}
-use Rattle.text.specs.Text.{ascii, field, digit}
-use Rattle.text.specs.Lines.{newline, refusedLine}
-use Rattle.table_listing.specs.Listing.{joined, fitting, blockOf, left}
+use Rattle.text.specs.Put.Laws.{put-none, put-put, put-start}
+use Rattle.text.specs.Text.{ascii, digit}
+use Rattle.table_listing.specs.declared.Listed.{Listed}
+use Rattle.table_listing.specs.Listing.{joined, fitting, nextNumber, stopNumber, listedOf, blockOf}
+use Rattle.table_listing.specs.Listing.Answers.{next-fits, next-all, next-not, blockOf-refused, blockOf-done}
 use Rattle.table_listing.specs.Line.{line, name}
 use Rattle.table_listing.specs.Line.Laws.{getD-map}
 use Rattle.table_listing.specs.Append.{Appended}
@@ -76,23 +78,46 @@ filling-none ls m =
       fit = rw all (sym (zero-add (fitting (length m) ls)));
     }
 
+-- what a call answers that put k lines and stops there
+abbrev pub BlockIs : List (List ℕ) → List ℕ → Listed → List ℕ → Type 0
+BlockIs ls m r m′ = outcome r m′ ≡ blockOf (nextNumber ls (length m)) ls m
+
 module _ {ls : List (List ℕ)} {m m′ : List ℕ} {k at : ℕ} (f : Filling ls m k at m′) where
-  done : fitting (length m) ls ≡ k → left (record { lines = k; bytes = at }) m′ ≡ blockOf ls m
-  done e =
-      let bytes : at ≡ length (joined (take k ls)) = f .put .next ∙ zero-add (length (joined (take k ls))) in
-      rw e (λ i. left (record { lines = k; bytes = bytes i }) (f .put .memory i))
+  done : nextNumber ls (length m) ≡ 0 → fitting (length m) ls ≡ k → BlockIs ls m (listedOf 0 k at) m′
+  done none e =
+      let text = put-start (f .put) in
+      rw (none, blockOf-done ls m, e) (λ i. outcome (listedOf 0 k (text .0 i)) (text .1 i))
 
   -- all lines are put
-  pub filling-all : length ls ≤ k → left (record { lines = k; bytes = at }) m′ ≡ blockOf ls m
-  filling-all h = done (f .fit ∙ rw (drop-of-length-le ls h, fitting-none (length m - at)) (add-zero k))
+  pub filling-all : length ls ≤ k → BlockIs ls m (listedOf 0 k at) m′
+  filling-all h =
+      let all : fitting (length m) ls ≡ k = f .fit ∙ rw (drop-of-length-le ls h, fitting-none (length m - at)) (add-zero k) in
+      done (next-all (length m) ls (omega arith)) all
 
   module _ (l : List ℕ) (h : k < length ls) (is : l ≡ getD ls k []) where
     rest : drop k ls ≡ l ∷ drop (suc k) ls
     rest = rw is (drop-cons ls k [] h)
 
-    -- the next line does not fit
-    pub filling-stop : length m < at + length l → left (record { lines = k; bytes = at }) m′ ≡ blockOf ls m
-    filling-stop g = done (f .fit ∙ rw (rest, fitting-stop (length m - at) l (drop (suc k) ls) (omega arith)) (add-zero k))
+    -- the next line does not fit: 5 where it is the first
+    pub filling-stop : length m < at + length l → BlockIs ls m (listedOf (stopNumber k) k at) m′
+    filling-stop g = go k refl
+      where
+        all : fitting (length m) ls ≡ k
+        all = f .fit ∙ rw (rest, fitting-stop (length m - at) l (drop (suc k) ls) (omega arith)) (add-zero k)
+
+        none : k ≡ 0 → BlockIs ls m (listedOf 5 k at) m′
+        none e =
+            let text = put-start (f .put) in
+            let first : ls ≡ l ∷ drop 1 ls = rw e at rest in
+            let empty : joined (take k ls) ≡ [] = unfold joined in rw e in
+            let start : at ≡ 0 = text .0 ∙ ap length empty in
+            let short : nextNumber ls (length m) ≡ 5 = rw first (next-not (length m) l (drop 1 ls) (omega arith)) in
+            let same : m′ ≡ m = text .1 ∙ rw empty in
+            rw (short, blockOf-refused 4 ls m) (λ i. outcome (listedOf 5 (e i) (start i)) (same i))
+
+        go : (n : ℕ) → k ≡ n → BlockIs ls m (listedOf (stopNumber n) k at) m′
+        go zero e = none e
+        go (suc n) e = done (next-fits (length m) ls (omega arith)) all
 
     -- it fits
     pub filling-more : {r : ℕ} {m″ : List ℕ} → at + length l ≤ length m → length m″ ≡ length m → Put m′ at l r m″
@@ -108,18 +133,25 @@ module _ {ls : List (List ℕ)} {m m′ : List ℕ} {k at : ℕ} (f : Filling ls
         }
 
 -- ---- one turn: the next line is put where it fits
-module _
-    {ls : List (List ℕ)} {m m′ m″ : List ℕ} {k at r : ℕ} (f : Filling ls m k at m′)
-    (l : List ℕ) (h : k < length ls) (is : l ≡ getD ls k []) (some : 1 ≤ length l) (p : Appended m′ at l r m″) where
-  pub turn-stop : r ≡ at → left (record { lines = k; bytes = at }) m″ ≡ blockOf ls m
+pub record Turn (ls : List (List ℕ)) (m m′ : List ℕ) (k at r : ℕ) (m″ : List ℕ) : Type 0 where
+  pub filling : Filling ls m k at m′
+  pub inside : k < length ls
+  pub line : List ℕ
+  pub next : line ≡ getD ls k []
+  pub some : 1 ≤ length line
+  pub appended : Appended m′ at line r m″
+
+module _ {ls : List (List ℕ)} {m m′ m″ : List ℕ} {k at r : ℕ} (t : Turn ls m m′ k at r m″) where
+  pub turn-stop : r ≡ at → BlockIs ls m (listedOf (stopNumber k) k at) m″
   turn-stop e =
-      let over = stayed-not some p e in
-      rw (p .stays over .1) (filling-stop f l h is (omega (arith, f .size)))
+      let over = stayed-not (t .some) (t .appended) e in
+      rw (t .appended .stays over .1) (filling-stop (t .filling) (t .line) (t .inside) (t .next) (omega (arith, t .filling .size)))
 
   pub turn-more : length m″ ≡ length m′ → (r ≡ at → ⊥) → Filling ls m (k + 1) r m″
   turn-more size e =
-      let inside = moved-fits some p e in
-      filling-more f l h is (omega (arith, f .size)) (size ∙ f .size) (p .fits inside)
+      let fits = moved-fits (t .some) (t .appended) e in
+      filling-more (t .filling) (t .line) (t .inside) (t .next) (omega (arith, t .filling .size)) (size ∙ t .filling .size)
+      (t .appended .fits fits)
 
 -- ---- the lines of some places from one of them on
 module _ (t list : List ℕ) (first i : ℕ) where
@@ -131,23 +163,9 @@ module _ (t list : List ℕ) (first i : ℕ) where
 pub length-lines : (t list : List ℕ) (first : ℕ) → length (drop first (map (line t) list)) ≡ length list - first
 length-lines t list first = length-drop first (map (line t) list) ∙ ap (_- first) (length-map list (line t))
 
--- ---- one line alone
-pub refused-some : (e : ℕ) → 1 ≤ length (refusedLine e)
-refused-some e = rw (length-append (field (ascii "refused ") e) newline) (omega arith)
-
-module _ (l m : List ℕ) (first : ℕ) where
-  pub alone-past : 0 < first → left (record { lines = 0; bytes = 0 }) m ≡ blockOf (drop first (l ∷ [])) m
-  alone-past h = filling-all (filling-none (drop first (l ∷ [])) m) (omega (arith, length-drop first (l ∷ [])))
-
-  module _ (some : 1 ≤ length l) (e : first ≤ 0) {r : ℕ} {m′ : List ℕ} (p : Appended m 0 l r m′) where
-    start : first ≡ 0
-    start = omega arith
-
-    pub alone-stays : r ≡ 0 → left (record { lines = 0; bytes = 0 }) m′ ≡ blockOf (drop first (l ∷ [])) m
-    alone-stays z = rw start (turn-stop (filling-none (l ∷ []) m) l (omega arith) refl some p z)
-
-    pub alone-fits : length m′ ≡ length m → (r ≡ 0 → ⊥) → left (record { lines = 1; bytes = r }) m′ ≡ blockOf (drop first (l ∷ [])) m
-    alone-fits size z = rw start (filling-all (turn-more (filling-none (l ∷ []) m) l (omega arith) refl some p size z) (omega arith))
+pub stop-some : (n : ℕ) → (n ≡ 0 → ⊥) → stopNumber n ≡ 0
+stop-some zero h = absurd (h refl)
+stop-some (suc n) h = refl
 
 -- a line is not empty
 pub line-some : (t : List ℕ) (p : ℕ) → 1 ≤ length (line t p)

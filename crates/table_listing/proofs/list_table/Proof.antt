@@ -1,53 +1,42 @@
 -- `table_listing::list_table`: the check refuses the table, or it is listed. Assumes nothing.
-mod Laws
-use mathlib.Core.Path.{sym, ap, _∙_}
+use mathlib.Core.Path.{_≡_, sym, ap, _∙_}
 use lib.Dec.{lit≤}
 use Rattle.answer.specs.declared.Answer.{Answer}
+use Rattle.row_format.specs.Table.{tableNumber}
 use Rattle.row_format.specs.Calls.Laws.{checked-number}
-use Laws.{refused-block}
+use Rattle.table_listing.specs.Listing.Answers.{block-refused}
 use borrow.Author.Needs.{needs}
 use Rattle.table_listing.proofs.list_table.Statement.{statement}
 use Rattle.table_listing.proofs.list_table.Tie as tie
 
--- src/lib.rt:30:9
+-- the check's number
+number-is : (c : tie.After-check) → c .check .result .number ≡ tableNumber (c .before .before .before .args .table .now)
+number-is c = ap (λ (r : Answer). r .number) (c .check .ensures) ∙ checked-number (c .before .before .before .args .table .now)
+
 check-requires : tie.Need-check-requires
 check-requires c κs = search needs
 
--- src/lib.rt:33:9
-list-refusal-requires : tie.Need-list-refusal-requires
-list-refusal-requires c κs = search needs
-
--- src/lib.rt:33:9
-same-length : tie.Need-same-length
-same-length c = search needs
-
--- src/lib.rt:33:9
 returns : tie.Need-returns
 returns c =
-    let answer = c .before .before .before .before .before .check in
-    let start = c .before .before .before .before .before .before .before .before in
-    c .before .before .list-refusal .ensures ∙ refused-block (start .args .table .now) (answer .result .number) (start .args .first) (start .args .out .now) (ap (λ (r : Answer). r .number) (answer .ensures) ∙ checked-number (start .args .table .now)) (c .before .before .before .before .if1 .taken)
+    let at-check = c .before in
+    let a = at-check .before .before .before .args in
+    let is = number-is at-check in
+    rw is (sym (block-refused (a .table .now) (a .first) (a .out .now) (λ e. c .if1 .taken (is ∙ e))))
 
--- src/lib.rt:38:25
 slice-aggregate-list-strings : tie.Need-slice-aggregate-list-strings
 slice-aggregate-list-strings c = search needs
 
--- src/lib.rt:38:36
 slice-aggregate-list-strings-2 : tie.Need-slice-aggregate-list-strings-2
 slice-aggregate-list-strings-2 c = search needs
 
--- src/lib.rt:38:5
 list-strings-requires : tie.Need-list-strings-requires
 list-strings-requires c κs =
-    let answer = c .before .before .before .before .check in
-    let ok = sym (ap (λ (r : Answer). r .number) (answer .ensures) ∙ checked-number (c .before .before .before .before .before .before .before .args .table .now)) ∙ c .before .before .before .if1 .left in
-    (ok, (lit≤ tt, lit≤ tt))
+    let at-if1 = c .before .before .before in
+    (sym (number-is (at-if1 .before)) ∙ at-if1 .if1 .left, (lit≤ tt, lit≤ tt))
 
--- src/lib.rt:27:1
-same-length-2 : tie.Need-same-length-2
-same-length-2 c = search needs
+same-length : tie.Need-same-length
+same-length c = search needs
 
--- src/lib.rt:27:1
 returns-2 : tie.Need-returns-2
 returns-2 c = search needs
 
@@ -56,11 +45,9 @@ list-table-spec =
     tie.close
     (tie.spec
     check-requires
-    list-refusal-requires
-    same-length
     returns
     slice-aggregate-list-strings
     slice-aggregate-list-strings-2
     list-strings-requires
-    same-length-2
+    same-length
     returns-2)

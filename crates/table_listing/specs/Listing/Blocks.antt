@@ -1,18 +1,17 @@
--- The blocks of a listing make it up, and with room for 128 bytes each has a line. Assumes nothing.
-use Prim.Native.Nat.{ℕ, zero, suc, _+_, _-_, _%_, _≤_, _<_}
-use native.Mathlib.Nat.{zero-add}
+-- The lines of a listing: blocks of them make it up, none has more than 128 bytes, and as many fit as are within the room.
+-- Assumes nothing.
+use Prim.Native.Nat.{ℕ, zero, suc, _+_, _-_, _*_, _≤_}
 use native.Mathlib.Omega.{arith}
 use mathlib.Core.Path.{_≡_, refl, sym, ap, _∙_}
 use mathlib.Core.List.{List, [], _∷_, _++_, append-assoc, map}
 use lib.ListN.{length, take, drop, getD, length-append, length-drop, length-map, take-append-drop, List·getD-eq-default}
-use lib.Seq.{drop-drop, getD-drop}
-use lib.Dec.{leb, ltb, eqb}
+use lib.Seq.{drop-drop, take-add}
+use lib.Dec.{leb, ltb}
 use borrow.Author.Tests.{le-leb, leb-true, ltb-true, ltb-false}
 use Rattle.bitstream.specs.Bits.{wordsOf}
-use Rattle.bitstream.specs.Memory.{overwritten}
-use Rattle.bitstream.specs.Memory.Laws.{take-overwritten}
 use Rattle.row_format.specs.Lists.Laws.{by-test}
-use Rattle.row_format.specs.Table.{codewordAt, wrongSize, wrongCodeword, clash, codewords, verdict, tableNumber}
+use Rattle.row_format.specs.Table.{codewordAt, tableNumber}
+use Rattle.row_format.specs.Theorems.Numbers.{tableNumber-in}
 use Rattle.code_table.specs.Check.Laws.{length-words, whole-table-words}
 use Rattle.text.specs.Text.{ascii, field, decimal}
 use Rattle.text.specs.Text.Laws.{length-decimal}
@@ -20,8 +19,7 @@ use Rattle.text.specs.Lines.{newline, refusedLine}
 use Rattle.table_listing.specs.Order.Once.{length-order}
 use Rattle.table_listing.specs.Line.{line}
 use Rattle.table_listing.specs.Line.Laws.{getD-map, line-most}
-use Rattle.table_listing.specs.declared.Listed.{Listed}
-use Rattle.table_listing.specs.Listing.{treeOrder, linesFor, lines, joined, fitting, Block, block, left}
+use Rattle.table_listing.specs.Listing.{treeOrder, stringLines, linesFor, lines, joined, fitting}
 use Rattle.table_listing.specs.Listing.Laws.{strings-count, accepted-whole, treeOrder-below, lines-accepted, codewordAt-bits}
 
 -- ---- one block after the other
@@ -30,13 +28,7 @@ unfolding joined
 joined-append [] ls = refl
 joined-append (k ∷ ks) ls = rw (joined-append ks ls) (sym (append-assoc k (joined ks) (joined ls)))
 
--- what a call leaves at the front of the memory, and the listing from its line on
-pub block-text : (b : List ℕ) (first : ℕ) (m : List ℕ) →
-    let r = block b first m in take (r .answer .bytes) (r .memory) ≡ joined (take (r .answer .lines) (drop first (lines b)))
-block-text b first m =
-    let text = joined (take (fitting (length m) (drop first (lines b))) (drop first (lines b))) in
-    ap (λ (n : ℕ). take n (overwritten m 0 text)) (sym (zero-add (length text))) ∙ take-overwritten m 0 text (omega arith)
-
+-- the lines from one on are some of them and then the rest
 pub block-then : (b : List ℕ) (first n : ℕ)
     → joined (drop first (lines b)) ≡ joined (take n (drop first (lines b))) ++ joined (drop (first + n) (lines b))
 block-then b first n =
@@ -44,24 +36,21 @@ block-then b first n =
     ∙ joined-append (take n (drop first (lines b))) (drop n (drop first (lines b)))
     ∙ ap (λ (ls : List (List ℕ)). joined (take n (drop first (lines b))) ++ joined ls) (drop-drop n first (lines b))
 
+-- so many lines and then some more
+pub joined-more : (first n : ℕ) (ls : List (List ℕ))
+    → joined (take (first + n) ls) ≡ joined (take first ls) ++ joined (take n (drop first ls))
+joined-more first n ls = ap joined (take-add first n ls) ∙ joined-append (take first ls) (take n (drop first ls))
+
 -- ---- no line has more than 128 bytes
-tableNumber-most : (b : List ℕ) → tableNumber b ≤ 3
-unfolding tableNumber verdict
-tableNumber-most b =
-    by-test (eqb (length b % 4) 0)
-    (λ e. rw e (by-test (wrongSize (wordsOf b))
-    (λ f. rw f (omega arith))
-    (λ f. rw f (by-test (wrongCodeword (wordsOf b))
-    (λ g. rw g (omega arith))
-    (λ g. rw g (by-test (clash (codewords (wordsOf b))) (λ h. rw h (omega arith)) (λ h. rw h (omega arith))))))))
-    (λ e. rw e (omega arith))
+pub tableNumber-most : (b : List ℕ) → tableNumber b ≤ 3
+tableNumber-most b = tableNumber-in (λ e. e ≤ 3) b (omega arith) (omega arith) (omega arith) (omega arith)
 
 refusedLine-most : (e : ℕ) → e ≤ 3 → length (refusedLine e) ≤ 128
 refusedLine-most e h =
     rw (length-append (field (ascii "refused ") e) newline, length-append (ascii "refused ") (decimal e))
     (omega (arith, length-decimal 0 e (omega arith)))
 
-strings-most : (b : List ℕ) → tableNumber b ≡ 0 → (k : ℕ) → length (getD (map (line (wordsOf b)) (treeOrder (wordsOf b))) k []) ≤ 128
+pub strings-most : (b : List ℕ) → tableNumber b ≡ 0 → (k : ℕ) → length (getD (stringLines (wordsOf b)) k []) ≤ 128
 strings-most b ok k =
     let t = wordsOf b in
     let ps = treeOrder t in
@@ -87,20 +76,13 @@ lines-most b k = go (tableNumber b) refl
         let these : lines b ≡ linesFor (suc e) (wordsOf b) = unfold lines in rw is in
         rw these (refusal-most e (wordsOf b) most k)
 
--- ---- so that a block with that room has a line as long as there is one
-fitting-some : (room : ℕ) (ls : List (List ℕ)) → 1 ≤ length ls → length (getD ls 0 []) ≤ room → 1 ≤ fitting room ls
+-- ---- a block has a line where the next one fits, and stays within the listing and the room
+pub fitting-some : (room : ℕ) (ls : List (List ℕ)) → 1 ≤ length ls → length (getD ls 0 []) ≤ room → 1 ≤ fitting room ls
 unfolding fitting
 fitting-some room [] h g = absurd (omega arith)
 fitting-some room (l ∷ ls) h g = rw (le-leb (length l) room g) (omega arith)
 
-pub block-some : (b : List ℕ) (first : ℕ) (m : List ℕ) → 128 ≤ length m → first < length (lines b) → 1 ≤ block b first m .answer .lines
-block-some b first m room h =
-    let there : first + 0 ≡ first = omega arith in
-    let short : length (getD (drop first (lines b)) 0 []) ≤ 128 = rw (getD-drop first (lines b) 0 [], there) (lines-most b first) in
-    fitting-some (length m) (drop first (lines b)) (omega (arith, length-drop first (lines b))) (omega arith)
-
--- ---- a block stays within the listing and the room
-fitting-within : (room : ℕ) (ls : List (List ℕ)) → fitting room ls ≤ length ls
+pub fitting-within : (room : ℕ) (ls : List (List ℕ)) → fitting room ls ≤ length ls
 unfolding fitting
 fitting-within room [] = omega arith
 fitting-within room (l ∷ ls) =
@@ -108,7 +90,7 @@ fitting-within room (l ∷ ls) =
     (λ e. rw e (omega (arith, fitting-within (room - length l) ls)))
     (λ e. rw e (omega arith))
 
-fitting-room : (room : ℕ) (ls : List (List ℕ)) → length (joined (take (fitting room ls) ls)) ≤ room
+pub fitting-room : (room : ℕ) (ls : List (List ℕ)) → length (joined (take (fitting room ls) ls)) ≤ room
 unfolding fitting joined
 fitting-room room [] = omega arith
 fitting-room room (l ∷ ls) =
@@ -130,15 +112,18 @@ lines-few b = go (tableNumber b) refl
         let these : lines b ≡ refusedLine (suc e) ∷ [] = unfold lines linesFor in rw is in
         rw these (omega arith)
 
--- what a call answers
-module _ (b : List ℕ) (first : ℕ) (m : List ℕ) {m′ : List ℕ} {r : Listed} (e : left r m′ ≡ block b first m) where
-  pub answer-lines : first ≤ length (lines b) → first + r .lines ≤ length (lines b)
-  answer-lines h =
-      let lines-is : r .lines ≡ fitting (length m) (drop first (lines b)) = ap (λ (k : Block). k .answer .lines) e in
-      omega (arith, fitting-within (length m) (drop first (lines b)), length-drop first (lines b))
+-- ---- the bytes of some lines
+joined-most : (ls : List (List ℕ)) → ((k : ℕ) → length (getD ls k []) ≤ 128) → length (joined ls) ≤ length ls * 128
+unfolding joined
+joined-most [] h = omega arith
+joined-most (l ∷ ls) h = omega (arith, length-append l (joined ls), h 0, joined-most ls (λ k. h (suc k)))
 
-  pub answer-bytes : r .bytes ≤ length m
-  answer-bytes =
-      let bytes-is : r .bytes ≡ length (joined (take (fitting (length m) (drop first (lines b))) (drop first (lines b)))) =
-      ap (λ (k : Block). k .answer .bytes) e in
-      omega (arith, fitting-room (length m) (drop first (lines b)))
+pub listing-few : (b : List ℕ) → length (joined (lines b)) ≤ 1048320
+listing-few b = omega (arith, joined-most (lines b) (lines-most b), lines-few b)
+
+-- those of the first lines are no more than those of all
+pub joined-within : (n : ℕ) (ls : List (List ℕ)) → length (joined (take n ls)) ≤ length (joined ls)
+joined-within n ls =
+    let whole : joined ls ≡ joined (take n ls) ++ joined (drop n ls) =
+    sym (ap joined (take-append-drop n ls)) ∙ joined-append (take n ls) (drop n ls) in
+    omega (arith, ap length whole, length-append (joined (take n ls)) (joined (drop n ls)))

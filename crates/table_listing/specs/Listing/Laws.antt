@@ -1,8 +1,8 @@
 -- The laws of listings. Assumes nothing.
-use Prim.Native.Nat.{ℕ, _+_, _-_, _/_, _%_}
+use Prim.Native.Nat.{ℕ, zero, suc, _+_, _-_, _/_, _%_}
 use native.Mathlib.Omega.{arith}
-use mathlib.Core.Path.{_≡_}
-use mathlib.Core.List.{List, map}
+use mathlib.Core.Path.{_≡_, refl}
+use mathlib.Core.List.{List, [], _∷_, append-nil}
 use lib.ListN.{length, getD}
 use Rattle.bitstream.specs.Bits.{wordsOf, Below}
 use Rattle.bitstream.specs.Bits.Laws.{below-digits}
@@ -10,9 +10,9 @@ use Rattle.row_format.specs.Table.{tableSize, codewordAt, tableNumber, codeword
 use Rattle.row_format.specs.Table.Laws.{tableNumber-whole, tableNumber-verdict, right-size}
 use Rattle.code_table.specs.Check.{WholeTable}
 use Rattle.code_table.specs.Check.Laws.{length-words, whole-table-words}
+use Rattle.text.specs.Lines.{refusedLine}
 use Rattle.table_listing.specs.Order.Once.{order-below}
-use Rattle.table_listing.specs.Line.{line}
-use Rattle.table_listing.specs.Listing.{treeOrder, linesFor, lines}
+use Rattle.table_listing.specs.Listing.{treeOrder, stringLines, linesFor, lines, joined}
 
 -- a string's bits are 0 and 1
 pub codewordAt-bits : (t : List ℕ) (p : ℕ) → Below 2 (codewordAt t p)
@@ -32,6 +32,19 @@ module _ (b : List ℕ) (ok : tableNumber b ≡ 0) where
       let count : length (wordsOf b) - 3 ≡ 3 + tableSize (wordsOf b) = omega (arith, length-words b, strings-count) in
       rw count (order-below (codewordAt (wordsOf b)) (codewordAt-bits (wordsOf b)) 27 (3 + tableSize (wordsOf b)) (omega arith))
 
-  pub lines-accepted : lines b ≡ map (line (wordsOf b)) (treeOrder (wordsOf b))
+  pub lines-accepted : lines b ≡ stringLines (wordsOf b)
   unfolding lines linesFor
   lines-accepted = rw ok
+
+pub lines-refused : (b : List ℕ) → (tableNumber b ≡ 0 → ⊥) → lines b ≡ refusedLine (tableNumber b) ∷ []
+unfolding lines linesFor
+lines-refused b some = go (tableNumber b) some
+  where
+    go : (e : ℕ) → (e ≡ 0 → ⊥) → linesFor e (wordsOf b) ≡ refusedLine e ∷ []
+    go zero h = absurd (h refl)
+    go (suc e) h = refl
+
+-- one text alone
+pub joined-one : (l : List ℕ) → joined (l ∷ []) ≡ l
+unfolding joined
+joined-one l = append-nil l

@@ -1,4 +1,4 @@
--- A table of more than 32772 bytes is refused 1, so that its first 32776 bytes have its listing. Assumes nothing.
+-- A table of more than 32772 bytes is refused 1, so that as many of its first bytes have its listing. Assumes nothing.
 use Prim.Native.Nat.{ℕ, _+_, _/_, _%_, _<_}
 use native.Mathlib.Omega.{arith}
 use mathlib.Core.Path.{_≡_, refl, sym, ap, _∙_}
@@ -33,10 +33,10 @@ lines-long : (b : List ℕ) → 32772 < length b → lines b ≡ linesFor 1 []
 unfolding lines linesFor
 lines-long b h = rw (tableNumber-long b h)
 
-pub lines-cut : (b : List ℕ) → lines (take 32776 b) ≡ lines b
-lines-cut b =
-    by-test (ltb 32776 (length b))
+pub lines-cut : (n : ℕ) (b : List ℕ) → 32772 < n → lines (take n b) ≡ lines b
+lines-cut n b h =
+    by-test (ltb n (length b))
     (λ e.
-    let more = ltb-true 32776 (length b) e in
-    lines-long (take 32776 b) (omega (arith, length-take-le 32776 b (omega arith))) ∙ sym (lines-long b (omega arith)))
-    (λ e. ap lines (take-all 32776 b (ltb-false 32776 (length b) e)))
+    let more = ltb-true n (length b) e in
+    lines-long (take n b) (omega (arith, length-take-le n b (omega arith))) ∙ sym (lines-long b (omega arith)))
+    (λ e. ap lines (take-all n b (ltb-false n (length b) e)))

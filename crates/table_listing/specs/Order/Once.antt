@@ -31,7 +31,8 @@ perm-occurs x (List·Permᴰ·trans p q) = perm-occurs x p ∙ perm-occurs x q
 pub perm-below : {a b : List ℕ} {n : ℕ} → List·Permᴰ a b → Below n b → Below n a
 perm-below List·Permᴰ·nil h = h
 perm-below (List·Permᴰ·cons e p) h = rw e (below-cons (below-head h) (perm-below p (below-tail h)))
-perm-below (List·Permᴰ·swap e g) h = rw (e, g) (below-cons (below-head (below-tail h)) (below-cons (below-head h) (below-tail (below-tail h))))
+perm-below (List·Permᴰ·swap e g) h =
+    rw (e, g) (below-cons (below-head (below-tail h)) (below-cons (below-head h) (below-tail (below-tail h))))
 perm-below (List·Permᴰ·trans p q) h = perm-below p (perm-below q h)
 
 -- ---- the first n places

@@ -62,7 +62,8 @@ module _ {R : ℕ → ℕ → Type 0} where
   sorted-all f (more {x = x} {l = l} p h) = first (all-any (λ y. f x y p) l) (sorted-all f h)
 
   -- a relation that is weaker where P holds
-  sorted-map : {P : ℕ → Type 0} {S : ℕ → ℕ → Type 0} {l : List ℕ} → ((x y : ℕ) → P x → P y → R x y → S x y) → All P l → Sorted R l → Sorted S l
+  sorted-map : {P : ℕ → Type 0} {S : ℕ → ℕ → Type 0} {l : List ℕ} → ((x y : ℕ) → P x → P y → R x y → S x y)
+      → All P l → Sorted R l → Sorted S l
   sorted-map f none empty = empty
   sorted-map {P} {S} f (more {x = x} p h) (first r g) = first (both h r) (sorted-map f h g)
     where
@@ -117,7 +118,8 @@ module _ (s : ℕ → List ℕ) (bits : (p : ℕ) → Below 2 (s p)) where
   ended-before d p q e = rw e
 
   -- two that go the same way, by what is left one bit deeper
-  same-before : (d b p q : ℕ) → drop d (s p) ≡ b ∷ drop (suc d) (s p) → drop d (s q) ≡ b ∷ drop (suc d) (s q) → Before (suc d) p q → Before d p q
+  same-before : (d b p q : ℕ) → drop d (s p) ≡ b ∷ drop (suc d) (s p) → drop d (s q) ≡ b ∷ drop (suc d) (s q)
+      → Before (suc d) p q → Before d p q
   unfolding Before before
   same-before d b p q e g h = rw (e, g, eq-eqb b b refl) h
 
@@ -151,7 +153,9 @@ module _ (s : ℕ → List ℕ) (bits : (p : ℕ) → Below 2 (s p)) where
 
   -- the tree is deep enough for each string
   sorted : (left d : ℕ) (ps : List ℕ) → All (λ p. length (s p) ≤ d + left) ps → Sorted (Before d) (order s left d ps)
-  sorted zero d ps short = unfold order in sorted-all (λ p q e. ended-before d p q e) (all-map (λ p h. drop-of-length-le (s p) {i = d} (omega arith)) short)
+  sorted zero d ps short =
+      unfold order in
+      sorted-all (λ p q e. ended-before d p q e) (all-map (λ p h. drop-of-length-le (s p) {i = d} (omega arith)) short)
   sorted (suc left) d ps short =
       let deeper : All (λ p. length (s p) ≤ suc d + left) ps = all-map (λ p h. omega arith) short in
       rw (order-suc s left d ps)
@@ -161,7 +165,8 @@ module _ (s : ℕ → List ℕ) (bits : (p : ℕ) → Below 2 (s p)) where
       (sorted left (suc d) (picked s d 1 ps) (picked-all d 1 deeper))
       (sorted left (suc d) (picked s d 2 ps) (picked-all d 2 deeper)))
 
-  pub order-before : (left : ℕ) (ps : List ℕ) → ((j : ℕ) → j < length ps → length (s (getD ps j 0)) ≤ left) → (i j : ℕ) → i < j → j < length (order s left 0 ps)
+  pub order-before : (left : ℕ) (ps : List ℕ) → ((j : ℕ) → j < length ps → length (s (getD ps j 0)) ≤ left)
+      → (i j : ℕ) → i < j → j < length (order s left 0 ps)
       → before (s (getD (order s left 0 ps) i 0)) (s (getD (order s left 0 ps) j 0)) ≡ true
   unfolding Before
   order-before left ps short i j below h = sorted-at i j (sorted left 0 ps (all-from ps (λ k g. omega (arith, short k g)))) below h

@@ -1,6 +1,6 @@
 -- The laws of bytes put into memory. Assumes nothing.
 use Prim.Native.Nat.{ℕ, suc, _+_, _≤_, _<_}
-use native.Mathlib.Nat.{add-zero}
+use native.Mathlib.Nat.{zero-add, add-zero}
 use native.Mathlib.Numerals.{add-one}
 use native.Mathlib.Omega.{arith}
 use mathlib.Core.Path.{_≡_, refl, sym, ap, _∙_}
@@ -45,3 +45,8 @@ put-more {m} {m′} {at} {r} {b} x h e p = put-put (omega (arith, p .next)) p (p
 -- what is put at the front stands there
 pub put-front : {m m′ : List ℕ} {r : ℕ} {b : List ℕ} → Put m 0 b r m′ → take r m′ ≡ b
 put-front {m} {m′} {r} {b} p = rw (p .next, p .memory) (take-overwritten m 0 b (omega arith))
+
+-- and the rest is as it was
+pub put-start : {m m′ : List ℕ} {r : ℕ} {b : List ℕ} → Put m 0 b r m′ → (r ≡ length b) × (m′ ≡ b ++ drop (length b) m)
+put-start {m} {m′} {r} {b} p =
+    (p .next ∙ zero-add (length b), p .memory ∙ ap (λ (k : ℕ). b ++ drop k m) (zero-add (length b)))

@@ -36,20 +36,23 @@ callees t = (part.Asked, part.Learnt, arrange-below t, arrange.Post)
 module _ (t : ℕ) where
   returns : arrange-lts.Need-returns (callees t) (arrange-at t) arrange.Post
   returns c =
-      let start = c .before .before .before .before in
-      order-end (codewordAt (wordsOf (start .args .table .now))) (start .args .left) (27 - start .args .left) (start .args .list .now) (c .if1 .taken)
+      let a = c .before .before .before .before .args in
+      order-end (codewordAt (wordsOf (a .table .now))) (a .left) (27 - a .left) (a .list .now) (c .if1 .taken)
 
   returns-2 : arrange-lts.Need-returns-2 (callees t) (arrange-at t) arrange.Post
   returns-2 c =
-      let start = c .before .before .before .before .before in
-      let t′ = wordsOf (start .args .table .now) in
-      sym (order-few (codewordAt t′) (codewordAt-bits t′) (start .args .left) (27 - start .args .left) (start .args .list .now) (c .if2 .taken))
+      let a = c .before .before .before .before .before .args in
+      let t′ = wordsOf (a .table .now) in
+      sym (order-few (codewordAt t′) (codewordAt-bits t′) (a .left) (27 - a .left) (a .list .now) (c .if2 .taken))
 
   sub-part : arrange-lts.Need-sub-part (callees t) (arrange-at t) arrange.Post
   sub-part c = search needs
 
   part-requires : arrange-lts.Need-part-requires (callees t) (arrange-at t) arrange.Post
   part-requires c κs = search needs
+
+  abbrev entry : arrange-lts.After-part (callees t) (arrange-at t) arrange.Post → arrange-lts.Start (callees t) (arrange-at t) arrange.Post
+  entry c = c .before .before .before .before .before .before .before .before
 
   -- the parts lie in the list
   bounds : (c : arrange-lts.After-part (callees t) (arrange-at t) arrange.Post) → Bounds (c .part .result) (c .part .last .1 .0)
@@ -58,7 +61,7 @@ module _ (t : ℕ) where
   mul-arrange : arrange-lts.Need-mul-arrange (callees t) (arrange-at t) arrange.Post
   mul-arrange c =
       let at-part = c .before .before .before .before in
-      omega (arith, bounds at-part, at-part .part .kept .1 .0, at-part .before .before .before .before .before .before .before .before .good .1 .0)
+      omega (arith, bounds at-part, at-part .part .kept .1 .0, entry at-part .good .1 .0)
 
   sub-arrange : arrange-lts.Need-sub-arrange (callees t) (arrange-at t) arrange.Post
   sub-arrange c = search needs
@@ -76,24 +79,29 @@ module _ (t : ℕ) where
   arrange-requires c κs =
       let at-part = c .before .before .before .before .before .before in
       let parts = at-part .part in
-      let start = at-part .before .before .before .before .before .before .before .before in
-      let rest = drop (parts .result .ends) (parts .last .1 .0) in
-      let size = length-take (parts .result .zeros - parts .result .ends) rest in
-      (omega arith, (omega arith, omega (arith, size, length-drop (parts .result .ends) (parts .last .1 .0), parts .kept .1 .0, parts .kept .1 .1 .0, start .pre .1 .1)))
+      let start = entry at-part in
+      let list = parts .last .1 .0 in
+      let ends = parts .result .ends in
+      let size = length-take (parts .result .zeros - ends) (drop ends list) in
+      let kept = parts .kept .1 in
+      (omega arith, (omega arith, omega (arith, size, length-drop ends list, kept .0, kept .1 .0, start .pre .1 .1)))
 
   -- the list is as long as it was when the 0-branch has come back
   kept : (c : arrange-lts.After-arrange (callees t) (arrange-at t) arrange.Post) →
       let parts = c .before .before .before .before .before .before .before .part in
-      length (putMid (parts .result .ends) (parts .result .zeros - parts .result .ends) (parts .last .1 .0) (c .arrange .last .1 .0)) ≡ length (parts .last .1 .0)
+      let list = parts .last .1 .0 in
+      let ends = parts .result .ends in
+      length (putMid ends (parts .result .zeros - ends) list (c .arrange .last .1 .0)) ≡ length list
   kept c =
       let parts = c .before .before .before .before .before .before .before .part in
-      same-len-mid (parts .result .ends) (parts .result .zeros - parts .result .ends) (parts .last .1 .0) (c .arrange .last .1 .0) (c .arrange .kept .1 .0)
+      let ends = parts .result .ends in
+      same-len-mid ends (parts .result .zeros - ends) (parts .last .1 .0) (c .arrange .last .1 .0) (c .arrange .kept .1 .0)
 
   mul-arrange-2 : arrange-lts.Need-mul-arrange-2 (callees t) (arrange-at t) arrange.Post
   mul-arrange-2 c =
       let at-arrange = c .before .before .before .before in
       let at-part = at-arrange .before .before .before .before .before .before .before in
-      omega (arith, bounds at-part, at-part .part .kept .1 .0, at-part .before .before .before .before .before .before .before .before .good .1 .0)
+      omega (arith, bounds at-part, at-part .part .kept .1 .0, entry at-part .good .1 .0)
 
   sub-arrange-3 : arrange-lts.Need-sub-arrange-3 (callees t) (arrange-at t) arrange.Post
   sub-arrange-3 c =
@@ -127,9 +135,12 @@ module _ (t : ℕ) where
       let at-second = c .before .before .before .before in
       let at-first = at-second .before .before .before .before .before .before .before in
       let at-part = at-first .before .before .before .before .before .before .before in
-      let start = at-part .before .before .before .before .before .before .before .before in
-      step (codewordAt (wordsOf (start .args .table .now))) (start .args .left) (start .args .list .now) (omega arith) (start .pre .1 .0) (at-part .part .ensures)
-      (at-first .arrange .last .1 .0) (at-second .arrange2 .last .1 .0) (at-first .arrange .kept .1 .0) (at-first .arrange .ensures) (at-second .arrange2 .ensures)
+      let start = entry at-part in
+      let a = start .args in
+      let zeros = at-first .arrange in
+      let ones = at-second .arrange2 in
+      step (codewordAt (wordsOf (a .table .now))) (a .left) (a .list .now) (omega arith) (start .pre .1 .0) (at-part .part .ensures)
+      (zeros .last .1 .0) (ones .last .1 .0) (zeros .kept .1 .0) (zeros .ensures) (ones .ensures)
 
 pub +arrange-spec : {M : Type 1} → statement M
 +arrange-spec =

@@ -13,43 +13,33 @@ Inv-loop from to₀ i₀ to i = Copying from i to
 abbrev μ-loop : tie.MeasureT-loop
 μ-loop from to₀ i₀ to i = length from - i
 
--- src/arrange.rt:70:5
 loop-holds : tie.Need-loop-holds Inv-loop μ-loop
 loop-holds c = copying-none (c .args .from .now) (c .args .to .now) (sym (c .pre))
 
--- src/arrange.rt:71:17
 mul-to : tie.Need-mul-to Inv-loop μ-loop
 mul-to c = search needs
 
--- src/arrange.rt:71:17
 shared-slice-read-to : tie.Need-shared-slice-read-to Inv-loop μ-loop
 shared-slice-read-to c = search needs
 
--- src/arrange.rt:71:9
 mul-to-2 : tie.Need-mul-to-2 Inv-loop μ-loop
 mul-to-2 c = search needs
 
--- src/arrange.rt:71:9
 slice-write-to : tie.Need-slice-write-to Inv-loop μ-loop
 slice-write-to c = search needs
 
--- src/arrange.rt:72:9
 add-i : tie.Need-add-i Inv-loop μ-loop
 add-i c = search needs
 
--- src/arrange.rt:70:5
 loop-less : tie.Need-loop-less Inv-loop μ-loop
 loop-less c = search needs
 
--- src/arrange.rt:70:5
 loop-again : tie.Need-loop-again Inv-loop μ-loop
 loop-again c = copying-more _ (c .before .loop-test .taken) refl (c .before .before .loop .inv)
 
--- src/arrange.rt:65:1
 same-length : tie.Need-same-length Inv-loop μ-loop
 same-length c = search needs
 
--- src/arrange.rt:65:1
 returns : tie.Need-returns Inv-loop μ-loop
 returns c = copying-all (c .loop-test .left) (c .before .loop .inv)
 

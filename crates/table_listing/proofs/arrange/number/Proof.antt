@@ -17,31 +17,26 @@ Inv-loop list₀ i₀ list i = (i ≤ length list₀) × (length list ≡ length
 abbrev μ-loop : tie.MeasureT-loop
 μ-loop list₀ i₀ list i = length list₀ - i
 
--- src/arrange.rt:24:5
 loop-holds : tie.Need-loop-holds Inv-loop μ-loop
-loop-holds c = (search needs, refl, copying-none (places (length (c .args .list .now))) (c .args .list .now) (sym (length-places (length (c .args .list .now)))))
+loop-holds c =
+    let list = c .args .list .now in
+    (search needs, refl, copying-none (places (length list)) list (sym (length-places (length list))))
 
--- src/arrange.rt:25:19
 cast-list : tie.Need-cast-list Inv-loop μ-loop
 cast-list c = search needs
 
--- src/arrange.rt:25:9
 mul-list : tie.Need-mul-list Inv-loop μ-loop
 mul-list c = search needs
 
--- src/arrange.rt:25:9
 slice-write-list : tie.Need-slice-write-list Inv-loop μ-loop
 slice-write-list c = search needs
 
--- src/arrange.rt:26:9
 add-i : tie.Need-add-i Inv-loop μ-loop
 add-i c = search needs
 
--- src/arrange.rt:24:5
 loop-less : tie.Need-loop-less Inv-loop μ-loop
 loop-less c = search needs
 
--- src/arrange.rt:24:5
 loop-again : tie.Need-loop-again Inv-loop μ-loop
 loop-again c =
     let n = length (c .before .before .args .list .now) in
@@ -49,11 +44,9 @@ loop-again c =
     let inside : i < length (places n) = omega (arith, length-places n) in
     (search needs, search needs, copying-more i inside (sym (getD-places n i (omega arith))) (c .before .loop .inv .2))
 
--- src/arrange.rt:19:1
 same-length : tie.Need-same-length Inv-loop μ-loop
 same-length c = search needs
 
--- src/arrange.rt:19:1
 returns : tie.Need-returns Inv-loop μ-loop
 returns c = copying-all (omega (arith, length-places (length (c .before .before .args .list .now)))) (c .before .loop .inv .2)
 

@@ -1,38 +1,39 @@
 -- `table_listing::arrange::part`: the places are copied and picked out of the copy. Assumes nothing.
-use mathlib.Core.Path.{sym}
-use lib.ListN.{length}
+use mathlib.Core.Path.{_≡_, sym}
+use lib.ListN.{length, take}
 use lib.Seq.{length-take-le}
 use borrow.Author.Needs.{needs}
 use Rattle.table_listing.proofs.arrange.part.Statement.{statement}
 use Rattle.table_listing.proofs.arrange.part.Tie as tie
 
--- src/arrange.rt:59:16
+-- the part of `scratch` that is lent is as long as the list
+part-is : (c : tie.Start) →
+    let list = c .args .list .now in length (take (length list) (c .args .scratch .now)) ≡ length list
+part-is c = length-take-le (length (c .args .list .now)) (c .args .scratch .now) (c .pre .1)
+
 slice-relend-prefix-from : tie.Need-slice-relend-prefix-from
 slice-relend-prefix-from c = search needs
 
--- src/arrange.rt:59:9
 slice-aggregate-from : tie.Need-slice-aggregate-from
-slice-aggregate-from c = sym (length-take-le (length (c .before .before .before .before .args .list .now)) (c .before .before .before .before .args .scratch .now) (c .before .before .before .before .pre .1))
+slice-aggregate-from c = sym (part-is (c .before .before .before .before))
 
--- src/arrange.rt:60:5
 copy-requires : tie.Need-copy-requires
-copy-requires c κs = sym (length-take-le (length (c .before .before .before .before .before .before .args .list .now)) (c .before .before .before .before .before .before .args .scratch .now) (c .before .before .before .before .before .before .pre .1))
+copy-requires c κs = sym (part-is (c .before .before .before .before .before .before))
 
--- src/arrange.rt:61:5
 pick-each-requires : tie.Need-pick-each-requires
 pick-each-requires c κs = search needs
 
--- src/arrange.rt:53:1
 same-length : tie.Need-same-length
 same-length c = search needs
 
--- src/arrange.rt:53:1
 same-length-2 : tie.Need-same-length-2
 same-length-2 c = search needs
 
--- src/arrange.rt:53:1
 returns : tie.Need-returns
-returns c = rw (c .before .before .before .before .before .before .before .before .before .copy .ensures) at (c .before .before .before .before .pick-each .ensures)
+returns c =
+    let at-pick-each = c .before .before .before .before in
+    let at-copy = at-pick-each .before .before .before .before .before in
+    rw (at-copy .copy .ensures) at (at-pick-each .pick-each .ensures)
 
 pub part-spec : {M : Type 1} → statement M
 part-spec =

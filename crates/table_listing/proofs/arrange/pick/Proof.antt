@@ -18,69 +18,68 @@ Inv-loop table from d k out₀ at next₀ i₀ out next i = Picking (codewordAt 
 abbrev μ-loop : tie.MeasureT-loop
 μ-loop table from d k out₀ at next₀ i₀ out next i = length from - i
 
--- src/arrange.rt:84:5
 loop-holds : tie.Need-loop-holds Inv-loop μ-loop
 loop-holds c = picking-none
 
--- src/arrange.rt:85:21
 mul-place : tie.Need-mul-place Inv-loop μ-loop
 mul-place c = search needs
 
--- src/arrange.rt:85:21
 shared-slice-read-place : tie.Need-shared-slice-read-place Inv-loop μ-loop
 shared-slice-read-place c = search needs
 
--- src/arrange.rt:86:12
 way-of-requires : tie.Need-way-of-requires Inv-loop μ-loop
 way-of-requires c κs = search needs
 
--- there is room for a place that goes the way k
-room : (c : tie.Then1 Inv-loop μ-loop) → c .before .before .before .before .loop .next < length (c .before .before .before .before .before .before .before .before .args .out .now)
-room c =
-    let start = c .before .before .before .before .before .before .before .before in
-    picking-room (c .before .before .before .loop-test .taken) (c .before .before .before .before .loop .inv) (sym (c .before .way-of .ensures) ∙ c .if1 .taken) (start .pre .1)
+-- from a turn's test back to its start, and to the entry
+abbrev turn : tie.After-way-of Inv-loop μ-loop → tie.In-loop Inv-loop μ-loop
+turn c = c .before .before
 
--- src/arrange.rt:87:13
+abbrev entry : tie.At-loop Inv-loop μ-loop → tie.Start Inv-loop μ-loop
+entry c = c .before .before .before .before
+
+-- there is room for a place that goes the way k
+room : (c : tie.Then1 Inv-loop μ-loop) →
+    let at-loop = turn (c .before) .before in at-loop .loop .next < length (entry at-loop .args .out .now)
+room c =
+    let in-loop = turn (c .before) in
+    picking-room (in-loop .loop-test .taken) (in-loop .before .loop .inv) (sym (c .before .way-of .ensures) ∙ c .if1 .taken)
+    (entry (in-loop .before) .pre .1)
+
 mul-out : tie.Need-mul-out Inv-loop μ-loop
 mul-out c = omega (arith, room c)
 
--- src/arrange.rt:87:13
 slice-write-out : tie.Need-slice-write-out Inv-loop μ-loop
 slice-write-out c = omega (arith, room c)
 
--- src/arrange.rt:88:13
 add-next : tie.Need-add-next Inv-loop μ-loop
 add-next c = omega (arith, room c)
 
--- src/arrange.rt:89:13
 add-i : tie.Need-add-i Inv-loop μ-loop
 add-i c = search needs
 
--- src/arrange.rt:84:5
 loop-less : tie.Need-loop-less Inv-loop μ-loop
 loop-less c = search needs
 
--- src/arrange.rt:84:5
 loop-again : tie.Need-loop-again Inv-loop μ-loop
-loop-again c = picking-some (c .before .before .before .loop-test .taken) (c .before .before .before .before .loop .inv) (sym (c .before .way-of .ensures) ∙ c .if1 .taken) (c .before .before .before .before .before .before .before .before .pre .1)
+loop-again c =
+    let in-loop = turn (c .before) in
+    picking-some (in-loop .loop-test .taken) (in-loop .before .loop .inv) (sym (c .before .way-of .ensures) ∙ c .if1 .taken)
+    (entry (in-loop .before) .pre .1)
 
--- src/arrange.rt:91:13
 add-i-2 : tie.Need-add-i-2 Inv-loop μ-loop
 add-i-2 c = search needs
 
--- src/arrange.rt:84:5
 loop-less-2 : tie.Need-loop-less-2 Inv-loop μ-loop
 loop-less-2 c = search needs
 
--- src/arrange.rt:84:5
 loop-again-2 : tie.Need-loop-again-2 Inv-loop μ-loop
-loop-again-2 c = picking-other (c .before .before .before .loop-test .taken) (c .before .before .before .before .loop .inv) (λ e. c .if1 .left (c .before .way-of .ensures ∙ e))
+loop-again-2 c =
+    let in-loop = turn (c .before) in
+    picking-other (in-loop .loop-test .taken) (in-loop .before .loop .inv) (λ e. c .if1 .left (c .before .way-of .ensures ∙ e))
 
--- src/arrange.rt:77:1
 same-length : tie.Need-same-length Inv-loop μ-loop
 same-length c = search needs
 
--- src/arrange.rt:77:1
 returns : tie.Need-returns Inv-loop μ-loop
 returns c = picking-all (c .loop-test .left) (c .before .loop .inv)
 

@@ -7,31 +7,26 @@ use borrow.Author.Needs.{needs}
 use Rattle.table_listing.proofs.block.append_line.Statement.{statement}
 use Rattle.table_listing.proofs.block.append_line.Tie as tie
 
--- src/block.rt:66:22
 slice-aggregate-put-line : tie.Need-slice-aggregate-put-line
 slice-aggregate-put-line c = search needs
 
--- src/block.rt:66:9
 put-line-requires : tie.Need-put-line-requires
 put-line-requires c κs = search needs
 
--- src/block.rt:67:21
 array-share-prefix-text : tie.Need-array-share-prefix-text
 array-share-prefix-text c = search needs
 
--- src/block.rt:67:21
 slice-aggregate-append : tie.Need-slice-aggregate-append
-slice-aggregate-append c = sym (length-take-le (c .before .before .before .put-line .result) (c .before .before .before .put-line .last .0) (omega (arith, c .before .before .before .put-line .kept .0)))
+slice-aggregate-append c =
+    let put = c .before .before .before .put-line in
+    sym (length-take-le (put .result) (put .last .0) (omega (arith, put .kept .0)))
 
--- src/block.rt:67:5
 append-requires : tie.Need-append-requires
 append-requires c κs = search needs
 
--- src/block.rt:59:1
 same-length : tie.Need-same-length
 same-length c = search needs
 
--- src/block.rt:59:1
 returns : tie.Need-returns
 returns c = rw (put-front (c .before .before .before .before .before .before .put-line .ensures .0)) at (c .before .before .append .ensures)
 

@@ -1,9 +1,9 @@
 -- `table_listing::block::list_lines`: before each turn the lines from the first on up to i stand in the memory; the measure
 -- is what is left of the places. Assumes nothing.
-use Prim.Native.Nat.{_+_, _-_, _≤_, _<_}
+use Prim.Native.Nat.{ℕ, _+_, _-_, _≤_, _<_}
 use native.Mathlib.Omega.{arith}
 use mathlib.Core.Path.{_≡_}
-use mathlib.Core.List.{map}
+use mathlib.Core.List.{List, map}
 use borrow.Author.Needs.{needs}
 use lib.ListN.{length, drop, getD}
 use Rattle.bitstream.specs.Bits.{wordsOf}
@@ -12,6 +12,7 @@ use Rattle.table_listing.proofs.block.Laws.{
   Filling,
   filling-none,
   filling-all,
+  Turn,
   turn-stop,
   turn-more,
   line-at,
@@ -21,90 +22,105 @@ use Rattle.table_listing.proofs.block.Laws.{
 use Rattle.table_listing.proofs.block.list_lines.Statement.{statement}
 use Rattle.table_listing.proofs.block.list_lines.Tie as tie
 
+-- the lines that are asked for
+abbrev asked : List ℕ → List ℕ → ℕ → List (List ℕ)
+asked table list first = drop first (map (line (wordsOf table)) list)
+
 abbrev Inv-loop : tie.InvT-loop
-Inv-loop table list first out₀ at₀ i₀ out at i = (first ≤ i) × Filling (drop first (map (line (wordsOf table)) list)) out₀ (i - first) at out
+Inv-loop table list first out₀ at₀ i₀ out at i = (first ≤ i) × Filling (asked table list first) out₀ (i - first) at out
 
 abbrev μ-loop : tie.MeasureT-loop
 μ-loop table list first out₀ at₀ i₀ out at i = length list - i
 
--- src/block.rt:27:5
+-- from the loop back to the entry
+abbrev entry : tie.At-loop Inv-loop μ-loop → tie.Start Inv-loop μ-loop
+entry c = c .before .before .before .before
+
+abbrev lines-at : tie.Start Inv-loop μ-loop → List (List ℕ)
+lines-at c = asked (c .args .table .now) (c .args .list .now) (c .args .first)
+
+-- what a turn has done when its line is put or not
+abbrev Turn-at : tie.After-append-line Inv-loop μ-loop → Type 0
+Turn-at c =
+    let at-loop = c .before .before .before .before in
+    let start = entry at-loop in
+    Turn (lines-at start) (start .args .out .now) (at-loop .loop .out) (at-loop .loop .i - start .args .first) (at-loop .loop .at)
+    (c .append-line .result) (c .append-line .last .0)
+
+turned : (c : tie.After-append-line Inv-loop μ-loop) → Turn-at c
+turned c =
+    let in-loop = c .before .before .before in
+    let at-loop = in-loop .before in
+    let a = entry at-loop .args in
+    let t = wordsOf (a .table .now) in
+    let list = a .list .now in
+    let i = at-loop .loop .i in
+    record {
+      filling = at-loop .loop .inv .1;
+      inside = omega (arith, length-lines t list (a .first));
+      line = line t (getD list i 0);
+      next = line-at t list (a .first) i (at-loop .loop .inv .0) (in-loop .loop-test .taken);
+      some = line-some t (getD list i 0);
+      appended = c .append-line .ensures;
+    }
+
 loop-holds : tie.Need-loop-holds Inv-loop μ-loop
 loop-holds c =
     let start = c .before .before .before in
     let none-yet : start .args .first - start .args .first ≡ 0 = omega arith in
-    (search needs, rw none-yet (filling-none (drop (start .args .first) (map (line (wordsOf (start .args .table .now))) (start .args .list .now))) (start .args .out .now)))
+    (search needs, rw none-yet (filling-none (lines-at start) (start .args .out .now)))
 
--- src/block.rt:28:48
 mul-append-line : tie.Need-mul-append-line Inv-loop μ-loop
 mul-append-line c = search needs
 
--- src/block.rt:28:48
 shared-slice-read-append-line : tie.Need-shared-slice-read-append-line Inv-loop μ-loop
 shared-slice-read-append-line c = search needs
 
--- src/block.rt:28:13
 append-line-requires : tie.Need-append-line-requires Inv-loop μ-loop
-append-line-requires c κs = (c .before .before .before .before .before .before .before .pre .0, (c .before .before .before .before .before .before .before .pre .1 .below (c .before .before .before .loop .i), search needs))
+append-line-requires c κs =
+    let at-loop = c .before .before .before in
+    let pre = entry at-loop .pre in
+    (pre .0, (pre .1 .below (at-loop .loop .i), search needs))
 
--- src/block.rt:31:24
-sub-t14 : tie.Need-sub-t14 Inv-loop μ-loop
-sub-t14 c = search needs
+sub-stopped : tie.Need-sub-stopped Inv-loop μ-loop
+sub-stopped c = search needs
 
--- src/block.rt:30:13
+stopped-requires : tie.Need-stopped-requires Inv-loop μ-loop
+stopped-requires c κs = search needs
+
 same-length : tie.Need-same-length Inv-loop μ-loop
 same-length c = search needs
 
--- src/block.rt:30:13
 returns : tie.Need-returns Inv-loop μ-loop
 returns c =
-    let start = c .before .before .before .before .before .before .before .before .before .before .before in
-    let t = wordsOf (start .args .table .now) in
-    let list = start .args .list .now in
-    let first = start .args .first in
-    let at-loop = c .before .before .before .before .before .before .before in
-    let i = at-loop .loop .i in
-    let step = c .before .before .before .append-line in
-    let inside : i - first < length (drop first (map (line t) list)) = omega (arith, length-lines t list first) in
-    let is = line-at t list first i (at-loop .loop .inv .0) (c .before .before .before .before .before .before .loop-test .taken) in
-    turn-stop (at-loop .loop .inv .1) (line t (getD list i 0)) inside is (line-some t (getD list i 0)) (step .ensures) (c .if1 .taken)
+    let at-append-line = c .before .before .before .before in
+    rw (c .stopped .ensures) (turn-stop (turned at-append-line) (c .before .if1 .taken))
 
--- src/block.rt:36:9
 add-i : tie.Need-add-i Inv-loop μ-loop
 add-i c = search needs
 
--- src/block.rt:27:5
 loop-less : tie.Need-loop-less Inv-loop μ-loop
 loop-less c = search needs
 
--- src/block.rt:27:5
 loop-again : tie.Need-loop-again Inv-loop μ-loop
 loop-again c =
-    let start = c .before .before .before .before .before .before .before .before .before .before .before in
-    let t = wordsOf (start .args .table .now) in
-    let list = start .args .list .now in
-    let first = start .args .first in
-    let at-loop = c .before .before .before .before .before .before .before in
-    let i = at-loop .loop .i in
-    let step = c .before .before .before .append-line in
-    let inside : i - first < length (drop first (map (line t) list)) = omega (arith, length-lines t list first) in
-    let is = line-at t list first i (at-loop .loop .inv .0) (c .before .before .before .before .before .before .loop-test .taken) in
-    let next : i + 1 - first ≡ i - first + 1 = omega arith in
-    (search needs, rw next (turn-more (at-loop .loop .inv .1) (line t (getD list i 0)) inside is (line-some t (getD list i 0)) (step .ensures) (step .kept .0) (c .if1 .left)))
+    let at-append-line = c .before .before .before in
+    let at-loop = at-append-line .before .before .before .before in
+    let first = entry at-loop .args .first in
+    let next : at-loop .loop .i + 1 - first ≡ at-loop .loop .i - first + 1 = omega arith in
+    (search needs, rw next (turn-more (turned at-append-line) (at-append-line .append-line .kept .0) (c .if1 .left)))
 
--- src/block.rt:39:16
 sub-t15 : tie.Need-sub-t15 Inv-loop μ-loop
 sub-t15 c = search needs
 
--- src/block.rt:20:1
 same-length-2 : tie.Need-same-length-2 Inv-loop μ-loop
 same-length-2 c = search needs
 
--- src/block.rt:20:1
 returns-2 : tie.Need-returns-2 Inv-loop μ-loop
 returns-2 c =
-    let start = c .before .before .before .before .before in
-    let t = wordsOf (start .args .table .now) in
-    filling-all (c .before .loop .inv .1) (omega (arith, length-lines t (start .args .list .now) (start .args .first)))
+    let a = entry (c .before) .args in
+    let t = wordsOf (a .table .now) in
+    filling-all (c .before .loop .inv .1) (omega (arith, length-lines t (a .list .now) (a .first)))
 
 pub list-lines-spec : {M : Type 1} → statement M
 list-lines-spec =
@@ -116,7 +132,8 @@ list-lines-spec =
     mul-append-line
     shared-slice-read-append-line
     append-line-requires
-    sub-t14
+    sub-stopped
+    stopped-requires
     same-length
     returns
     add-i

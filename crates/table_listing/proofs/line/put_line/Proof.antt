@@ -6,39 +6,30 @@ use borrow.Author.Needs.{needs}
 use Rattle.table_listing.proofs.line.put_line.Statement.{statement}
 use Rattle.table_listing.proofs.line.put_line.Tie as tie
 
--- src/line.rt:24:9
 put-name-requires : tie.Need-put-name-requires
 put-name-requires c κs = search needs
 
--- src/line.rt:25:40
 slice-aggregate-put-bytes : tie.Need-slice-aggregate-put-bytes
 slice-aggregate-put-bytes c = search needs
 
--- src/line.rt:25:9
 put-bytes-requires : tie.Need-put-bytes-requires
 put-bytes-requires c κs = search needs
 
--- src/line.rt:26:41
 string-word-requires : tie.Need-string-word-requires
 string-word-requires c κs = search needs
 
--- src/line.rt:26:9
 put-bits-requires : tie.Need-put-bits-requires
 put-bits-requires c κs = search needs
 
--- src/line.rt:27:29
 slice-aggregate-put-bytes-2 : tie.Need-slice-aggregate-put-bytes-2
 slice-aggregate-put-bytes-2 c = search needs
 
--- src/line.rt:27:5
 put-bytes-requires-2 : tie.Need-put-bytes-requires-2
 put-bytes-requires-2 c κs = search needs
 
--- src/line.rt:17:1
 same-length : tie.Need-same-length
 same-length c = search needs
 
--- src/line.rt:17:1
 returns : tie.Need-returns
 returns c =
     let at-end = c .before .before in
@@ -46,7 +37,8 @@ returns c =
     let at-space = at-bits .before .before .before .before .before in
     let at-name = at-space .before .before .before .before .before in
     let start = at-name .before .before .before .before in (
-      put-parts (wordsOf (start .args .table .now)) (start .args .place) (at-bits .before .string-word .result) (omega arith) (at-bits .before .string-word .ensures)
+      let word = at-bits .before .string-word in
+          put-parts (wordsOf (start .args .table .now)) (start .args .place) (word .result) (omega arith) (word .ensures)
           (at-name .put-name .ensures .0) (at-space .put-bytes .ensures) (at-bits .put-bits .ensures .0) (at-end .put-bytes2 .ensures),
       search needs,
     )

@@ -9,8 +9,9 @@ use Rattle.row_format.specs.Table.{tableSize, codewordAt, tableNumber}
 use Rattle.code_table.specs.Check.Laws.{length-words, whole-table-words}
 use Rattle.table_listing.specs.Order.{order, places}
 use Rattle.table_listing.specs.Line.{line}
-use Rattle.table_listing.specs.Listing.{treeOrder, blockOf, block}
-use Rattle.table_listing.specs.Listing.Laws.{accepted-whole, treeOrder-below, lines-accepted}
+use Rattle.table_listing.specs.Listing.{treeOrder, nextNumber, blockOf, block}
+use Rattle.table_listing.specs.Listing.Laws.{accepted-whole, treeOrder-below}
+use Rattle.table_listing.specs.Listing.Answers.{block-accepted}
 
 module _ (b : List ℕ) (ok : tableNumber b ≡ 0) where
   pub strings-most : length b / 4 ≤ 8193
@@ -29,6 +30,9 @@ module _ (b : List ℕ) (ok : tableNumber b ≡ 0) where
     pub arranged-below : Below (3 + tableSize (wordsOf b)) l
     arranged-below = rw arranged-tree (treeOrder-below b ok)
 
-    pub arranged-block : (first : ℕ) (m : List ℕ) → blockOf (drop first (map (line (wordsOf b)) l)) m ≡ block b first m
+    pub arranged-block : (first : ℕ) (m : List ℕ) →
+        let ls = drop first (map (line (wordsOf b)) l) in
+        blockOf (nextNumber ls (length m)) ls m ≡ block b first m
     arranged-block first m =
-        ap (λ (ls : List (List ℕ)). blockOf (drop first ls) m) (ap (map (line (wordsOf b))) arranged-tree ∙ sym (lines-accepted b ok))
+        ap (λ (ps : List ℕ). let ls = drop first (map (line (wordsOf b)) ps) in blockOf (nextNumber ls (length m)) ls m) arranged-tree
+        ∙ sym (block-accepted b first m ok)

@@ -5,19 +5,15 @@ use borrow.Author.Needs.{needs}
 use Rattle.table_listing.proofs.string.string_word.Statement.{statement}
 use Rattle.table_listing.proofs.string.string_word.Tie as tie
 
--- src/string.rt:14:13
 add-i : tie.Need-add-i
 add-i c = search needs
 
--- src/string.rt:16:9
 word-at-requires : tie.Need-word-at-requires
 word-at-requires c κs = search needs
 
--- src/string.rt:16:9
 returns : tie.Need-returns
 returns c = search needs
 
--- src/string.rt:11:1
 returns-2 : tie.Need-returns-2
 returns-2 c = word-none (c .before .before .args .table .now) (3 + c .before .before .args .place) (c .if1 .left)
 

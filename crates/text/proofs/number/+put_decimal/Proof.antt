@@ -51,7 +51,8 @@ module _ (t : ℕ) where
   put-decimal-requires c κs = search needs
 
   -- the digits before the last are at most 19
-  front : (c : put-decimal-lts.After-put-decimal (callees t) (put-decimal-at t) put-decimal.Post) → c .put-decimal .result < c .before .before .before .before .args .at + 20
+  front : (c : put-decimal-lts.After-put-decimal (callees t) (put-decimal-at t) put-decimal.Post)
+      → c .put-decimal .result < c .before .before .before .before .args .at + 20
   front c =
       let start = c .before .before .before .before in
       omega (arith, c .put-decimal .ensures .0 .next, length-decimal 18 (start .args .n / 10) (omega (arith, start .fits .n)))
@@ -71,7 +72,8 @@ module _ (t : ℕ) where
       let start = c .before .before .before .before .before .before in
       let done = c .before .before .put-decimal in
       let more = front (c .before .before) in
-      (put-digits (start .args .n) (c .before .before .before .before .if1 .left) (omega arith) (done .kept .0) (done .ensures .0), omega arith)
+      let ten = c .before .before .before .before .if1 .left in
+      (put-digits (start .args .n) ten (omega arith) (done .kept .0) (done .ensures .0), omega arith)
 
 pub +put-decimal-spec : {M : Type 1} → statement M
 +put-decimal-spec =

@@ -15,7 +15,10 @@ same-length : tie.Need-same-length
 same-length c = search needs
 
 returns : tie.Need-returns
-returns c = (put-put (omega arith) (c .before .before .before .before .before .before .put-bytes .ensures) (c .before .before .put-decimal .ensures .0), search needs)
+returns c =
+    let at-number = c .before .before in
+    let at-words = at-number .before .before .before .before in
+    (put-put (omega arith) (at-words .put-bytes .ensures) (at-number .put-decimal .ensures .0), search needs)
 
 pub put-field-spec : {M : Type 1} → statement M
 put-field-spec = tie.close (tie.spec put-bytes-requires put-decimal-requires same-length returns)

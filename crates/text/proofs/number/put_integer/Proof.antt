@@ -27,7 +27,8 @@ returns c =
     let at-test = c .before .before .before .before in
     let size = at-test .before .magnitude in
     let start = at-test .before .before .before in
-    (put-negative (start .args .v) (start .fits .v) (at-test .if1 .taken) (size .result) (size .ensures) (omega arith) (c .before .before .put-decimal .ensures .0), omega arith)
+    let put = c .before .before .put-decimal .ensures .0 in
+    (put-negative (start .args .v) (start .fits .v) (at-test .if1 .taken) (size .result) (size .ensures) (omega arith) put, omega arith)
 
 put-decimal-requires-2 : tie.Need-put-decimal-requires-2
 put-decimal-requires-2 c κs = search needs
@@ -40,7 +41,8 @@ returns-2 c =
     let at-test = c .before .before .before .before in
     let size = at-test .before .magnitude in
     let start = at-test .before .before .before in
-    (put-positive (start .args .v) (start .fits .v) (at-test .if1 .left) (size .result) (size .ensures) (c .before .before .put-decimal2 .ensures .0), omega arith)
+    let put = c .before .before .put-decimal2 .ensures .0 in
+    (put-positive (start .args .v) (start .fits .v) (at-test .if1 .left) (size .result) (size .ensures) put, omega arith)
 
 pub put-integer-spec : {M : Type 1} → statement M
 put-integer-spec =

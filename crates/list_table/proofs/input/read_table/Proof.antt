@@ -1,59 +1,48 @@
--- `list_table::read_table`: `at` bytes are read before each turn; the measure is the room that is left. Assumes nothing.
+-- `list_table::input::read_table`: `at` bytes are read before each turn; the measure is the room that is left. Assumes nothing.
 use Prim.Native.Nat.{_+_, _-_, _≤_}
 use native.Mathlib.Omega.{arith}
 use mathlib.Core.Path.{_≡_}
 use borrow.Author.Needs.{needs}
 use lib.ListN.{length, drop, length-take, length-drop}
-use Rattle.list_table.proofs.read_table.Statement.{statement}
-use Rattle.list_table.proofs.read_table.Tie as tie
+use Rattle.list_table.proofs.input.read_table.Statement.{statement}
+use Rattle.list_table.proofs.input.read_table.Tie as tie
 
 abbrev Inv-loop : tie.InvT-loop
-Inv-loop table₀ at₀ table at = (at ≤ length table₀) × (length table ≡ length table₀)
+Inv-loop file table₀ at₀ table at = (at ≤ length table₀) × (length table ≡ length table₀)
 
 abbrev μ-loop : tie.MeasureT-loop
-μ-loop table₀ at₀ table at = length table₀ - at
+μ-loop file table₀ at₀ table at = length table₀ - at
 
--- src/main.rt:31:5
 loop-holds : tie.Need-loop-holds Inv-loop μ-loop
 loop-holds c = search needs
 
--- src/main.rt:32:41
 sub-read-some : tie.Need-sub-read-some Inv-loop μ-loop
 sub-read-some c = search needs
 
--- src/main.rt:32:41
 part-read-some-start : tie.Need-part-read-some-start Inv-loop μ-loop
 part-read-some-start c = search needs
 
--- src/main.rt:32:41
 part-read-some-end : tie.Need-part-read-some-end Inv-loop μ-loop
 part-read-some-end c = search needs
 
--- src/main.rt:32:31
 read-some-requires : tie.Need-read-some-requires Inv-loop μ-loop
 read-some-requires c κs = search needs
 
--- src/main.rt:32:26
 enum-known-n : tie.Need-enum-known-n Inv-loop μ-loop
 enum-known-n c = search needs
 
--- src/main.rt:33:13
 enum-told : tie.Need-enum-told Inv-loop μ-loop
 enum-told c = search needs
 
--- src/main.rt:33:13
 same-length : tie.Need-same-length Inv-loop μ-loop
 same-length c = search needs
 
--- src/main.rt:33:13
 returns : tie.Need-returns Inv-loop μ-loop
 returns c = search needs
 
--- src/main.rt:36:13
 same-length-2 : tie.Need-same-length-2 Inv-loop μ-loop
 same-length-2 c = search needs
 
--- src/main.rt:36:13
 returns-2 : tie.Need-returns-2 Inv-loop μ-loop
 returns-2 c = search needs
 
@@ -68,23 +57,18 @@ more c =
     let read = rw (c .before .n .given .1) at (c .before .before .before .before .before .read-some .ensures) in
     omega (arith, read, length-take (length table - at) (drop at table), length-drop at table)
 
--- src/main.rt:38:9
 add-at : tie.Need-add-at Inv-loop μ-loop
 add-at c = omega (arith, more (c .before))
 
--- src/main.rt:31:5
 loop-less : tie.Need-loop-less Inv-loop μ-loop
 loop-less c = search needs
 
--- src/main.rt:31:5
 loop-again : tie.Need-loop-again Inv-loop μ-loop
 loop-again c = (more (c .before), search needs)
 
--- src/main.rt:27:1
 same-length-3 : tie.Need-same-length-3 Inv-loop μ-loop
 same-length-3 c = search needs
 
--- src/main.rt:27:1
 returns-3 : tie.Need-returns-3 Inv-loop μ-loop
 returns-3 c = search needs
 

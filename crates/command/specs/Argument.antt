@@ -1,0 +1,29 @@
+-- What an argument of a command line is, by its bytes, while options may still come. Definitions only; their laws are in
+-- Argument/Laws.antt. Assumes nothing.
+use Prim.Native.Nat.{ℕ}
+use mathlib.Core.Bool.{Bool, true, false, cond}
+use mathlib.Core.List.{List, [], _∷_}
+use lib.ListN.{getD}
+use lib.Dec.{eqb}
+use Rattle.text.specs.Text.{ascii}
+use Rattle.command.specs.declared.argument.Argument.{Argument}
+use Rattle.command.specs.declared.argument.Argument.the-variants.{Help, Version, End, Input, Unknown, Name}
+pub mod Laws
+
+-- whether two runs of bytes are the same
+unfoldable pub sameBytes : List ℕ → List ℕ → Bool
+sameBytes [] [] = true
+sameBytes [] (y ∷ t) = false
+sameBytes (x ∷ s) [] = false
+sameBytes (x ∷ s) (y ∷ t) = cond (eqb x y) (sameBytes s t) false
+
+-- `-` alone is standard input; any other word that begins with it, byte 45, but for the options, is unknown; the
+-- rest name files
+unfoldable pub dashedOf : List ℕ → Argument
+dashedOf s = cond (sameBytes s (ascii "-")) Input (cond (eqb (getD s 0 0) 45) Unknown Name)
+
+unfoldable pub argumentOf : List ℕ → Argument
+argumentOf s =
+    cond (sameBytes s (ascii "--help")) Help
+    (cond (sameBytes s (ascii "--version")) Version
+    (cond (sameBytes s (ascii "--")) End (dashedOf s)))

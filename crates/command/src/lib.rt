@@ -1,0 +1,112 @@
+// What the programs share: a command line's options and files, and what is said on standard error. No contract can say what
+// an argument's bytes are, nor what is read or written; what an argument is, by its bytes, is in specs/Argument.antt.
+pub mod argument;
+pub mod say;
+
+use argument::Argument;
+use argument::argument_of;
+use libc::ENAMETOOLONG;
+use libc::STDIN_FILENO;
+use say::complain;
+ghost use Rattle.io.specs.Counts.{Counts};
+
+// What a command line asks for. An unknown option comes with its place; of several options the first decides.
+pub enum Request {
+    Help,
+    Version,
+    Unknown(usize),
+    Files(Files),
+}
+
+// The files that it names.
+// arguments   how many words it has, the program's own name among them
+// end         the place of the `--` that ends the options, or `arguments` where there is none
+pub struct Files {
+    pub arguments: usize,
+    pub end: usize,
+}
+
+pub fn read_request() -> Request {
+    let arguments = os::arg_count();
+    let mut files = Files {
+        arguments,
+        end: arguments,
+    };
+    let mut i = 1;
+    while i < arguments {
+        let asked = take_argument(i, files);
+        let Request::Files(next) = asked else {
+            return asked;
+        };
+        files = next;
+        i += 1;
+    }
+    Request::Files(files)
+}
+
+// Up to the argument at place i, where nothing but files was asked for before it.
+fn take_argument(i: usize, files: Files) -> Request {
+    if files.end < i {
+        return Request::Files(files);
+    }
+    let mut word = io::buffer();
+    let n = word_at(i, &mut word);
+    match argument_of(&word[..n]) {
+        Argument::Help => Request::Help,
+        Argument::Version => Request::Version,
+        Argument::Unknown => Request::Unknown(i),
+        Argument::End => Request::Files(Files {
+            arguments: files.arguments,
+            end: i,
+        }),
+        Argument::Input => Request::Files(files),
+        Argument::Name => Request::Files(files),
+    }
+}
+
+// The argument at place i, at the front of `word`, and its length. Of one that is longer than `word` the first bytes; those of
+// a buffer of 4096 bytes are too many for a file's name, so that opening it fails.
+pub fn word_at(i: usize, word: &mut [u8]) -> usize
+    ensures { λ r. ⌜ Counts r (now (word .exit)) ⌝ }
+{
+    let n = os::arg(i, word);
+    if os::errno() == ENAMETOOLONG {
+        return word.len();
+    }
+    n
+}
+
+// Whether the argument at place i is a file: each is, in front of the `--` and behind it.
+pub fn is_file(files: Files, i: usize) -> bool {
+    i != files.end
+}
+
+// How many files are named.
+pub fn count_files(files: Files) -> usize {
+    if files.arguments < 2 {
+        return 0;
+    }
+    if files.end < files.arguments {
+        return files.arguments - 2;
+    }
+    files.arguments - 1
+}
+
+// A descriptor for reading, below 0 where there is none, which is said on standard error. `-` is standard input.
+pub fn open(program: &[u8], name: &[u8]) -> i32 {
+    if let Argument::Input = argument_of(name) {
+        return STDIN_FILENO;
+    }
+    let file = os::open_read(name);
+    if file < 0 {
+        complain(program, name);
+    }
+    file
+}
+
+// The descriptor of a file that was opened; standard input stays open.
+pub fn close(file: i32) {
+    if file != STDIN_FILENO {
+        libc::close(file);
+    }
+}

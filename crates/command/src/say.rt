@@ -1,0 +1,76 @@
+// What a program says apart from its listing: complaints and hints on standard error, each a line that begins with the
+// program's name and the file's, and lines on standard output that name a file or the version.
+use crate::argument::Argument;
+use crate::argument::argument_of;
+use crate::word_at;
+use libc::STDERR_FILENO;
+use libc::STDOUT_FILENO;
+
+// Of the programs; include/tahliruz.h has the library's, which is the same.
+const VERSION: [u8; 5] = *b"0.1.0";
+
+// `PROGRAM: NAME: why`, by errno, which no write that succeeds changes.
+pub fn complain(program: &[u8], name: &[u8]) {
+    begin(program);
+    if let Argument::Input = argument_of(name) {
+        os::fail(b"standard input");
+        return;
+    }
+    os::fail(name);
+}
+
+// `PROGRAM: NAME: text`
+pub fn hint(program: &[u8], name: &[u8], text: &[u8]) {
+    begin(program);
+    if let Argument::Input = argument_of(name) {
+        io::write_all(STDERR_FILENO, b"standard input");
+    } else {
+        io::write_all(STDERR_FILENO, name);
+    }
+    io::write_all(STDERR_FILENO, b": ");
+    io::write_all(STDERR_FILENO, text);
+    io::write_all(STDERR_FILENO, b"\n");
+}
+
+fn begin(program: &[u8]) {
+    io::write_all(STDERR_FILENO, program);
+    io::write_all(STDERR_FILENO, b": ");
+}
+
+// `PROGRAM: OPTION: unknown option`, of the option at place i.
+pub fn refuse_option(program: &[u8], i: usize) {
+    let mut word = io::buffer();
+    let n = word_at(i, &mut word);
+    hint(program, &word[..n], b"unknown option");
+}
+
+// Whether a text was written to standard output; where not, standard error says why.
+pub fn print(program: &[u8], text: &[u8]) -> bool {
+    if io::write_all(STDOUT_FILENO, text) {
+        return true;
+    }
+    complain(program, b"standard output");
+    false
+}
+
+// `file NAME`, before the listing of one of several files.
+pub fn print_file(program: &[u8], name: &[u8]) -> bool {
+    print_line(program, b"file ", name)
+}
+
+// `PROGRAM VERSION`
+pub fn print_version(program: &[u8]) -> bool {
+    if print(program, program) {
+        return print_line(program, b" ", &VERSION);
+    }
+    false
+}
+
+fn print_line(program: &[u8], front: &[u8], text: &[u8]) -> bool {
+    if print(program, front) {
+        if print(program, text) {
+            return print(program, b"\n");
+        }
+    }
+    false
+}

@@ -53,14 +53,14 @@ carriedNext p b a =
       rows = p .rows + rowsOf (holdsOf a);
     }
 
--- a turn: the line that it prints, whether that is the last one, and what is carried on
-pub record Turn : Type 0 where
+-- what a turn comes to: the line that it prints, whether that is the last one, and what is carried on
+pub record Turned : Type 0 where
   pub line : List ℕ
   pub last : Bool
   pub next : Carried
 
 -- the last turn, by its number
-abbrev pub lastTurn : Carried → ℕ → Turn
+abbrev pub lastTurn : Carried → ℕ → Turned
 lastTurn p e = record { line = lastLine e (p .index) (p .rows); last = true; next = p }
 
 -- "A sheet with no records is refused 16"
@@ -68,13 +68,13 @@ abbrev pub endNumber : ℕ → ℕ
 endNumber index = cond (eqb index 0) 16 0
 
 -- with a record's bytes b, by how it was judged
-abbrev pub recordTurn : Carried → List ℕ → RecordRead → Turn
+abbrev pub recordTurn : Carried → List ℕ → RecordRead → Turned
 recordTurn p b a =
     unless (a .number) (lastTurn p)
     (record { line = recordLine (recordHere (heldBy p) b); last = false; next = carriedNext p b a })
 
 -- with the bytes that are held: none at the sheet's end
-unfoldable pub turnOf : Carried → List ℕ → Turn
+unfoldable pub turnOf : Carried → List ℕ → Turned
 turnOf p [] = lastTurn p (endNumber (p .index))
 turnOf p (x ∷ b) = recordTurn p (x ∷ b) (recordJudged (heldBy p) (x ∷ b))
 
@@ -82,7 +82,7 @@ turnOf p (x ∷ b) = recordTurn p (x ∷ b) (recordJudged (heldBy p) (x ∷ b))
 unfoldable pub turns : ℕ → Carried → List ℕ → List ℕ
 turns zero p r = []
 turns (suc n) p r =
-    let t : Turn = turnOf p (heldOf r) in
+    let t : Turned = turnOf p (heldOf r) in
     cond (t .last) (t .line) (t .line ++ turns n (t .next) (drop (recordSpan r) r))
 
 -- ---- the lister on its way

@@ -21,7 +21,7 @@ use Rattle.sheet_format.specs.Theorems.Locality.{Alike, alike, recordJudged-ali
 use Rattle.sheet_listing.specs.Line.{recordLine, lastLine}
 use Rattle.sheet_listing.specs.Listing.{recordLines, lastOf, listing, rowsOf}
 use Rattle.sheet_listing.specs.Listing.Laws.{listingFrom, length-withRow, length-rowNumbers, listing-nothing, listing-some}
-use Rattle.sheet_listing.specs.Turns.{heldOf, Carried, carriedFirst, heldBy, carriedNext, Turn, turnOf, turns, Carries, NextLine, EndLine}
+use Rattle.sheet_listing.specs.Turns.{heldOf, Carried, carriedFirst, heldBy, carriedNext, Turned, turnOf, turns, Carries, NextLine, EndLine}
 use Rattle.sheet_listing.specs.Turns.Laws.{turnOf-refused, turnOf-accepted, held-next, turns-from}
 
 -- ---- an accepted record, with more bytes behind it
@@ -222,10 +222,10 @@ end-refused : {s : List ℕ} {p : Carried} → Carries s p → (x : ℕ) (b : Li
 end-refused {s} {p} at x b last =
     let number = recordJudged (heldBy p) (x ∷ b) .number in
     by-test (eqb number 0)
-    (λ e. true-false last (ap (λ (t : Turn). t .last) (turnOf-accepted p (x ∷ b) (eqb-true number 0 e))))
+    (λ e. true-false last (ap (λ (t : Turned). t .last) (turnOf-accepted p (x ∷ b) (eqb-true number 0 e))))
     (λ e.
     let wrong = eqb-false number 0 e in
-    ap (λ (t : Turn). t .line) (turnOf-refused p (x ∷ b) (omega arith) wrong)
+    ap (λ (t : Turned). t .line) (turnOf-refused p (x ∷ b) (omega arith) wrong)
     ∙ last-before at (x ∷ b) number (omega (arith, length-append s (x ∷ b))) (sheet-refused (heldBy p) x b wrong))
 
 end-is : {s : List ℕ} {p : Carried} → Carries s p → (b : List ℕ) → turnOf p b .last ≡ true

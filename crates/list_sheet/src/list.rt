@@ -79,6 +79,12 @@ fn list_records(
     let mut at = begin();
     while at.index < u64::MAX {
         let turn = take_turn(file, name, bytes, table, line, at);
+        if turn.failed {
+            return Records {
+                written: true,
+                turn,
+            };
+        }
         if turn.last {
             return Records {
                 written: true,

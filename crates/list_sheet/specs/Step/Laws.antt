@@ -3,7 +3,7 @@ use Prim.Native.Nat.{ℕ, _+_, _-_, _≤_, _<_}
 use native.Mathlib.Omega.{arith}
 use mathlib.Core.Path.{_≡_, refl, sym, ap, _∙_}
 use mathlib.Core.Bool.{true, false}
-use mathlib.Core.List.{List, _++_}
+use mathlib.Core.List.{List, [], _++_}
 use lib.ListN.{length, take, drop, length-append, length-take}
 use lib.Seq.{take-at, take-all, take-take, length-take-le}
 use lib.Dec.{eqb}
@@ -14,6 +14,7 @@ use Rattle.answer.specs.declared.Answer.{Answer}
 use Rattle.answer.specs.Outcome.{Outcome, outcome, wrote}
 use Rattle.row_format.specs.Lists.Laws.{by-test, true-false}
 use Rattle.sheet_format.specs.declared.RecordRead.{RecordRead}
+use Rattle.sheet_format.specs.Context.{newSheet, stateOf}
 use Rattle.sheet_format.specs.Kind.{Payload, aTable, aRow, aLine, noPayload, isTable, isRow, tableKept}
 use Rattle.sheet_format.specs.Record.{lengthField, recordSpan}
 use Rattle.sheet_format.specs.Reading.{recordJudged}
@@ -25,11 +26,12 @@ use Rattle.sheet_listing.specs.Line.{recordLine, lastLine}
 use Rattle.sheet_listing.specs.Listed.{lineGiven, recordListed}
 use Rattle.sheet_listing.specs.Listed.Laws.{listed-refused, recordListed-fits}
 use Rattle.sheet_listing.specs.Listing.{rowsOf}
-use Rattle.sheet_listing.specs.Turns.{heldOf, holdsOf, Carried, heldBy, lastTurn, turnOf}
-use Rattle.sheet_listing.specs.Turns.Laws.{span-least, turnOf-refused, turnOf-accepted}
+use Rattle.sheet_listing.specs.Turns.{heldOf, holdsOf, Carried, heldBy, carriedNext, Turned, lastTurn, endNumber, turnOf, NextLine, EndLine}
+use Rattle.sheet_listing.specs.Turns.Laws.{span-least, turnOf-refused, turnOf-accepted, turnOf-goes-on}
+use Rattle.sheet_listing.specs.Turns.Taken.{carries-none, carries-more, end-line}
 use Rattle.list_sheet.specs.declared.turn.Progress.{Progress}
 use Rattle.list_sheet.specs.declared.turn.Turn.{Turn}
-use Rattle.list_sheet.specs.Step.{carriedBy, turnedBy}
+use Rattle.list_sheet.specs.Step.{carriedBy, turnedBy, TurnMade, Underway}
 
 -- ---- the bytes of a record
 -- four bytes or fewer are held whole
@@ -152,6 +154,61 @@ module _ (p : Carried) (r m : List ℕ) (room : 128 ≤ length m) {x : Listed} {
         ≡ turnOf p r
     turn-accepted is-table is-rows =
         rw (line-is, is-table, is-rows, read-is, judged-body (heldBy p) r fine) (sym (turnOf-accepted p r fine))
+
+-- nothing is left to read: the last line follows
+pub turn-ended : (p : Carried) → turnOf p [] ≡ lastTurn p (endNumber (p .index))
+unfolding turnOf
+turn-ended p = refl
+
+pub end-made : {t : Turn} {number : ℕ} {line : List ℕ} (at : Progress) (table bytes : List ℕ) → number ≡ endNumber (at .index)
+    → t ≡ record { failed = false; last = true; taken = 0; count = length (lastLine number (at .index) (at .rows)); next = at }
+    → take (t .count) line ≡ lastLine number (at .index) (at .rows)
+    → TurnMade (take (t .taken) bytes) at table t table line
+end-made {t} at table bytes is-number is-turn is-line =
+    let none : t .taken ≡ 0 = ap (λ (t : Turn). t .taken) is-turn in
+    let last : t .last ≡ true = ap (λ (t : Turn). t .last) is-turn in
+    let next : t .next ≡ at = ap (λ (t : Turn). t .next) is-turn in
+    record {
+      held = rw none (held-short [] (omega arith));
+      made = rw (is-line, none, last, next, is-number) (sym (turn-ended (carriedBy at table)));
+    }
+
+-- ---- from turn to turn
+module _ {b : List ℕ} {p : Progress} {table : List ℕ} {t : Turn} {table′ line′ : List ℕ} (at : Underway (carriedBy p table))
+    (turn : TurnMade b p table t table′ line′) where
+  -- what is printed is the next line
+  pub line-next : NextLine (take (t .count) line′)
+  line-next =
+      record {
+        taken = at .taken;
+        carried = carriedBy p table;
+        bytes = b;
+        carries = at .carries;
+        held = turn .held;
+        line = ap (λ (x : Turned). x .line) (turn .made);
+      }
+
+  -- and after the last turn the last
+  pub line-last : t .last ≡ true → EndLine (take (t .count) line′)
+  line-last last =
+      end-line (at .carries) b (turn .held) (ap (λ (x : Turned). x .line) (turn .made))
+      (sym (ap (λ (x : Turned). x .last) (turn .made)) ∙ last)
+
+  module _ (on : t .last ≡ false) where
+    accepted : recordJudged (heldBy (carriedBy p table)) b .number ≡ 0
+    accepted = turnOf-goes-on (carriedBy p table) b (sym (ap (λ (x : Turned). x .last) (turn .made)) ∙ on)
+
+    next-is : carriedBy (t .next) table′ ≡ carriedNext (carriedBy p table) b (recordJudged (heldBy (carriedBy p table)) b)
+    next-is = ap (λ (x : Turned). x .next) (turn .made ∙ turnOf-accepted (carriedBy p table) b accepted)
+
+    pub next-index : t .next .index ≡ p .index + 1
+    next-index = ap (λ (x : Carried). x .index) next-is
+
+    pub underway-next : Underway (carriedBy (t .next) table′)
+    underway-next = record { taken = at .taken ++ b; carries = rw next-is (carries-more (at .carries) b (turn .held) accepted) }
+
+pub underway-first : (table : List ℕ) → Underway (carriedBy (record { state = stateOf newSheet; kept = 0; index = 0; rows = 0 }) table)
+underway-first table = record { taken = []; carries = carries-none }
 
 -- ---- the table and the rows, by what the record holds
 pub table-kept : (s : Payload) (tb b : List ℕ) → isTable s ≡ false → tableKept s tb b ≡ tb

@@ -10,7 +10,7 @@ use lib.ListN.{length, take, drop, length-take, length-drop}
 use lib.Seq.{take-nil, take-take, length-take-le, take-all}
 use lib.Dec.{eqb}
 use borrow.Author.Tests.{eqb-true, eqb-false, ne-eqb, lt-ltb, le-ltb}
-use Rattle.row_format.specs.Lists.Laws.{by-test}
+use Rattle.row_format.specs.Lists.Laws.{by-test, true-false}
 use Rattle.answer.specs.Outcome.Laws.{unless-refused}
 use Rattle.sheet_format.specs.declared.RecordRead.{RecordRead}
 use Rattle.sheet_format.specs.Context.{Context, newSheet, stateOf, contextOf}
@@ -45,6 +45,15 @@ module _ (p : Carried) (b : List ℕ) where
       → turnOf p b
       ≡ record { line = recordLine (recordHere (heldBy p) b); last = false; next = carriedNext p b (recordJudged (heldBy p) b) }
   turnOf-accepted ok = turnOf-record (omega (arith, judged-length (heldBy p) b ok)) ∙ rw ok
+
+-- a turn that is not the last has an accepted record
+pub turnOf-goes-on : (p : Carried) (b : List ℕ) → turnOf p b .last ≡ false → recordJudged (heldBy p) b .number ≡ 0
+unfolding turnOf
+turnOf-goes-on p [] on = true-false refl on
+turnOf-goes-on p (x ∷ b) on =
+    let number = recordJudged (heldBy p) (x ∷ b) .number in
+    by-test (eqb number 0) (λ e. eqb-true number 0 e)
+    (λ e. true-false (ap (λ (t : Turned). t .last) (turnOf-refused p (x ∷ b) (omega arith) (eqb-false number 0 e))) on)
 
 -- ---- the bytes that are held
 pub span-least : (r : List ℕ) → 4 ≤ recordSpan r

@@ -22,13 +22,7 @@ pub fn list_input(file: i32, name: &[u8]) -> bool {
     list_sheet(file, name, &mut bytes, &mut table, &mut line)
 }
 
-fn list_sheet(
-    file: i32,
-    name: &[u8],
-    bytes: &mut [u8],
-    table: &mut [u8],
-    line: &mut [u8],
-) -> bool
+fn list_sheet(file: i32, name: &[u8], bytes: &mut [u8], table: &mut [u8], line: &mut [u8]) -> bool
     requires { ⌜ 32778 ≤ length (now bytes) ⌝ }
     requires { ⌜ 32772 ≤ length (now table) ⌝ }
     requires { ⌜ 128 ≤ length (now line) ⌝ }
@@ -40,7 +34,7 @@ fn list_sheet(
             return true;
         }
         let count = turn.count;
-        if print_line(&line[..count]) {
+        if print_last(&line[..count]) {
             hint_table(file, name, bytes, turn);
             return true;
         }
@@ -107,11 +101,18 @@ fn list_records(
     }
 }
 
-// Writes the listing's next line. No other line of it goes out.
+// Writes the next line of a listing; nothing else of it goes out.
 fn print_line(line: &[u8]) -> bool
     requires { ⌜ NextLine (now line) ⌝ }
 {
     print(&PROGRAM, line)
+}
+
+// The same of its last line.
+fn print_last(line: &[u8]) -> bool
+    requires { ⌜ EndLine (now line) ⌝ }
+{
+    print_line(line)
 }
 
 // Where the first record is refused: says so if the input is a table. A table has at most 32772 bytes: with four more that

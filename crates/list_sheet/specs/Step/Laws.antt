@@ -240,4 +240,3 @@ rowsOf-most aTable = omega arith
 rowsOf-most aRow = omega arith
 rowsOf-most aLine = omega arith
 rowsOf-most noPayload = omega arith
-

@@ -17,7 +17,7 @@ slice-relend-prefix-fill : tie.Need-slice-relend-prefix-fill
 slice-relend-prefix-fill c = search needs
 
 slice-aggregate-fill-2 : tie.Need-slice-aggregate-fill-2
-slice-aggregate-fill-2 c = 
+slice-aggregate-fill-2 c =
     let start = c .before .before .before .before in
     sym (length-take-le 4 (start .args .bytes .now) (omega (arith, start .pre)))
 
@@ -28,7 +28,7 @@ same-length : tie.Need-same-length
 same-length c = search needs
 
 returns : tie.Need-returns
-returns c = 
+returns c =
     let filled = c .before .before .before .before in
     let start = filled .before .before .before .before .before in
     (omega arith, held-front (filled .fill .result .count) (filled .fill .last .1 .1 .1 .0 ++ drop 4 (start .args .bytes .now)) (omega arith))
@@ -75,7 +75,7 @@ returns-2 c =
     let spans = spanned .span .ensures in (
       omega (arith, spans .1),
       held-record m (more .fill2 .last .1 .1 .1 .0) e (more .fill2 .result .count) size (spans .1 .0) few
-      (λ b h. spans .0 b (h ∙ sym (spanned .before .read-u32 .ensures))),
+          (λ b h. spans .0 b (h ∙ sym (spanned .before .read-u32 .ensures))),
     )
 
 pub fill-record-spec : {M : Type 1} → statement M

@@ -29,7 +29,9 @@ loop-holds : tie.Need-loop-holds Inv-loop μ-loop
 loop-holds c =
     let begun = c .begin .ensures in
     let table = c .before .before .before .before .before .args .table .now in (
-      refl, refl, refl,
+      refl,
+      refl,
+      refl,
       rw begun (omega arith),
       record { kept = rw begun (omega arith); rows = rw begun (omega arith) },
       rw begun (underway-first table),
@@ -101,11 +103,14 @@ loop-again c =
     let at-loop = taken .before .before .before .before .before .before in
     let turn = taken .take-turn .ensures .1 .1 .1 (on .before .if2 .left) in
     let index = next-index (at-loop .loop .inv .5) turn (on .if3 .left) in
-    let kept = taken .take-turn .kept in
-    (omega (arith, kept), omega (arith, kept), omega (arith, kept),
-    omega (arith, index, taken .before .before .before .before .if1 .taken),
-    taken .take-turn .ensures .1 .1 .0,
-    underway-next (at-loop .loop .inv .5) turn (on .if3 .left))
+    let kept = taken .take-turn .kept in (
+      omega (arith, kept),
+      omega (arith, kept),
+      omega (arith, kept),
+      omega (arith, index, taken .before .before .before .before .if1 .taken),
+      taken .take-turn .ensures .1 .1 .0,
+      underway-next (at-loop .loop .inv .5) turn (on .if3 .left),
+    )
 
 same-length-7 : tie.Need-same-length-7 Inv-loop μ-loop
 same-length-7 c = search needs

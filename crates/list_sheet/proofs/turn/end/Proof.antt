@@ -16,7 +16,7 @@ same-length : tie.Need-same-length
 same-length c = search needs
 
 returns : tie.Need-returns
-returns c = 
+returns c =
     let ended = c .before .before .before in
     let start = ended .before .before .before in
     let args = start .args in

@@ -15,7 +15,7 @@ slice-reshare-prefix-list-record : tie.Need-slice-reshare-prefix-list-record
 slice-reshare-prefix-list-record c = search needs
 
 slice-aggregate-list-record : tie.Need-slice-aggregate-list-record
-slice-aggregate-list-record c = 
+slice-aggregate-list-record c =
     let start = c .before .before .before .before .before in
     sym (length-take-le (start .args .at .kept) (start .args .table .now) (start .pre .1 .1 .1 .1 .kept))
 
@@ -50,7 +50,7 @@ cast-count : tie.Need-cast-count
 cast-count c = search needs
 
 keep-table-requires : tie.Need-keep-table-requires
-keep-table-requires c κs = 
+keep-table-requires c κs =
     let listed = c .before .before .before .before .before .before in
     let start = listed .before .before .before .before .before .before .before in
     let args = start .args in
@@ -60,13 +60,13 @@ keep-table-requires c κs =
     (start .pre .1 .0, (start .pre .1 .1 .1 .1 .kept, size))
 
 rows-after-requires : tie.Need-rows-after-requires
-rows-after-requires c κs = 
+rows-after-requires c κs =
     let listed = c .before .before .before .before .before .before .before .before in
     let start = listed .before .before .before .before .before .before .before .before in
     omega (arith, start .pre .1 .1 .1 .0, start .pre .1 .1 .1 .1 .rows)
 
 add-t25 : tie.Need-add-t25
-add-t25 c = 
+add-t25 c =
     let kept = c .before .before .before .before .before in
     let listed = kept .before .before .before .before .before .before .before in
     let start = listed .before .before .before .before .before .before .before in
@@ -94,12 +94,16 @@ returns-2 c =
     let within = line-within at (args .bytes .now) (args .line .now) room (listing .0) (listing .1) ok in
     let turn = turn-accepted at (args .bytes .now) (args .line .now) room (listing .0) (listing .1) ok (kept .keep-table .ensures .1) rows in (
       refl,
-      (within,
-      (record {
-        kept = omega (arith, kept .keep-table .ensures .0, kept .keep-table .kept);
-        rows = omega (arith, rows, rowsOf-most (holdsOf (listed .list-record .result .read)), start .pre .1 .1 .1 .1 .rows);
-      },
-      turn)),
+      (
+        within,
+        (
+          record {
+            kept = omega (arith, kept .keep-table .ensures .0, kept .keep-table .kept);
+            rows = omega (arith, rows, rowsOf-most (holdsOf (listed .list-record .result .read)), start .pre .1 .1 .1 .1 .rows);
+          },
+          turn,
+        ),
+      ),
     )
 
 pub list-one-spec : {M : Type 1} → statement M

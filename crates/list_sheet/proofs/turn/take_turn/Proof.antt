@@ -23,9 +23,13 @@ returns c =
     let start = c .before .before .before .before .before .before .before .before .before .before in
     let unread = c .unread .ensures in (
       rw unread (omega arith),
-      (rw unread (omega arith),
-      (rw unread (start .pre .1 .1 .1 .1),
-      λ e. true-false (ap (λ (t : Turn). t .failed) unread) e)),
+      (
+        rw unread (omega arith),
+        (
+          rw unread (start .pre .1 .1 .1 .1),
+          λ e. true-false (ap (λ (t : Turn). t .failed) unread) e,
+        ),
+      ),
     )
 
 number-at-end-requires : tie.Need-number-at-end-requires
@@ -48,9 +52,13 @@ returns-2 c =
     let last = ended .end .ensures in
     let number = ended .before .before .number-at-end .ensures in (
       rw (last .0) (omega arith),
-      (last .1 .0,
-      (rw (last .0) (start .pre .1 .1 .1 .1),
-      λ e. end-made (start .args .at) (start .args .table .now) (filled .fill-record .last .1 .1 .0) number (last .0) (last .1 .1))),
+      (
+        last .1 .0,
+        (
+          rw (last .0) (start .pre .1 .1 .1 .1),
+          λ e. end-made (start .args .at) (start .args .table .now) (filled .fill-record .last .1 .1 .0) number (last .0) (last .1 .1),
+        ),
+      ),
     )
 
 slice-reshare-prefix-list-one : tie.Need-slice-reshare-prefix-list-one
@@ -92,9 +100,13 @@ returns-3 c =
     let made = listed .list-one .ensures in
     let taken : listed .list-one .result .taken ≡ count = made .0 ∙ size in (
       omega (arith, taken, filled .fill-record .ensures .0),
-      (made .1 .0,
-      (made .1 .1 .0,
-      λ e. rw taken (record { held = filled .fill-record .ensures .1; made = made .1 .1 .1 }))),
+      (
+        made .1 .0,
+        (
+          made .1 .1 .0,
+          λ e. rw taken (record { held = filled .fill-record .ensures .1; made = made .1 .1 .1 }),
+        ),
+      ),
     )
 
 pub take-turn-spec : {M : Type 1} → statement M

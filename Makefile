@@ -1,29 +1,64 @@
-# make            proves what is needed, builds the library and the programs, and lists the sample sheet
+# make            proves what is needed, builds the library and the programs, and lists the small sample sheet
+# make build      the same without the listing; does nothing where nothing has changed
 # make test       the gate: every proof, every must-fail edit, every comparison
 # make compare    the comparisons with second/ in full
 # make bench      ratios beside second/, in one run on one machine
 # make fuzz       mutated inputs of the C calls against second/: ten minutes with the sanitizers in both, then two as shipped
 # make samples    writes samples/ anew
-# make install    programs, archive, header and man pages below PREFIX
-.PHONY: all test compare bench fuzz samples install clean FORCE
+# make version    writes VERSION where it is said again: the header and the programs
+# make install    programs, libraries, header, man pages and docs below PREFIX; needs no rt after make
+# make uninstall  removes what make install with the same variables has put there
+.PHONY: all build test compare bench fuzz samples version install uninstall clean
+# rt proves crates in parallel itself; two runs of it at once would write the same files.
+.NOTPARALLEL:
 
 CC ?= cc
-CFLAGS ?= -std=c11 -O2 -Wall -Wextra -Werror
+CFLAGS ?= -std=c11 -O2 -Wall -Wextra
 PREFIX ?= /usr/local
-ARCHIVE := target/staticlib/libtahliruz.a
+BINDIR ?= $(PREFIX)/bin
+LIBDIR ?= $(PREFIX)/lib
+INCLUDEDIR ?= $(PREFIX)/include
+MANDIR ?= $(PREFIX)/share/man
+DOCDIR ?= $(PREFIX)/share/doc/tahliruz
+
+VERSION := $(shell cat VERSION)
+MAJOR := $(word 1,$(subst ., ,$(VERSION)))
+MINOR := $(word 2,$(subst ., ,$(VERSION)))
+# While the major version is 0, a new minor version may change structs and calls, so it is part of the name that a program
+# looks for; from 1 on the major version alone is.
+SONAME := libtahliruz.so.$(if $(filter 0,$(MAJOR)),0.$(MINOR),$(MAJOR))
+
 PROGRAMS := target/bin/list_sheet target/bin/list_table
+ARCHIVE := target/staticlib/libtahliruz.a
+SHARED := target/shared/libtahliruz.so.$(VERSION)
 SECOND := second/target/release
+# What the proofs depend on. A folder counts too: it changes with a file that goes.
+SOURCES := crates.txt $(shell find crates -name must-fail -prune -o -print)
 
-all: $(PROGRAMS) $(ARCHIVE)
-	target/bin/list_sheet < samples/morning.sheet
+all: build
+	target/bin/list_sheet < samples/small.sheet
 
-$(PROGRAMS) &: FORCE
+build: $(PROGRAMS) $(ARCHIVE) $(SHARED)
+
+have_rt = command -v rt > /dev/null || { echo "rt, the Rattle toolchain, is not found. It is needed to build: where it is" \
+    "at hand, run make before make install" >&2; exit 1; }
+
+# rt goes by contents and leaves what is proved already as it is, hence the touch.
+$(PROGRAMS) &: $(SOURCES)
+	@$(have_rt)
 	rt check list_sheet list_table
+	@touch $(PROGRAMS)
 
-$(ARCHIVE): FORCE
+$(ARCHIVE): $(SOURCES)
+	@$(have_rt)
 	rt staticlib tahliruz
+	@touch $@
 
-FORCE:
+# What rt compiles is position independent.
+$(SHARED): $(ARCHIVE) package/tahliruz.map VERSION
+	@mkdir -p $(@D)
+	$(CC) $(LDFLAGS) -shared -Wl,-soname,$(SONAME) -Wl,--version-script=package/tahliruz.map -Wl,-z,defs -o $@ \
+	    -Wl,--whole-archive $(ARCHIVE) -Wl,--no-whole-archive
 
 test:
 	@tests/run
@@ -49,14 +84,36 @@ samples: $(ARCHIVE)
 	$(CC) $(CFLAGS) -Iinclude -o target/make_samples samples/make_samples.c $(ARCHIVE)
 	target/make_samples samples
 
-install: $(PROGRAMS) $(ARCHIVE)
-	install -d "$(DESTDIR)$(PREFIX)/bin" "$(DESTDIR)$(PREFIX)/lib" "$(DESTDIR)$(PREFIX)/include" \
-	    "$(DESTDIR)$(PREFIX)/share/man/man1" "$(DESTDIR)$(PREFIX)/share/man/man3"
-	install $(PROGRAMS) "$(DESTDIR)$(PREFIX)/bin"
-	install -m 644 $(ARCHIVE) "$(DESTDIR)$(PREFIX)/lib"
-	install -m 644 include/tahliruz.h "$(DESTDIR)$(PREFIX)/include"
-	install -m 644 man/list_sheet.1 man/list_table.1 "$(DESTDIR)$(PREFIX)/share/man/man1"
-	install -m 644 man/tahliruz.3 "$(DESTDIR)$(PREFIX)/share/man/man3"
+version:
+	package/version
+
+install: build
+	install -d "$(DESTDIR)$(BINDIR)" "$(DESTDIR)$(LIBDIR)/pkgconfig" "$(DESTDIR)$(INCLUDEDIR)" \
+	    "$(DESTDIR)$(MANDIR)/man1" "$(DESTDIR)$(MANDIR)/man3" "$(DESTDIR)$(DOCDIR)/examples"
+	install -m 755 $(PROGRAMS) "$(DESTDIR)$(BINDIR)"
+	install -m 644 $(ARCHIVE) $(SHARED) "$(DESTDIR)$(LIBDIR)"
+	ln -sf libtahliruz.so.$(VERSION) "$(DESTDIR)$(LIBDIR)/$(SONAME)"
+	ln -sf $(SONAME) "$(DESTDIR)$(LIBDIR)/libtahliruz.so"
+	sed -e 's|@PREFIX@|$(PREFIX)|' -e 's|@LIBDIR@|$(LIBDIR)|' -e 's|@INCLUDEDIR@|$(INCLUDEDIR)|' -e 's|@VERSION@|$(VERSION)|' \
+	    package/tahliruz.pc.in | install -m 644 /dev/stdin "$(DESTDIR)$(LIBDIR)/pkgconfig/tahliruz.pc"
+	install -m 644 include/tahliruz.h "$(DESTDIR)$(INCLUDEDIR)"
+	install -m 644 man/list_sheet.1 man/list_table.1 "$(DESTDIR)$(MANDIR)/man1"
+	install -m 644 man/tahliruz.3 "$(DESTDIR)$(MANDIR)/man3"
+	@# a man page for each call: a line that leads to the one page of them all
+	for call in $$(package/calls); do \
+	    echo .so man3/tahliruz.3 | install -m 644 /dev/stdin "$(DESTDIR)$(MANDIR)/man3/$$call.3" || exit; done
+	install -m 644 docs/FORMAT.md "$(DESTDIR)$(DOCDIR)"
+	install -m 644 examples/*.c "$(DESTDIR)$(DOCDIR)/examples"
+
+uninstall:
+	rm -f $(patsubst target/bin/%,"$(DESTDIR)$(BINDIR)/%",$(PROGRAMS))
+	rm -f "$(DESTDIR)$(LIBDIR)/libtahliruz.a" "$(DESTDIR)$(LIBDIR)/libtahliruz.so.$(VERSION)" \
+	    "$(DESTDIR)$(LIBDIR)/$(SONAME)" "$(DESTDIR)$(LIBDIR)/libtahliruz.so" "$(DESTDIR)$(LIBDIR)/pkgconfig/tahliruz.pc"
+	rm -f "$(DESTDIR)$(INCLUDEDIR)/tahliruz.h"
+	rm -f "$(DESTDIR)$(MANDIR)/man1/list_sheet.1" "$(DESTDIR)$(MANDIR)/man1/list_table.1" "$(DESTDIR)$(MANDIR)/man3/tahliruz.3"
+	for call in $$(package/calls); do rm -f "$(DESTDIR)$(MANDIR)/man3/$$call.3"; done
+	rm -f "$(DESTDIR)$(DOCDIR)/FORMAT.md" $(patsubst %,"$(DESTDIR)$(DOCDIR)/%",$(wildcard examples/*.c))
+	-rmdir "$(DESTDIR)$(DOCDIR)/examples" "$(DESTDIR)$(DOCDIR)"
 
 clean:
 	rm -rf target second/target

@@ -10,12 +10,12 @@
 
 #include "tahliruz.h"
 
-enum { TABLE_BYTES = 2072, PIXELS = 8 };
+enum { PIXELS = 8 };
 
 /* Heights with a bad spot, 4095, and a jump to 766 that the plain table has no codeword for. */
 static const uint16_t heights[PIXELS] = {204, 201, 210, 4095, 202, 766, 208, 200};
 
-static uint8_t table[TABLE_BYTES];
+static uint8_t table[TAHLIRUZ_PLAIN_TABLE_BYTES];
 static uint8_t row[2 * PIXELS];
 static uint8_t row_again[2 * PIXELS];
 

@@ -9,9 +9,9 @@
 
 #include "tahliruz.h"
 
-enum { TABLE_BYTES = 2072, PIXELS = 6 };
+enum { PIXELS = 6 };
 
-static uint8_t table[TABLE_BYTES];
+static uint8_t table[TAHLIRUZ_PLAIN_TABLE_BYTES];
 
 static void print_item(const struct tahliruz_item *item)
 {
@@ -28,7 +28,7 @@ static void print_item(const struct tahliruz_item *item)
     default:
         printf("raw height %" PRIu32, item->pixel);
     }
-    printf(", next item at bit %" PRIu64 "\n", item->place.at);
+    printf(", next item at bit %" PRIu32 "\n", item->place.at);
 }
 
 int main(void)
@@ -44,9 +44,10 @@ int main(void)
     if (packed.number != TAHLIRUZ_DONE)
         return 1;
 
-    struct tahliruz_place place = tahliruz_open(table, sizeof table);
-    if (place.opening != TAHLIRUZ_DONE)
+    struct tahliruz_opened opened = tahliruz_open(table, sizeof table);
+    if (opened.number != TAHLIRUZ_DONE)
         return 1;
+    struct tahliruz_place place = opened.place;
     while (place.count < PIXELS) {
         struct tahliruz_item item =
             tahliruz_next(table, sizeof table, words, 4 * ((packed.count + 31) / 32), place);
@@ -58,6 +59,6 @@ int main(void)
 
     /* The words end within the item: a refusal, and the place stays. */
     struct tahliruz_item past = tahliruz_next(table, sizeof table, words, 8, place);
-    printf("with two words only: refused %" PRIu32 ", still at bit %" PRIu64 "\n", past.number, past.place.at);
+    printf("with two words only: refused %" PRIu32 ", still at bit %" PRIu32 "\n", past.number, past.place.at);
     return 0;
 }

@@ -9,10 +9,10 @@
 
 #include "tahliruz.h"
 
-/* MOST is what this program puts in one row or line; the format allows 4096. */
-enum { TABLE_BYTES = 2072, SHEET_BYTES = 4096, MOST = 16 };
+/* MOST is what this program puts in one row or line; the format allows TAHLIRUZ_MAX_PIXELS. */
+enum { SHEET_BYTES = 4096, MOST = 16 };
 
-static uint8_t table[TABLE_BYTES];
+static uint8_t table[TAHLIRUZ_PLAIN_TABLE_BYTES];
 static uint8_t sheet[SHEET_BYTES];
 static size_t sheet_len;
 

@@ -5,10 +5,14 @@
  * 01's words where a comment has the usual ones: a string is a codeword, a step
  * a difference, a raw height a height written in 12 bits after the escape.
  *
- * Every call answers for every input. It ends, uses no heap and no static
- * memory, keeps nothing between calls, and may be made from several threads at
- * once. docs/CLAIMS.md names for each sentence here the contract that is
- * proved.
+ * Every call ends and answers for every input. This is proved, and so are the
+ * number, counts and values of each answer, the bytes that it writes, and that
+ * it writes no others; docs/CLAIMS.md names the contracts. No contract speaks of
+ * the heap, of static memory, of threads or of the stack: that the calls use no
+ * heap and no variables of their own, keep nothing between calls, and so may be
+ * made from several threads at once, is by construction, and the compiled
+ * library is looked through for it; the stack is measured. memcpy and memset
+ * are the C library's. These two and the compiler are trusted.
  *
  * What the caller must keep for the proof to reach a call:
  *  - each pointer is valid for its length in bytes, or the length is 0 and the
@@ -37,26 +41,73 @@
 extern "C" {
 #endif
 
+/* The version of this header. While MAJOR is 0, a new MINOR may change structs and calls. */
+#define TAHLIRUZ_VERSION "0.1.0"
+#define TAHLIRUZ_VERSION_MAJOR 0
+#define TAHLIRUZ_VERSION_MINOR 1
+#define TAHLIRUZ_VERSION_PATCH 0
+
+/* Sizes that are always enough. */
+#define TAHLIRUZ_MAX_PIXELS 4096            /* the pixels of a row */
+#define TAHLIRUZ_MAX_NUMBERS 4096           /* the numbers of a line */
+#define TAHLIRUZ_MAX_ROW_WORDS 3456         /* the words of a packed row: 4096 pixels of 27 bits */
+#define TAHLIRUZ_PLAIN_TABLE_BYTES 2072     /* the plain table, exactly */
+#define TAHLIRUZ_MAX_TABLE_BYTES 32772      /* any table */
+#define TAHLIRUZ_MAX_NUMBER_BYTES 5         /* an adaptive-precision number */
+#define TAHLIRUZ_MAX_CONTENT_BYTES 16384    /* the pixels or numbers of any record */
+#define TAHLIRUZ_MAX_RECORD_BYTES 32778     /* any record of a sheet */
+#define TAHLIRUZ_TABLE_OFFSET 6             /* where a table's bytes begin in its record */
+
+/* Pixels: 0 to 4093 are heights, two more mark bad spots. */
+#define TAHLIRUZ_MAX_HEIGHT 4093
+#define TAHLIRUZ_BAD_BIAS 4094
+#define TAHLIRUZ_BAD_PIXEL 4095
+
 /* The numbers that a call answers with. */
 enum tahliruz_number {
-    TAHLIRUZ_DONE = 0,
+    TAHLIRUZ_DONE = 0,          /* done */
     TAHLIRUZ_TABLE_SIZE = 1,    /* the table's word count, tableSize or lowLimit is wrong */
-    TAHLIRUZ_TABLE_STRING = 2,  /* a string word of the table is wrong */
+    TAHLIRUZ_TABLE_STRING = 2,  /* a string word of the table, which holds a codeword and its length, is wrong */
     TAHLIRUZ_TABLE_PREFIX = 3,  /* a codeword of the table equals or begins another */
     TAHLIRUZ_PIXEL = 4,         /* a pixel is above 4095 */
     TAHLIRUZ_ROOM = 5,          /* the lent room is smaller than this call's output */
-    TAHLIRUZ_WORDS_END = 6,     /* the words end within an item */
+    TAHLIRUZ_WORDS_END = 6,     /* the words end before an item or within it */
     TAHLIRUZ_NO_STRING = 7,     /* no codeword stands at an item's place */
     TAHLIRUZ_STEP_OUTSIDE = 8,  /* a difference leads outside 0 to 4093 */
-    TAHLIRUZ_RAW_HEIGHT = 9,    /* an escaped height is 4094 or 4095 */
+    TAHLIRUZ_RAW_HEIGHT = 9,    /* a height after the escape is 4094 or 4095 */
     TAHLIRUZ_UNUSED_BIT = 10,   /* an unused bit of the last used word is set */
     TAHLIRUZ_TOO_MANY = 11,     /* more than 4096 pixels or numbers */
-    TAHLIRUZ_BYTES_END = 12,    /* the bytes end before an adaptive number does */
-    TAHLIRUZ_NUMBER_RANGE = 13, /* a fifth byte asks for a sixth, or the value is outside its range */
-    TAHLIRUZ_RECORD = 14,       /* a record's length, fixed fields, word alignment or leftover is wrong */
+    TAHLIRUZ_BYTES_END = 12,    /* the bytes end before an adaptive-precision number does */
+    TAHLIRUZ_NUMBER_RANGE = 13, /* a number's fifth byte asks for a sixth, or its value is outside its range */
+    TAHLIRUZ_RECORD = 14,       /* length, fixed fields, word alignment or leftover of a record is wrong */
     TAHLIRUZ_KIND = 15,         /* the record's kind is unknown */
     TAHLIRUZ_PLACE = 16         /* no table first, a second table, or a row number not risen */
 };
+
+/* A number's text, in the words of the list above; "no such number" for any other. */
+static inline const char *tahliruz_number_text(uint32_t number)
+{
+    switch (number) {
+    case TAHLIRUZ_DONE: return "done";
+    case TAHLIRUZ_TABLE_SIZE: return "the table's word count, tableSize or lowLimit is wrong";
+    case TAHLIRUZ_TABLE_STRING: return "a string word of the table, which holds a codeword and its length, is wrong";
+    case TAHLIRUZ_TABLE_PREFIX: return "a codeword of the table equals or begins another";
+    case TAHLIRUZ_PIXEL: return "a pixel is above 4095";
+    case TAHLIRUZ_ROOM: return "the lent room is smaller than this call's output";
+    case TAHLIRUZ_WORDS_END: return "the words end before an item or within it";
+    case TAHLIRUZ_NO_STRING: return "no codeword stands at an item's place";
+    case TAHLIRUZ_STEP_OUTSIDE: return "a difference leads outside 0 to 4093";
+    case TAHLIRUZ_RAW_HEIGHT: return "a height after the escape is 4094 or 4095";
+    case TAHLIRUZ_UNUSED_BIT: return "an unused bit of the last used word is set";
+    case TAHLIRUZ_TOO_MANY: return "more than 4096 pixels or numbers";
+    case TAHLIRUZ_BYTES_END: return "the bytes end before an adaptive-precision number does";
+    case TAHLIRUZ_NUMBER_RANGE: return "a number's fifth byte asks for a sixth, or its value is outside its range";
+    case TAHLIRUZ_RECORD: return "length, fixed fields, word alignment or leftover of a record is wrong";
+    case TAHLIRUZ_KIND: return "the record's kind is unknown";
+    case TAHLIRUZ_PLACE: return "no table first, a second table, or a row number not risen";
+    default: return "no such number";
+    }
+}
 
 /* A number of the list above and a count. A refusal, any number but 0, has the count 0. */
 struct tahliruz_answer {
@@ -158,11 +209,16 @@ struct tahliruz_answer tahliruz_room(const uint8_t *table, size_t table_len, uin
  * tahliruz_open gives the first one, each tahliruz_next the one after its item.
  */
 struct tahliruz_place {
-    uint64_t at;            /* the bit place of the next item */
+    uint32_t at;            /* the bit place of the next item */
     uint32_t count;         /* the items given so far */
     uint32_t previous;      /* the previous height, 0 before there is one */
-    uint32_t begun;         /* 0 until a pixel of this row has become previous */
-    uint32_t opening;       /* the number that opening came to: 0, 1, 2 or 3 */
+    uint32_t begun;         /* 0 until a pixel of this row has become previous, then 1 */
+};
+
+/* A reader that was opened. Its place is all zeros, refused or not. */
+struct tahliruz_opened {
+    uint32_t number;        /* the check's: 0, 1, 2 or 3 */
+    struct tahliruz_place place;    /* of a row's first item */
 };
 
 enum tahliruz_item_kind {
@@ -183,26 +239,29 @@ struct tahliruz_item {
 
 /*
  * Opens a reader of the items packed under a table: checks the table, and gives
- * the place of a row's first item. Its opening is the check's number, 0 to 3.
+ * the place of a row's first item.
  */
-struct tahliruz_place tahliruz_open(const uint8_t *table, size_t table_len);
+struct tahliruz_opened tahliruz_open(const uint8_t *table, size_t table_len);
 
 /*
  * Gives the item at a place.
  *
- *   table   the table that the reader was opened with; it is not checked again
+ *   table   the table that the reader was opened with; it is checked at each call
  *   words   the packed row: words_len / 4 words
  *   place   from tahliruz_open, or from the answer before
  *
  * Numbers, in this order:
- *   place.opening  where it is not 0: 1, 2, 3 as the table was refused
- *   11          4096 items are given, or at is above 4096 * 27
+ *   1, 2, 3     the table, as in tahliruz_check
+ *   11          4096 items are given; or no reading can have this place: count is
+ *               above 4096, at above 27 * count, previous above 4093 or begun
+ *               above 1, or begun is 0 and previous is not
  *   6, 7, 8, 9  the item is faulty, as in tahliruz_unpack
  *   0           done
  *
  * Where n items are given, tahliruz_unpack of n pixels with room for them gives
- * the same pixels, or refuses 10; where an item is refused 6 to 9, it gives that
- * number for every n that reaches the item. Writes nothing.
+ * the same pixels, or refuses 10; where it is done, n items are given; where an
+ * item is refused 6 to 9, it gives that number for every n that reaches the item.
+ * Writes nothing.
  */
 struct tahliruz_item tahliruz_next(const uint8_t *table, size_t table_len,
                                    const uint8_t *words, size_t words_len,
@@ -409,6 +468,23 @@ struct tahliruz_written tahliruz_write_record(uint32_t kind, uint32_t row,
                                               const uint8_t *table, size_t table_len,
                                               struct tahliruz_sheet state,
                                               uint8_t *out, size_t out_len);
+
+/*
+ * ---- A sheet from a stream ----
+ *
+ * A sheet has no greatest length, but a record has, so a window of
+ * TAHLIRUZ_MAX_RECORD_BYTES is enough to read any sheet. For each record:
+ *  1. Fill the window from the stream, or to the stream's end. A record that a
+ *     shorter window cuts off is refused 14, though it may be good.
+ *  2. Where no bytes are in it, the sheet has ended: in order if it had a record,
+ *     refused 16 if it had none.
+ *  3. Call tahliruz_read_record or tahliruz_judge_record with the window, the
+ *     table and the state. A refusal ends the reading; its answer has no state,
+ *     so the state is the caller's own to keep.
+ *  4. Of a table, keep a copy of the 4 * count bytes at TAHLIRUZ_TABLE_OFFSET.
+ *  5. Keep the answer's state, drop length bytes from the window's front.
+ * examples/read_sheet.c does this.
+ */
 
 #ifdef __cplusplus
 }

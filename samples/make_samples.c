@@ -1,8 +1,10 @@
 /*
- * Makes the samples anew: make_samples FOLDER writes morning.sheet, damaged.sheet, plain.table and memo.table there.
+ * Makes the samples anew: make_samples FOLDER writes morning.sheet, damaged.sheet, small.sheet, plain.table and memo.table
+ * there.
  *
  * The morning's sheet is a made-up foot: rows of heights over a footprint, with the noise of a scanner, a few bad spots, a
- * pin that stands out further than the plain table's steps reach, and a contour line.
+ * pin that stands out further than the plain table's steps reach, and a contour line. The small sheet has every fortieth
+ * row of such a foot, of a row every tenth pixel, and a bad spot; the damaged one ends within a row.
  */
 #include <stdint.h>
 #include <stdio.h>
@@ -14,7 +16,7 @@
 #define ROWS 320
 #define PIXELS 160
 
-static uint8_t plain[2072];
+static uint8_t plain[TAHLIRUZ_PLAIN_TABLE_BYTES];
 
 static uint32_t noise_state = 12345;
 
@@ -49,9 +51,9 @@ static void make_row(int y, uint8_t *pixels)
     for (int x = 0; x < PIXELS; x++) {
         uint16_t h = height(y, x);
         if (noise(900) == 0)
-            h = 4095;
+            h = TAHLIRUZ_BAD_PIXEL;
         else if (noise(2500) == 0)
-            h = 4094;
+            h = TAHLIRUZ_BAD_BIAS;
         if (y == 150 && x == 80)
             h = 3100;
         pixels[2 * x] = (uint8_t)h;
@@ -62,9 +64,9 @@ static void make_row(int y, uint8_t *pixels)
 /* Appends a record to the sheet; a refusal ends the program. */
 static void append(FILE *f, struct tahliruz_sheet *state, uint32_t kind, uint16_t row, const uint8_t *content, size_t len)
 {
-    static uint8_t record[32778];
+    static uint8_t record[TAHLIRUZ_MAX_RECORD_BYTES];
     struct tahliruz_written w = tahliruz_write_record(kind, row, content, len, plain, sizeof plain, *state, record, sizeof record);
-    if (w.number != 0 || fwrite(record, 1, w.count, f) != w.count) {
+    if (w.number != TAHLIRUZ_DONE || fwrite(record, 1, w.count, f) != w.count) {
         fprintf(stderr, "make_samples: record of kind %u refused %u or not written\n", kind, w.number);
         exit(1);
     }
@@ -82,7 +84,7 @@ static void append_contour(FILE *f, struct tahliruz_sheet *state)
         for (int b = 0; b < 4; b++)
             numbers[4 * y + b] = (uint8_t)((uint32_t)d >> (8 * b));
     }
-    append(f, state, 4, 0, numbers, sizeof numbers);
+    append(f, state, TAHLIRUZ_KIND_LINE, 0, numbers, sizeof numbers);
 }
 
 static FILE *create(const char *folder, const char *name)
@@ -110,10 +112,10 @@ static void make_sheet(const char *folder)
     FILE *f = create(folder, "morning.sheet");
     struct tahliruz_sheet state = { 0, 0 };
     uint8_t pixels[2 * PIXELS];
-    append(f, &state, 1, 0, plain, sizeof plain);
+    append(f, &state, TAHLIRUZ_KIND_TABLE, 0, plain, sizeof plain);
     for (int y = 0; y < ROWS; y++) {
         make_row(y, pixels);
-        append(f, &state, y == 40 ? 3 : 2, (uint16_t)y, pixels, sizeof pixels);
+        append(f, &state, y == 40 ? TAHLIRUZ_KIND_PLAIN : TAHLIRUZ_KIND_PACKED, (uint16_t)y, pixels, sizeof pixels);
     }
     append_contour(f, &state);
     finish(f);
@@ -124,19 +126,40 @@ static void make_damaged(const char *folder)
 {
     FILE *f = create(folder, "damaged.sheet");
     struct tahliruz_sheet state = { 0, 0 };
-    uint8_t pixels[2 * PIXELS], record[32778];
-    append(f, &state, 1, 0, plain, sizeof plain);
+    uint8_t pixels[2 * PIXELS], record[TAHLIRUZ_MAX_RECORD_BYTES];
+    append(f, &state, TAHLIRUZ_KIND_TABLE, 0, plain, sizeof plain);
     for (int y = 0; y < 3; y++) {
         make_row(100 + y, pixels);
         if (y < 2) {
-            append(f, &state, 2, (uint16_t)y, pixels, sizeof pixels);
+            append(f, &state, TAHLIRUZ_KIND_PACKED, (uint16_t)y, pixels, sizeof pixels);
             continue;
         }
-        tahliruz_write_record(2, (uint16_t)y, pixels, sizeof pixels, plain, sizeof plain, state, record, sizeof record);
+        tahliruz_write_record(TAHLIRUZ_KIND_PACKED, (uint16_t)y, pixels, sizeof pixels, plain, sizeof plain, state, record,
+                              sizeof record);
         record[0] = 2 + 4 + 8;
         record[1] = 0;
         fwrite(record, 1, 4 + 2 + 4 + 8, f);
     }
+    finish(f);
+}
+
+static void make_small(const char *folder)
+{
+    FILE *f = create(folder, "small.sheet");
+    struct tahliruz_sheet state = { 0, 0 };
+    uint8_t pixels[2 * PIXELS], few[2 * PIXELS / 10], edges[4 * ROWS / 40];
+    append(f, &state, TAHLIRUZ_KIND_TABLE, 0, plain, sizeof plain);
+    for (int y = 20; y < ROWS; y += 40) {
+        make_row(y, pixels);
+        for (int x = 0; x < PIXELS / 10; x++)
+            memcpy(few + 2 * x, pixels + 20 * x, 2);
+        if (y == 220)
+            memcpy(few + 14, (const uint8_t[2]){ TAHLIRUZ_BAD_PIXEL & 255, TAHLIRUZ_BAD_PIXEL >> 8 }, 2);
+        append(f, &state, y == 180 ? TAHLIRUZ_KIND_PLAIN : TAHLIRUZ_KIND_PACKED, (uint16_t)y, few, sizeof few);
+        for (int b = 0; b < 4; b++)
+            edges[y / 40 * 4 + b] = (uint8_t)((uint32_t)(PIXELS / 2 - half_width(y)) >> (8 * b));
+    }
+    append(f, &state, TAHLIRUZ_KIND_LINE, 0, edges, sizeof edges);
     finish(f);
 }
 
@@ -177,5 +200,6 @@ int main(int argc, char **argv)
     make_memo(argv[1]);
     make_sheet(argv[1]);
     make_damaged(argv[1]);
+    make_small(argv[1]);
     return 0;
 }

@@ -17,9 +17,10 @@
 #define STACK (1u << 20)
 #define PAINT 0xA5
 #define ENTRIES 8187
-#define PIXELS 4096
+#define PIXELS TAHLIRUZ_MAX_PIXELS
 
-static uint8_t table[4 * (6 + ENTRIES)], pixels[2 * PIXELS], words[16384], numbers[4 * PIXELS], record[32778], content[16384];
+static uint8_t table[TAHLIRUZ_MAX_TABLE_BYTES], pixels[2 * PIXELS], words[4 * TAHLIRUZ_MAX_ROW_WORDS], numbers[4 * PIXELS];
+static uint8_t record[TAHLIRUZ_MAX_RECORD_BYTES], content[TAHLIRUZ_MAX_CONTENT_BYTES];
 static size_t record_len;
 
 static void put_word(size_t i, uint32_t w)
@@ -94,8 +95,8 @@ static void unpack(void)
 static void room(void) { expect("room", tahliruz_room(table, sizeof table, PIXELS).number); }
 static void next(void)
 {
-    struct tahliruz_place place = tahliruz_open(table, sizeof table);
-    expect("next", tahliruz_next(table, sizeof table, words, sizeof words, place).number);
+    struct tahliruz_opened opened = tahliruz_open(table, sizeof table);
+    expect("next", tahliruz_next(table, sizeof table, words, sizeof words, opened.place).number);
 }
 static void adaptive(void)
 {

@@ -10,9 +10,9 @@
 
 #include "tahliruz.h"
 
-#define MOST 4096
+#define MOST TAHLIRUZ_MAX_PIXELS
 
-static uint8_t plain[2072];
+static uint8_t plain[TAHLIRUZ_PLAIN_TABLE_BYTES];
 static uint32_t noise_state = 7;
 static unsigned long items_given, ends[12];
 
@@ -38,7 +38,7 @@ static void put_pixel(uint8_t *at, uint32_t pixel)
 static void compare(const uint8_t *words, size_t words_len, uint32_t n)
 {
     static uint8_t pixels[2 * MOST], items[2 * MOST];
-    struct tahliruz_place place = tahliruz_open(plain, sizeof plain);
+    struct tahliruz_place place = tahliruz_open(plain, sizeof plain).place;
     uint32_t number = 0, given = 0;
     while (given < n && number == 0) {
         struct tahliruz_item item = tahliruz_next(plain, sizeof plain, words, words_len, place);
@@ -69,7 +69,7 @@ static void compare(const uint8_t *words, size_t words_len, uint32_t n)
 /* A row as a scanner gives it, with some jumps and bad spots, packed; one bit in some rows is turned over. */
 static void compare_row(uint32_t n)
 {
-    static uint8_t pixels[2 * MOST], words[4 * 3456];
+    static uint8_t pixels[2 * MOST], words[4 * TAHLIRUZ_MAX_ROW_WORDS];
     uint32_t height = noise(4094);
     for (uint32_t i = 0; i < n; i++) {
         uint32_t way = noise(40);
@@ -77,7 +77,7 @@ static void compare_row(uint32_t n)
             height = noise(4094);
         else if (height > 20 && height < 4070)
             height = height + noise(19) - 9;
-        put_pixel(pixels + 2 * i, way == 1 ? 4095 : way == 2 ? 4094 : height);
+        put_pixel(pixels + 2 * i, way == 1 ? TAHLIRUZ_BAD_PIXEL : way == 2 ? TAHLIRUZ_BAD_BIAS : height);
     }
     struct tahliruz_answer packed = tahliruz_pack(plain, sizeof plain, pixels, 2 * n, words, sizeof words);
     if (packed.number != 0)
@@ -97,22 +97,53 @@ static void print_items(void)
     for (size_t i = 0; i < sizeof row / 2; i++)
         put_pixel(pixels + 2 * i, row[i]);
     struct tahliruz_answer packed = tahliruz_pack(plain, sizeof plain, pixels, sizeof pixels, words, sizeof words);
-    struct tahliruz_place place = tahliruz_open(plain, sizeof plain);
+    struct tahliruz_place place = tahliruz_open(plain, sizeof plain).place;
     for (size_t i = 0; i <= sizeof row / 2; i++) {
         struct tahliruz_item item = tahliruz_next(plain, sizeof plain, words, 4 * ((packed.count + 31) / 32), place);
-        printf("item: number %u kind %u step %d pixel %u at %lu previous %u\n", item.number, item.kind, item.step, item.pixel,
-               (unsigned long)item.place.at, item.place.previous);
+        printf("item: number %u kind %u step %d pixel %u at %u previous %u\n", item.number, item.kind, item.step, item.pixel,
+               item.place.at, item.place.previous);
         place = item.place;
     }
+}
+
+/* Places that no reading has, and the last that one has, and one that is opened under a table cut short. */
+static void print_places(void)
+{
+    static const struct {
+        const char *what;
+        struct tahliruz_place place;
+    } all[] = {
+        { "the last item's", { 27 * 4095, 4095, 4093, 1 } },
+        { "4096 items given", { 4096, 4096, 0, 1 } },
+        { "4097 items given", { 4097, 4097, 0, 1 } },
+        { "27 bits after an item", { 27, 1, 0, 1 } },
+        { "28 bits after an item", { 28, 1, 0, 1 } },
+        { "previous 4093", { 10, 1, 4093, 1 } },
+        { "previous 4094", { 10, 1, 4094, 1 } },
+        { "begun 2", { 10, 1, 0, 2 } },
+        { "previous 1, not begun", { 10, 1, 1, 0 } },
+    };
+    static const uint8_t zeros[4 * 3456];
+    for (size_t i = 0; i < sizeof all / sizeof *all; i++) {
+        struct tahliruz_item item = tahliruz_next(plain, sizeof plain, zeros, sizeof zeros, all[i].place);
+        struct tahliruz_item cut = tahliruz_next(plain, 2071, zeros, sizeof zeros, all[i].place);
+        if (item.number != 0 && memcmp(&item.place, &all[i].place, sizeof item.place) != 0)
+            fail("a refusal moved");
+        if (cut.kind != 0 || cut.step != 0 || cut.pixel != 0 || memcmp(&cut.place, &all[i].place, sizeof cut.place) != 0)
+            fail("a refusal of the table moved or has a value");
+        printf("place, %s: number %u; under a table cut short: %u\n", all[i].what, item.number, cut.number);
+    }
+    struct tahliruz_opened refused = tahliruz_open(plain, 2071);
+    printf("opening with a table cut short: %u, and a place of zeros: %d; an item there under the whole table: %u\n",
+           refused.number, memcmp(&refused.place, zeros, sizeof refused.place) == 0,
+           tahliruz_next(plain, sizeof plain, zeros, sizeof zeros, refused.place).number);
 }
 
 int main(void)
 {
     tahliruz_plain_table(plain, sizeof plain);
     print_items();
-    struct tahliruz_place refused = tahliruz_open(plain, 2071);
-    printf("opening with a table cut short: %u; an item then: %u\n", refused.opening,
-           tahliruz_next(plain, sizeof plain, plain, sizeof plain, refused).number);
+    print_places();
     for (int i = 0; i < 1500; i++)
         compare_row(noise(60));
     compare_row(MOST);

@@ -8,7 +8,7 @@
 
 #include "tahliruz.h"
 
-static uint8_t plain[2072];
+static uint8_t plain[TAHLIRUZ_PLAIN_TABLE_BYTES];
 static uint8_t other[4 * 300];
 
 static void put_word(uint8_t *at, uint32_t w)

@@ -78,22 +78,35 @@ pub struct Written {
 #[derive(Clone, Copy, PartialEq, Eq, Debug, Default)]
 pub struct ReaderPlace {
     /// The bit place of the next item.
-    pub at: u64,
+    pub at: u32,
     /// The items given so far.
     pub count: u32,
     /// The previous height, 0 before there is one.
     pub previous: u32,
-    /// 0 until some pixel has become previous.
+    /// 0 until some pixel has become previous, then 1.
     pub begun: u32,
-    /// The number that opening came to.
-    pub opening: u32,
 }
 
 impl ReaderPlace {
     /// As they stand in memory.
     pub fn bytes(self) -> Vec<u8> {
-        let fields = [self.count, self.previous, self.begun, self.opening].map(u32::to_ne_bytes);
-        [&self.at.to_ne_bytes()[..], fields.as_flattened()].concat()
+        [self.at, self.count, self.previous, self.begun].map(u32::to_ne_bytes).concat()
+    }
+}
+
+/// A reader that was opened: the check's number, and the place of a row's
+/// first item.
+#[repr(C)]
+#[derive(Clone, Copy, PartialEq, Eq, Debug, Default)]
+pub struct ReaderOpened {
+    pub number: u32,
+    pub place: ReaderPlace,
+}
+
+impl ReaderOpened {
+    /// As they stand in memory.
+    pub fn bytes(self) -> Vec<u8> {
+        [&self.number.to_ne_bytes()[..], &self.place.bytes()].concat()
     }
 }
 
@@ -160,9 +173,10 @@ mod tests {
             offset_of!(ReaderPlace, count),
             offset_of!(ReaderPlace, previous),
             offset_of!(ReaderPlace, begun),
-            offset_of!(ReaderPlace, opening),
         ];
-        assert_eq!((place, size_of::<ReaderPlace>()), ([0, 8, 12, 16, 20], 24));
+        assert_eq!((place, size_of::<ReaderPlace>()), ([0, 4, 8, 12], 16));
+        let opened = [offset_of!(ReaderOpened, number), offset_of!(ReaderOpened, place)];
+        assert_eq!((opened, size_of::<ReaderOpened>()), ([0, 4], 20));
         let item = [
             offset_of!(ItemRead, number),
             offset_of!(ItemRead, kind),
@@ -170,7 +184,7 @@ mod tests {
             offset_of!(ItemRead, pixel),
             offset_of!(ItemRead, place),
         ];
-        assert_eq!((item, size_of::<ItemRead>()), ([0, 4, 8, 12, 16], 40));
+        assert_eq!((item, size_of::<ItemRead>()), ([0, 4, 8, 12, 16], 32));
     }
 
     #[test]

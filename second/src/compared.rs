@@ -19,7 +19,7 @@ pub use rows::{check, pack, plain_table, room, unpack};
 pub use walk::walk;
 
 use crate::agreement::Call;
-use crate::answers::{Answer, ItemRead, ReaderPlace, Record, Signed, Unsigned, Written};
+use crate::answers::{Answer, ItemRead, ReaderOpened, Record, Signed, Unsigned, Written};
 use crate::memory::Lent;
 use crate::tally::Tally;
 
@@ -37,12 +37,6 @@ impl Numbered for (u32, u32) {
     }
 }
 
-impl Numbered for ReaderPlace {
-    fn number(self) -> u32 {
-        self.opening
-    }
-}
-
 macro_rules! numbered {
     ($($answer:ty),*) => {
         $(impl Numbered for $answer {
@@ -53,7 +47,7 @@ macro_rules! numbered {
     };
 }
 
-numbered!(Answer, Signed, Unsigned, Record, Written, ItemRead);
+numbered!(Answer, Signed, Unsigned, Record, Written, ReaderOpened, ItemRead);
 
 /// Compares a call and counts its number.
 fn counted<T: Numbered>(

@@ -5,6 +5,7 @@ pub mod entries;
 pub mod flaws;
 pub mod mutations;
 pub mod numbers;
+pub mod places;
 pub mod rows;
 pub mod runs;
 pub mod sheets;

@@ -1,10 +1,10 @@
 //! The reader that gives one item a call, in the form that it has for C: the
 //! caller keeps its place as a value.
 
-use crate::answers::{ItemRead, ReaderPlace};
+use crate::answers::{ItemRead, ReaderOpened, ReaderPlace};
 use crate::reader::{Codec, Cursor, Item};
 use crate::refusal::{DONE, TOO_MANY};
-use crate::row::MAX_PIXELS;
+use crate::row::{MAX_HEIGHT, MAX_PIXELS};
 use crate::table::MAX_LENGTH;
 
 pub const KIND_STEP: u32 = 1;
@@ -12,28 +12,38 @@ pub const KIND_BAD_PIXEL: u32 = 2;
 pub const KIND_BAD_BIAS: u32 = 3;
 pub const KIND_RAW: u32 = 4;
 
-/// The place after the most and longest items; no reader comes further.
-pub const LAST_PLACE: u64 = MAX_PIXELS as u64 * MAX_LENGTH as u64;
-
-/// The place of a row's first item.
-pub fn open(table: Result<&Codec, u32>) -> ReaderPlace {
-    ReaderPlace { opening: table.err().unwrap_or(DONE), ..ReaderPlace::default() }
+/// Opens a reader: the check's number, and the place of a row's first item.
+pub fn open(table: Result<&Codec, u32>) -> ReaderOpened {
+    ReaderOpened { number: table.err().unwrap_or(DONE), ..ReaderOpened::default() }
 }
 
-/// The item at a place. Where the place says that opening was done, the table
-/// must be an accepted one: the papers leave any other free.
+/// Whether some reading stands there: a row has at most 4096 items, none is
+/// longer than the longest string, and what is previous is a height, 0 before
+/// there is one.
+pub fn possible(place: ReaderPlace) -> bool {
+    let items = place.count as usize <= MAX_PIXELS;
+    let bits = u64::from(place.at) <= u64::from(place.count) * u64::from(MAX_LENGTH);
+    let height = match place.begun {
+        0 => place.previous == 0,
+        1 => place.previous <= MAX_HEIGHT as u32,
+        _ => false,
+    };
+    items && bits && height
+}
+
+/// The item at a place.
 pub fn next_item(table: Result<&Codec, u32>, words: &[u8], place: ReaderPlace) -> ItemRead {
     let refused = |number| ItemRead { number, place, ..ItemRead::default() };
-    if place.opening != DONE {
-        return refused(place.opening);
-    }
-    if place.count as usize >= MAX_PIXELS || place.at > LAST_PLACE {
+    let codec = match table {
+        Ok(codec) => codec,
+        Err(number) => return refused(number),
+    };
+    if !possible(place) || place.count as usize == MAX_PIXELS {
         return refused(TOO_MANY);
     }
-    let codec = table.expect("the table that the reader was opened with");
     let mut cursor = Cursor::new(codec, words);
     cursor.place = place.at as usize;
-    cursor.previous = (place.begun != 0).then_some(i64::from(place.previous));
+    cursor.previous = (place.begun == 1).then_some(i64::from(place.previous));
     match cursor.next_item() {
         Ok((item, pixel)) => given(item, pixel, place_of(&cursor, place.count + 1)),
         Err(number) => refused(number),
@@ -42,11 +52,10 @@ pub fn next_item(table: Result<&Codec, u32>, words: &[u8], place: ReaderPlace) -
 
 fn place_of(cursor: &Cursor, count: u32) -> ReaderPlace {
     ReaderPlace {
-        at: cursor.place as u64,
+        at: cursor.place as u32,
         count,
         previous: cursor.previous.unwrap_or(0) as u32,
         begun: u32::from(cursor.previous.is_some()),
-        opening: DONE,
     }
 }
 

@@ -5,7 +5,7 @@ use mathlib.Core.List.{List}
 use lib.ListN.{length}
 use lib.IntN.{ℤ, pos}
 use Rattle.answer.specs.declared.Answer.{Answer}
-use Rattle.answer.specs.Outcome.{Outcome, refused, wrote, unless, lent, roomNumber}
+use Rattle.answer.specs.Outcome.{Outcome, wroteOrFull}
 use Rattle.adaptive.specs.declared.SignedRead.{SignedRead}
 use Rattle.adaptive.specs.declared.UnsignedRead.{UnsignedRead}
 use Rattle.adaptive.specs.Number.{Reading, accepted, rejected, signed, unsigned, readAs, shortest}
@@ -28,7 +28,7 @@ unsignedRead s = unsignedAnswer (readAs unsigned s)
 
 -- the bytes b at the front of the lent memory m; 5 where "lent room smaller than this call's output"
 unfoldable pub written : List ℕ → List ℕ → Outcome Answer
-written b m = unless (roomNumber (lent (length m)) (length b)) (λ e. refused e m) (wrote (length b) b m)
+written b m = wroteOrFull (length b) b m
 
 unfoldable pub signedWritten : ℤ → List ℕ → Outcome Answer
 signedWritten v m = written (shortest signed v) m

@@ -1,5 +1,4 @@
 pub mod Number
 pub mod Calls
 pub mod Theorems
-pub mod Cases
 pub mod Gather

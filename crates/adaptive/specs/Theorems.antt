@@ -2,13 +2,16 @@
 -- every lawful kind, and signed and unsigned numbers are lawful kinds. Assumes nothing.
 use Prim.Native.Nat.{ℕ, suc, _-_, _≤_, _<_}
 use native.Mathlib.Omega.{arith}
-use mathlib.Core.Path.{_≡_, _∙_}
+use mathlib.Core.Path.{_≡_, refl, _∙_}
 use mathlib.Core.Bool.{true}
-use mathlib.Core.List.{List, _++_}
+use mathlib.Core.List.{List, [], _∷_, _++_}
 use lib.ListN.{length, take}
-use lib.IntN.{ℤ}
+use lib.Dec.{eqb}
+use lib.IntN.{ℤ, pos}
 use lib.Signed.{mag}
 use borrow.Author.Tests.{le-leb}
+use Rattle.answer.specs.Outcome.{refusal, Kept, Within}
+use Rattle.row_format.specs.Lists.{any}
 use Rattle.adaptive.specs.Number.{Kind, signed, unsigned, readAs, accepted, formOf, fewest, shortest}
 use Rattle.adaptive.specs.Number.Own.{Bytes}
 use Rattle.adaptive.specs.Number.Lawful.{Lawful, signed-lawful, unsigned-lawful, signed-range}
@@ -35,6 +38,54 @@ pub unsigned-there-and-back : (v : ℕ) (m : List ℕ) → unsigned .inRange v �
     → unsignedRead (unsignedWritten v m .memory) ≡ record { number = 0; value = v; used = unsignedWritten v m .answer .count }
 unsigned-there-and-back = Calls.unsigned-back
 
+-- ---- demand 1
+-- "each call .. answers with a number from document 01": 12 and 13 refuse a reading,
+pub signed-read-numbers : (s : List ℕ) → any (eqb (signedRead s .number)) (0 ∷ 12 ∷ 13 ∷ []) ≡ true
+unfolding any
+signed-read-numbers = Calls.signedRead-in (λ e. any (eqb e) (0 ∷ 12 ∷ 13 ∷ []) ≡ true) refl refl refl
+
+pub unsigned-read-numbers : (s : List ℕ) → any (eqb (unsignedRead s .number)) (0 ∷ 12 ∷ 13 ∷ []) ≡ true
+unfolding any
+unsigned-read-numbers = Calls.unsignedRead-in (λ e. any (eqb e) (0 ∷ 12 ∷ 13 ∷ []) ≡ true) refl refl refl
+
+-- and 5 a writing.
+pub signed-written-numbers : (v : ℤ) (m : List ℕ) → any (eqb (signedWritten v m .answer .number)) (0 ∷ 5 ∷ []) ≡ true
+unfolding signedWritten any
+signed-written-numbers v = Calls.written-in (λ e. any (eqb e) (0 ∷ 5 ∷ []) ≡ true) refl refl (shortest signed v)
+
+pub unsigned-written-numbers : (v : ℕ) (m : List ℕ) → any (eqb (unsignedWritten v m .answer .number)) (0 ∷ 5 ∷ []) ≡ true
+unfolding unsignedWritten any
+unsigned-written-numbers v = Calls.written-in (λ e. any (eqb e) (0 ∷ 5 ∷ []) ≡ true) refl refl (shortest unsigned v)
+
+-- "A refused call gives its number, zero for every count and value, and leaves the lent memory as found"
+pub signed-read-refused : (s : List ℕ) → (signedRead s .number ≡ 0 → ⊥)
+    → signedRead s ≡ record { number = signedRead s .number; value = pos 0; used = 0 }
+signed-read-refused = Calls.signedRead-refused
+
+pub unsigned-read-refused : (s : List ℕ) → (unsignedRead s .number ≡ 0 → ⊥)
+    → unsignedRead s ≡ record { number = unsignedRead s .number; value = 0; used = 0 }
+unsigned-read-refused = Calls.unsignedRead-refused
+
+pub signed-written-refused-keeps : (v : ℤ) (m : List ℕ) → (signedWritten v m .answer .number ≡ 0 → ⊥)
+    → Kept (refusal (signedWritten v m .answer .number)) m (signedWritten v m)
+unfolding signedWritten
+signed-written-refused-keeps v = Calls.written-kept (shortest signed v)
+
+pub unsigned-written-refused-keeps : (v : ℕ) (m : List ℕ) → (unsignedWritten v m .answer .number ≡ 0 → ⊥)
+    → Kept (refusal (unsignedWritten v m .answer .number)) m (unsignedWritten v m)
+unfolding unsignedWritten
+unsigned-written-refused-keeps v = Calls.written-kept (shortest unsigned v)
+
+-- "A done call writes only the pixels, words or bytes that it counts"
+pub signed-written-writes-bytes : (v : ℤ) (m : List ℕ) → Within (signedWritten v m .answer .count) m (signedWritten v m)
+unfolding signedWritten
+signed-written-writes-bytes v = Calls.written-within (shortest signed v)
+
+pub unsigned-written-writes-bytes : (v : ℕ) (m : List ℕ) → Within (unsignedWritten v m .answer .count) m (unsignedWritten v m)
+unfolding unsignedWritten
+unsigned-written-writes-bytes v = Calls.written-within (shortest unsigned v)
+
+-- ---- of every lawful kind
 module _ {A : Type 0} {K : Kind A} (L : Lawful K) where
   -- Written and then read, whatever follows it, a number gives its value and its count of bytes.
   pub written-read : (v : A) → K .inRange v ≡ true

@@ -59,6 +59,10 @@ refused e m = outcome (refusal e) m
 abbrev pub wrote : ℕ → List ℕ → List ℕ → Outcome Answer
 wrote c b m = writes (answerOf 0 c) b m
 
+-- so many bytes b at the front of the lent memory m, or 5 where they have no room there
+abbrev pub wroteOrFull : ℕ → List ℕ → List ℕ → Outcome Answer
+wroteOrFull c b m = unless (roomNumber (lent (length m)) c) (λ e. refused e m) (wrote c b m)
+
 -- ---- what demand 1 says of any outcome o of a call that was lent the memory m
 -- "A refused call gives its number, zero for every count and value, and leaves the lent memory as found": none is the answer
 -- that has the number, and 0 for all else

@@ -1,3 +1,4 @@
 pub mod Check
-pub mod Entry
 pub mod Plain
+pub mod SignedLaws
+pub mod Theorems

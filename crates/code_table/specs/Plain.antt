@@ -4,13 +4,13 @@ use mathlib.Core.List.{List}
 use lib.ListN.{length}
 use Rattle.bitstream.specs.Bits.{flat, bytesOf}
 use Rattle.answer.specs.declared.Answer.{Answer}
-use Rattle.answer.specs.Outcome.{Outcome, refused, wrote, unless, lent, roomNumber}
+use Rattle.answer.specs.Outcome.{Outcome, wroteOrFull}
 use Rattle.row_format.specs.Plain.{plainBytes}
 pub mod Laws
 
 -- its bytes at the front of the lent memory; 5 where they do not fit
 unfoldable pub plainLent : List ℕ → Outcome Answer
-plainLent m = unless (roomNumber (lent (length m)) 2072) (λ e. refused e m) (wrote 2072 plainBytes m)
+plainLent m = wroteOrFull 2072 plainBytes m
 
 -- the bytes of words
 unfoldable pub wordBytes : List ℕ → List ℕ

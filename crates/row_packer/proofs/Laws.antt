@@ -84,7 +84,8 @@ module _ (tb pb m : List ℕ) (table : tableNumber tb ≡ 0) where
         pub room-enough : 4 * words tb pb ≤ length m
         room-enough = omega (arith, ltb-false (length m / 4) (words tb pb) (sym enough))
 
-        pub packed-all : {o : List ℕ} {bits : ℕ} → Written (wordsOf tb) (halvesOf pb) m o bits → outcome (answerOf 0 bits) o ≡ packed tb pb m
+        pub packed-all : {o : List ℕ} {bits : ℕ} → Written (wordsOf tb) (halvesOf pb) m o bits
+            → outcome (answerOf 0 bits) o ≡ packed tb pb m
         unfolding packed packNumber
         packed-all w = rw (table, few-pixels, ← none-above, ← enough, w .memory, w .bits)
 

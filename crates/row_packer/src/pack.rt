@@ -4,6 +4,7 @@ use crate::measure::too_short;
 use crate::write::write;
 use answer::Answer;
 use code_table::check::check;
+use row_format::MAX_PIXELS;
 use row_pixels::any_above;
 ghost use mathlib.Core.Path.{_≡_};
 ghost use Prim.Native.Nat.{_/_, _≤_};
@@ -21,7 +22,7 @@ pub fn pack(table: &[u8], pixels: &[u8], words: &mut [u8]) -> Answer
     if checked.number != 0 {
         return checked;
     }
-    if 4096 < pixels.len() / 2 {
+    if MAX_PIXELS < (pixels.len() / 2) as u64 {
         return Answer {
             number: 11,
             count: 0,

@@ -1,6 +1,7 @@
 // The room question: how many words the longest row of n pixels takes.
 use answer::Answer;
 use code_table::check::check;
+use row_format::MAX_PIXELS;
 ghost use mathlib.Core.Path.{_≡_};
 ghost use Rattle.row_format.specs.Calls.{room as roomAnswer};
 
@@ -11,7 +12,7 @@ pub fn room(table: &[u8], n: u64) -> Answer
     if checked.number != 0 {
         return checked;
     }
-    if 4096 < n {
+    if MAX_PIXELS < n {
         return Answer {
             number: 11,
             count: 0,

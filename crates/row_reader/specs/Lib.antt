@@ -1,3 +1,4 @@
 pub mod Step
+pub mod Taken
 pub mod Walk
 pub mod Theorems

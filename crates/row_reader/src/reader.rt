@@ -6,6 +6,7 @@ use crate::step::item_at;
 use crate::step::start;
 ghost use mathlib.Core.Path.{_≡_};
 ghost use Rattle.row_reader.specs.Step.{startPlace, itemRead};
+ghost use Rattle.row_reader.specs.Taken.{takenFrom};
 
 pub struct Reader<'a, 'b> {
     pub table: &'a [u8],
@@ -25,20 +26,6 @@ pub fn open<'a, 'b>(table: &'a [u8], words: &'b [u8]) -> Reader<'a, 'b>
     }
 }
 
-// The number that opening answered: "Opening it refuses 1, 2, 3".
-pub fn opening<'a, 'b>(r: Reader<'a, 'b>) -> u32
-    ensures { λ n. ⌜ n ≡ r .entry .place .opening ⌝ }
-{
-    r.place.opening
-}
-
-// The next item, with its pixel; the reader stays where it is.
-pub fn item<'a, 'b>(r: Reader<'a, 'b>) -> ItemRead
-    ensures { λ x. ⌜ x ≡ itemRead (now (r .entry .table)) (now (r .entry .words)) (r .entry .place) ⌝ }
-{
-    item_at(r.table, r.words, r.place)
-}
-
 // The next item, with its pixel; the reader moves past it, and where it is refused stays.
 pub fn next<'s, 'a, 'b>(r: &'s mut Reader<'a, 'b>) -> ItemRead
     ensures given { λ x. ⌜ x ≡ itemRead (now (now (r .entry) .table)) (now (now (r .entry) .words)) (now (r .entry) .place) ⌝ }
@@ -49,9 +36,19 @@ pub fn next<'s, 'a, 'b>(r: &'s mut Reader<'a, 'b>) -> ItemRead
     x
 }
 
-// The first item of these words under this table. Its parameters are plain, so that its callers need no walk.
-pub fn first<'a, 'b>(table: &'a [u8], words: &'b [u8]) -> ItemRead
-    ensures { λ x. ⌜ x ≡ itemRead (now (table .entry)) (now (words .entry)) (startPlace (now (table .entry))) ⌝ }
+// What two calls give, one after the other.
+pub struct Taken {
+    pub first: ItemRead,
+    pub second: ItemRead,
+}
+
+// A reader is opened, and two items are taken: the second from where the first left it. The parameters are plain, so that
+// callers need no walk.
+pub fn take_two<'a>(table: &'a [u8], words: &'a [u8]) -> Taken
+    ensures { λ x. ⌜ x ≡ takenFrom (now (table .entry)) (now (words .entry)) (startPlace (now (table .entry))) ⌝ }
 {
-    item(open(table, words))
+    let mut r = open(table, words);
+    let first = next(&mut r);
+    let second = next(&mut r);
+    Taken { first, second }
 }

@@ -1,13 +1,13 @@
 // One item at a reader's place: the work of the reader, on plain parameters.
 use code_table::check::check;
+use row_format::MAX_PIXELS;
 use row_item::Item;
 use row_item::Progress;
 use row_item::after;
 use row_unpacker::item::Read;
 use row_unpacker::item::read_item;
 ghost use mathlib.Core.Path.{_≡_};
-ghost use Rattle.row_item.specs.Coded.{progress, stateOf};
-ghost use Rattle.row_reader.specs.Step.{startPlace, itemRead, refusedAt};
+ghost use Rattle.row_reader.specs.Step.{startPlace, impossible, placeNumber, itemRead, refusedAt};
 
 // at         the bit place of the next item, from bit 0 of word 0
 // count      the items given so far
@@ -42,24 +42,17 @@ pub fn start(table: &[u8]) -> Place
     }
 }
 
-// The item at a place, whatever the table's bytes, the words and the place are. After 4096 items it answers 11, and so it does
-// at a place past 4096 x 27 bits, which no reader comes to.
+// The item at a place, whatever the table's bytes, the words and the place are.
 pub fn item_at(table: &[u8], words: &[u8], place: Place) -> ItemRead
     ensures { λ r. ⌜ r ≡ itemRead (now (table .entry)) (now (words .entry)) place ⌝ }
 {
+    let number = place_number(place);
+    if number != 0 {
+        return refused(number, place);
+    }
     let at = place.at;
     let count = place.count;
-    let opening = place.opening;
-    if opening != 0 {
-        return refused(opening, place);
-    }
-    if 4095 < count {
-        return refused(11, place);
-    }
-    if 110592 < at {
-        return refused(11, place);
-    }
-    let p = settled(place.progress);
+    let p = place.progress;
     let read = read_item(table, words, at, p);
     match read {
         Read::Got { item, pixel, next } => ItemRead {
@@ -70,7 +63,7 @@ pub fn item_at(table: &[u8], words: &[u8], place: Place) -> ItemRead
                 at: next,
                 count: count + 1,
                 progress: after(p, item, pixel),
-                opening,
+                opening: place.opening,
             },
         },
         Read::Refused { number, place: _ } => refused(number, place),
@@ -88,15 +81,45 @@ fn refused(number: u32, place: Place) -> ItemRead
     }
 }
 
-// Where no pixel has become previous, previous is 0.
-fn settled(p: Progress) -> Progress
-    ensures { λ r. ⌜ r ≡ progress (stateOf p) ⌝ }
+// What refuses before an item is read, in this order: opening's number; 11 for a place that no reading has; "after 4096 items
+// it answers 11".
+fn place_number(place: Place) -> u32
+    ensures { λ r. ⌜ r ≡ placeNumber place ⌝ }
 {
+    let opening = place.opening;
+    if 3 < opening {
+        return 11;
+    }
+    if opening != 0 {
+        return opening;
+    }
+    if impossible(place) {
+        return 11;
+    }
+    if MAX_PIXELS <= place.count as u64 {
+        return 11;
+    }
+    0
+}
+
+// No reading has this place: more than 4096 items; more than 27 bits for each; a previous height above 4093, or one before any
+// pixel has become previous.
+fn impossible(place: Place) -> bool
+    ensures { λ r. ⌜ r ≡ impossible place ⌝ }
+{
+    let p = place.progress;
+    let count = place.count as u64;
+    if MAX_PIXELS < count {
+        return true;
+    }
+    if 27 * count < place.at as u64 {
+        return true;
+    }
+    if 4093 < p.previous {
+        return true;
+    }
     if p.begun {
-        return p;
+        return false;
     }
-    Progress {
-        begun: false,
-        previous: 0,
-    }
+    0 < p.previous
 }

@@ -6,14 +6,16 @@ use answer::Answer;
 use bitstream::copy::copy;
 use bitstream::shift::low_bits;
 use code_table::check::check;
+use row_format::MAX_PIXELS;
 ghost use mathlib.Core.Path.{_≡_};
 ghost use Prim.Native.Nat.{_*_, _≤_};
 ghost use lib.ListN.{length};
 ghost use Rattle.answer.specs.Outcome.{outcome};
-ghost use Rattle.bitstream.specs.Bits.{wordsOf, stream};
+ghost use Rattle.bitstream.specs.Bits.{stream};
 ghost use Rattle.row_format.specs.Table.{tableNumber};
-ghost use Rattle.row_format.specs.Reading.{readItems, stray, withoutStray};
-ghost use Rattle.row_format.specs.Calls.{unpacked, rowOutcome};
+ghost use Rattle.row_format.specs.Reading.{stray};
+ghost use Rattle.row_format.specs.Calls.{unpacked};
+ghost use Rattle.row_unpacker.specs.Row.{rowLeft};
 
 // Unpacks n pixels from the words to the front of `pixels`, two bytes each; the count is the bits used. A refusal leaves
 // `pixels` as it was, so the row is read to memory of this call and copied when it is whole.
@@ -25,7 +27,7 @@ pub fn unpack(table: &[u8], words: &[u8], n: u64, pixels: &mut [u8]) -> Answer
     if number != 0 {
         return Answer { number, count: 0 };
     }
-    if 4096 < n {
+    if MAX_PIXELS < n {
         return Answer {
             number: 11,
             count: 0,
@@ -45,7 +47,7 @@ fn unpack_row(table: &[u8], words: &[u8], n: usize, pixels: &mut [u8]) -> Answer
     requires { ⌜ tableNumber (now table) ≡ 0 ⌝ }
     requires { ⌜ n ≤ 4096 ⌝ }
     requires { ⌜ 2 * n ≤ length (now pixels) ⌝ }
-    ensures { λ r. ⌜ outcome r (now (pixels .exit)) ≡ rowOutcome (now (pixels .entry)) (withoutStray (stream (now (words .entry))) (readItems (wordsOf (now (table .entry))) n (stream (now (words .entry))))) ⌝ }
+    ensures { λ r. ⌜ outcome r (now (pixels .exit)) ≡ rowLeft (now (table .entry)) (now (words .entry)) n (now (pixels .entry)) ⌝ }
 {
     let mut row = [0u8; 8192];
     let read = read_row(table, words, n, &mut row);

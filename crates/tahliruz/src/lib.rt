@@ -5,6 +5,7 @@ use adaptive::SignedRead;
 use adaptive::UnsignedRead;
 use answer::Answer;
 use item::ItemAnswer;
+use item::ReaderOpened;
 use item::ReaderPlace;
 use sheet_format::RecordRead;
 use sheet_format::RecordWritten;
@@ -13,8 +14,7 @@ ghost use mathlib.Core.Path.{_≡_};
 ghost use Rattle.answer.specs.Outcome.{outcome};
 ghost use Rattle.row_format.specs.Calls.{checked, packed, unpacked, room};
 ghost use Rattle.code_table.specs.Plain.{plainLent};
-ghost use Rattle.row_reader.specs.Step.{startPlace, itemRead};
-ghost use Rattle.tahliruz.specs.Items.{placeOf, flatPlace, itemAnswer};
+ghost use Rattle.tahliruz.specs.Items.{readerOpened, nextItem};
 ghost use Rattle.adaptive.specs.Calls.{signedRead, unsignedRead, signedWritten, unsignedWritten};
 ghost use Rattle.sheet_format.specs.Context.{contextOf};
 ghost use Rattle.sheet_format.specs.Reading.{recordJudged, recordRead};
@@ -56,26 +56,28 @@ pub extern "C" fn tahliruz_room(table: &[u8], n: u64) -> Answer
 }
 
 #[no_mangle]
-pub extern "C" fn tahliruz_open(table: &[u8]) -> ReaderPlace
-    ensures { λ r. ⌜ r ≡ flatPlace (startPlace (now (table .entry))) ⌝ }
+pub extern "C" fn tahliruz_open(table: &[u8]) -> ReaderOpened
+    ensures { λ r. ⌜ r ≡ readerOpened (now (table .entry)) ⌝ }
 {
-    item::flat_place(row_reader::step::start(table))
+    let start = row_reader::step::start(table);
+    ReaderOpened {
+        number: start.opening,
+        place: item::flat_place(start),
+    }
 }
 
 #[no_mangle]
 pub extern "C" fn tahliruz_next(table: &[u8], words: &[u8], place: ReaderPlace) -> ItemAnswer
-    ensures { λ r. ⌜ r ≡ itemAnswer place (itemRead (now (table .entry)) (now (words .entry)) (placeOf place)) ⌝ }
+    ensures { λ r. ⌜ r ≡ nextItem (now (table .entry)) (now (words .entry)) place ⌝ }
 {
+    let first = item::next_number(table, place);
+    if first != 0 {
+        return item::refused(first, place);
+    }
     let read = row_reader::step::item_at(table, words, item::place_of(place));
     let number = read.number;
     if number != 0 {
-        return ItemAnswer {
-            number,
-            kind: 0,
-            step: 0,
-            pixel: 0,
-            place,
-        };
+        return item::refused(number, place);
     }
     let given = read.item;
     ItemAnswer {

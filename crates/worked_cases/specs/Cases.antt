@@ -1,5 +1,5 @@
--- Document 01, "Pairs on each side of the line": the cases that it marks P, as one list with one claim over the list. Rows are
--- under the plain table. Assumes nothing.
+-- Document 01, "Pairs on each side of the line": the cases that it marks P and the unsigned numbers beside them, as one list
+-- with one claim over the list. Rows are under the plain table. Assumes nothing.
 use Prim.Native.Nat.{ℕ, _*_}
 use mathlib.Core.Path.{_≡_, refl}
 use mathlib.Core.List.{List, [], _∷_}
@@ -11,22 +11,21 @@ use Rattle.row_format.specs.Row.{byDifference, itemFor, itemsFor, bits, rowBits
 use Rattle.row_format.specs.Plain.{plainEntries, plainTable}
 use Rattle.adaptive.specs.Number as number
 use Rattle.adaptive.specs.Number.{readAs, accepted, shortest}
+use Rattle.worked_cases.specs.Each.{Each, _also_}
 
 pub data Case : Type 0 where
   packs : List ℕ → List ℕ → ℕ → Case  -- pixels, the words they are packed to, and the bits
   takes : List ℕ → ℕ → Case  -- pixels and the bits they take
   worst : List ℕ → ℕ → ℕ → Case  -- the same, with the words, where each pixel takes M bits
-  signed : ℤ → List ℕ → Case  -- a value and its bytes
+  signedAs : ℤ → List ℕ → Case  -- a value and its bytes
+  unsignedAs : ℕ → List ℕ → Case
 
 abbrev pub Holds : Case → Type 0
 Holds (packs ps ws n) = (length (rowBits plainTable ps) ≡ n) × (cut 32 (wordsFor n) (rowBits plainTable ps) ≡ ws)
 Holds (takes ps n) = length (rowBits plainTable ps) ≡ n
 Holds (worst ps n w) = (length (rowBits plainTable ps) ≡ n) × (wordsFor n ≡ w) × (n ≡ length ps * maxItemBits plainTable)
-Holds (signed v b) = (shortest number.signed v ≡ b) × (readAs number.signed b ≡ accepted v (length b))
-
-abbrev pub Each : List Case → Type 0
-Each [] = Unit {0}
-Each (c ∷ cs) = Holds c × Each cs
+Holds (signedAs v b) = (shortest number.signed v ≡ b) × (readAs number.signed b ≡ accepted v (length b))
+Holds (unsignedAs v b) = (shortest number.unsigned v ≡ b) × (readAs number.unsigned b ≡ accepted v (length b))
 
 abbrev pub cases : List Case
 cases =
@@ -39,42 +38,40 @@ cases =
     ∷ takes (255 ∷ []) 10
     ∷ takes (256 ∷ []) 14
     ∷ worst (4093 ∷ 0 ∷ 0 ∷ []) 42 2
-    ∷ signed (pos 63) (0x3F ∷ [])
-    ∷ signed (pos 64) (0x80 ∷ 0x40 ∷ [])
-    ∷ signed (negsuc 63) (0x40 ∷ [])
-    ∷ signed (negsuc 64) (0xFF ∷ 0x3F ∷ [])
-    ∷ signed (negsuc 0) (0x7F ∷ [])
-    ∷ signed (pos 2147483647) (0x87 ∷ 0xFF ∷ 0xFF ∷ 0xFF ∷ 0x7F ∷ [])
-    ∷ signed (negsuc 2147483647) (0xF8 ∷ 0x80 ∷ 0x80 ∷ 0x80 ∷ 0x00 ∷ [])
+    ∷ signedAs (pos 63) (0x3F ∷ [])
+    ∷ signedAs (pos 64) (0x80 ∷ 0x40 ∷ [])
+    ∷ signedAs (negsuc 63) (0x40 ∷ [])
+    ∷ signedAs (negsuc 64) (0xFF ∷ 0x3F ∷ [])
+    ∷ signedAs (negsuc 0) (0x7F ∷ [])
+    ∷ signedAs (pos 2147483647) (0x87 ∷ 0xFF ∷ 0xFF ∷ 0xFF ∷ 0x7F ∷ [])
+    ∷ signedAs (negsuc 2147483647) (0xF8 ∷ 0x80 ∷ 0x80 ∷ 0x80 ∷ 0x00 ∷ [])
+    ∷ unsignedAs 127 (0x7F ∷ [])
+    ∷ unsignedAs 128 (0x81 ∷ 0x00 ∷ [])
+    ∷ unsignedAs 16384 (0x81 ∷ 0x80 ∷ 0x00 ∷ [])
     ∷ []
 
-pub cases-hold : Each cases
-unfolding digits numOf cut codeword codewords codewordAt longest maxItemBits byDifference itemFor itemsFor bits rowBits plainEntries plainTable readAs shortest number.front number.dataOf number.signedValue number.continued number.bytesOf number.laterBytes
-cases-hold = (
-  (refl, refl),
-  (
-    (refl, refl),
-    (
-      (refl, refl),
-      (
-        (refl, refl),
-        (
-          (refl, refl),
-          (
-            (refl, refl),
-            (
-              refl,
-              (
-                refl,
-                (
-                  (refl, refl, refl),
-                  ((refl, refl), ((refl, refl), ((refl, refl), ((refl, refl), ((refl, refl), ((refl, refl), ((refl, refl), tt))))))),
-                ),
-              ),
-            ),
-          ),
-        ),
-      ),
-    ),
-  ),
-)
+pub cases-hold : Each Holds cases
+unfolding digits numOf cut codeword codewords codewordAt longest maxItemBits byDifference itemFor itemsFor bits rowBits
+    plainEntries plainTable readAs shortest number.front number.dataOf number.signedValue number.continued number.bytesOf
+    number.laterBytes
+cases-hold =
+    (refl, refl)
+    also (refl, refl)
+    also (refl, refl)
+    also (refl, refl)
+    also (refl, refl)
+    also (refl, refl)
+    also refl
+    also refl
+    also (refl, refl, refl)
+    also (refl, refl)
+    also (refl, refl)
+    also (refl, refl)
+    also (refl, refl)
+    also (refl, refl)
+    also (refl, refl)
+    also (refl, refl)
+    also (refl, refl)
+    also (refl, refl)
+    also (refl, refl)
+    also tt

@@ -9,6 +9,7 @@ use Rattle.row_format.specs.Lists.{any, least}
 use Rattle.row_format.specs.Table.{codeword, codewords, codewordAt, verdict, wrongSize, wrongWord, wrongCodeword, clash}
 use Rattle.row_format.specs.Row.{difference, badPixel, badBias, escape}
 use Rattle.row_format.specs.Reading.{Run, done, stop, find, unmatched, rawHeight, matched, readItem, readBy, readItems}
+use Rattle.worked_cases.specs.Each.{Each, _also_}
 
 -- the step 0, and the step -1
 abbrev level : List ℕ
@@ -28,10 +29,6 @@ pub data Case : Type 0 where
 abbrev pub Holds : Case → Type 0
 Holds (reads t n b r) = readItems t n b ≡ r
 
-abbrev pub Each : List Case → Type 0
-Each [] = Unit {0}
-Each (c ∷ cs) = Holds c × Each cs
-
 abbrev pub cases : List Case
 cases =
     reads level 4 (0 ∷ 1 ∷ 1 ∷ 0 ∷ 1 ∷ 1 ∷ 1 ∷ 0 ∷ 0 ∷ 1 ∷ []) (done (difference 4093 ∷ badPixel ∷ badBias ∷ difference 4093 ∷ []) 9)
@@ -49,6 +46,6 @@ cases =
     ∷ reads level 1 (1 ∷ 0 ∷ 1 ∷ 0 ∷ 0 ∷ 0 ∷ 0 ∷ 0 ∷ 0 ∷ 0 ∷ 0 ∷ 0 ∷ 0 ∷ 0 ∷ 0 ∷ []) (done (escape 1 ∷ []) 14)
     ∷ []
 
-pub cases-hold : Each cases
+pub cases-hold : Each Holds cases
 unfolding digits numOf begins any least codeword codewords codewordAt find unmatched rawHeight matched readItem readBy readItems
-cases-hold = (refl, (refl, (refl, (refl, (refl, (refl, (refl, (refl, tt))))))))
+cases-hold = refl also refl also refl also refl also refl also refl also refl also refl also tt

@@ -4,14 +4,12 @@ use std::mem::size_of;
 
 use super::{counted, Outcome};
 use crate::agreement::Call;
-use crate::answers::{ItemRead, ReaderPlace};
+use crate::answers::{ItemRead, ReaderOpened, ReaderPlace};
 use crate::ffi;
 use crate::items;
 use crate::memory::{Given, Lent};
 use crate::opened::Opened;
 use crate::random::Random;
-use crate::refusal::DONE;
-use crate::row::PIXEL_SPOT;
 use crate::tally::Tally;
 
 /// What a reader of items reads.
@@ -22,17 +20,18 @@ pub struct Items<'a> {
 }
 
 impl Items<'_> {
-    pub fn open(&self, random: &mut Random, tally: &mut Tally) -> Outcome<ReaderPlace> {
-        let lent = Lent::aligned(random, size_of::<ReaderPlace>());
+    pub fn open(&self, random: &mut Random, tally: &mut Tally) -> Outcome<ReaderOpened> {
+        let lent = Lent::aligned(random, size_of::<ReaderOpened>());
         let inputs = [("table", &self.table.given)];
         let call = Call { name: "open", numbers: &(), inputs: &inputs, lent: &lent };
         let proved = |memory: &mut [u8]| ffi::open(self.table.bytes(), memory);
         let second = |memory: &mut [u8]| {
-            let place = items::open(self.table.codec());
-            memory.copy_from_slice(&place.bytes());
-            place
+            let opened = items::open(self.table.codec());
+            memory.copy_from_slice(&opened.bytes());
+            opened
         };
-        counted(tally, &call, proved, second, |_| size_of::<ReaderPlace>()).map(|(place, _)| place)
+        let size = |_| size_of::<ReaderOpened>();
+        counted(tally, &call, proved, second, size).map(|(opened, _)| opened)
     }
 
     /// Memory for the answer to the next item.
@@ -54,25 +53,6 @@ impl Items<'_> {
         counted(tally, &call, proved, second, |_| size_of::<ItemRead>()).map(|(item, _)| item)
     }
 
-    /// The item at a place under a table that is refused, although the place
-    /// says otherwise. The papers leave the answer free, so it is held to its
-    /// form alone: it ends, is the same again, and moves as an item may.
-    pub fn next_unopened(&self, tally: &mut Tally, place: ReaderPlace, lent: &Lent) -> Outcome<()> {
-        let inputs = self.inputs();
-        let call = Call { name: "next", numbers: &place, inputs: &inputs, lent };
-        let (table, words) = (self.table.bytes(), self.words.bytes());
-        let proved = |memory: &mut [u8]| ffi::next_item(table, words, place, memory);
-        let (item, _) = counted(tally, &call, proved, proved, |_| size_of::<ItemRead>())?;
-        let right = match item.number {
-            DONE => is_past(item, place),
-            number => item == ItemRead { number, place, ..ItemRead::default() },
-        };
-        match right {
-            true => Ok(()),
-            false => Err(self.report(place, &format!("under a refused table: {item:?}"))),
-        }
-    }
-
     /// The text of a report of something wrong that both sides agree on.
     pub fn report(&self, place: ReaderPlace, what: &str) -> String {
         let (lent, inputs) = (Lent::nothing(), self.inputs());
@@ -83,13 +63,4 @@ impl Items<'_> {
     fn inputs(&self) -> [(&str, &Given); 2] {
         [("table", &self.table.given), ("words", self.words)]
     }
-}
-
-/// Whether this is some item at the place: it has a string of at most 31 bits,
-/// as a string word can say, and 12 for a raw height.
-fn is_past(item: ItemRead, place: ReaderPlace) -> bool {
-    let bits = item.place.at.wrapping_sub(place.at);
-    let most = if item.kind == items::KIND_RAW { 31 + 12 } else { 31 };
-    let counted = (item.place.count, item.place.opening) == (place.count + 1, DONE);
-    counted && bits <= most && (1..=4).contains(&item.kind) && item.pixel <= u32::from(PIXEL_SPOT)
 }

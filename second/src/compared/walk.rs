@@ -1,8 +1,10 @@
 //! A reader taken to its end and past it, and held against the row call.
 
 use super::{Items, Outcome};
-use crate::answers::ReaderPlace;
+use crate::answers::{ReaderOpened, ReaderPlace};
 use crate::ffi;
+use crate::generate::places::odd_place;
+use crate::memory::Lent;
 use crate::random::Random;
 use crate::refusal::{DONE, TOO_MANY, UNUSED_BIT};
 use crate::row::MAX_PIXELS;
@@ -12,29 +14,29 @@ use crate::tally::Tally;
 struct Walk {
     pixels: Vec<u8>,
     /// The bit place after so many items.
-    places: Vec<u64>,
+    places: Vec<u32>,
     opening: u32,
     refused: u32,
 }
 
 /// Opens a reader and takes items until it refuses.
 pub fn walk(random: &mut Random, tally: &mut Tally, items: Items) -> Outcome<()> {
-    let start = items.open(random, tally)?;
-    let walk = take_all(random, tally, items, start)?;
-    check_rows(random, items, &walk).map_err(|what| items.report(start, &what))
+    let opened = items.open(random, tally)?;
+    let walk = take_all(random, tally, items, opened)?;
+    check_rows(random, items, &walk).map_err(|what| items.report(opened.place, &what))
 }
 
 fn take_all(
     random: &mut Random,
     tally: &mut Tally,
     items: Items,
-    start: ReaderPlace,
+    opened: ReaderOpened,
 ) -> Outcome<Walk> {
     let lent = Items::lent(random);
-    let worst = items.table.codec().map_or(0, |codec| u64::from(codec.table.worst));
-    let opening = start.opening;
+    let worst = items.table.codec().map_or(0, |codec| codec.table.worst);
+    let opening = opened.number;
     let mut walk = Walk { pixels: Vec::new(), places: vec![0], opening, refused: DONE };
-    let mut place = start;
+    let mut place = opened.place;
     loop {
         let item = items.next(tally, place, &lent)?;
         if item.number != DONE {
@@ -43,6 +45,7 @@ fn take_all(
             if again != item || item.place != place {
                 return Err(items.report(place, &format!("moved: {item:?}, then {again:?}")));
             }
+            odd_places(random, tally, items, place, &lent)?;
             walk.refused = item.number;
             return Ok(walk);
         }
@@ -53,6 +56,21 @@ fn take_all(
         walk.places.push(item.place.at);
         place = item.place;
     }
+}
+
+/// Items at places that the walk need not have come to.
+fn odd_places(
+    random: &mut Random,
+    tally: &mut Tally,
+    items: Items,
+    place: ReaderPlace,
+    lent: &Lent,
+) -> Outcome<()> {
+    for _ in 0..4 {
+        let odd = odd_place(random, place);
+        items.next(tally, odd, lent)?;
+    }
+    Ok(())
 }
 
 /// Row calls of as many pixels as were given, of fewer and of more.
@@ -87,7 +105,7 @@ impl Walk {
         if n > self.given() {
             return answer == (self.refused, 0);
         }
-        let done = answer == (DONE, self.places[n] as u32) && *pixels == self.pixels[..2 * n];
+        let done = answer == (DONE, self.places[n]) && *pixels == self.pixels[..2 * n];
         done || answer == (UNUSED_BIT, 0)
     }
 }

@@ -8,14 +8,14 @@
 use std::mem::{align_of, size_of};
 
 use super::at;
-use crate::answers::{ItemRead, ReaderPlace};
+use crate::answers::{ItemRead, ReaderOpened, ReaderPlace};
 
 extern "C" {
     fn tahliruz_open(
-        answer: *mut ReaderPlace,
+        answer: *mut ReaderOpened,
         table: *const u8,
         table_len: usize,
-    ) -> *mut ReaderPlace;
+    ) -> *mut ReaderOpened;
     fn tahliruz_next(
         answer: *mut ItemRead,
         table: *const u8,
@@ -34,10 +34,10 @@ fn lent_for<T>(memory: &mut [u8]) -> *mut T {
 }
 
 /// Opens a reader; the answer is written to `memory` too.
-pub fn open(table: &[u8], memory: &mut [u8]) -> ReaderPlace {
+pub fn open(table: &[u8], memory: &mut [u8]) -> ReaderOpened {
     let answer = lent_for(memory);
     // SAFETY: the slices are live and apart, `answer` is as the call needs it,
-    // and every value of its bytes is a place.
+    // and every value of its bytes is an answer.
     unsafe {
         assert_eq!(tahliruz_open(answer, at(table), table.len()), answer);
         *answer

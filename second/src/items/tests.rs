@@ -12,8 +12,8 @@ fn small() -> Codec {
     Codec::open(&table_bytes(&[&[7, 4093, 1], &strings[..]].concat())).unwrap()
 }
 
-fn place(at: u64, count: u32, previous: u32, begun: u32) -> ReaderPlace {
-    ReaderPlace { at, count, previous, begun, opening: 0 }
+fn place(at: u32, count: u32, previous: u32, begun: u32) -> ReaderPlace {
+    ReaderPlace { at, count, previous, begun }
 }
 
 fn refused(number: u32, place: ReaderPlace) -> ItemRead {
@@ -27,7 +27,7 @@ fn items_of_a_row() {
     let (codec, words) = (plain(), table_bytes(&[3139072, 2]));
     let next = |place| next_item(Ok(&codec), &words, place);
     let item = |kind, pixel, place| ItemRead { number: 0, kind, step: 0, pixel, place };
-    assert_eq!(open(Ok(&codec)), place(0, 0, 0, 0));
+    assert_eq!(open(Ok(&codec)), ReaderOpened { number: 0, place: place(0, 0, 0, 0) });
     assert_eq!(next(place(0, 0, 0, 0)), item(KIND_STEP, 0, place(10, 1, 0, 1)));
     assert_eq!(next(place(10, 1, 0, 1)), item(KIND_RAW, 766, place(24, 2, 0, 1)));
     assert_eq!(next(place(24, 2, 0, 1)), item(KIND_STEP, 0, place(34, 3, 0, 1)));
@@ -51,10 +51,10 @@ fn bad_spots_and_a_first_raw_height() {
 #[test]
 fn at_most_4096_items() {
     let (codec, words) = (small(), vec![0; 4 * 129]);
-    let mut at = open(Ok(&codec));
+    let mut at = open(Ok(&codec)).place;
     for count in 1..=4096 {
         at = next_item(Ok(&codec), &words, at).place;
-        assert_eq!(at, place(count, count as u32, 0, 1));
+        assert_eq!(at, place(count, count, 0, 1));
     }
     assert_eq!(next_item(Ok(&codec), &words, at), refused(TOO_MANY, at));
 }
@@ -63,23 +63,32 @@ fn at_most_4096_items() {
 fn places_of_the_callers_own() {
     let (codec, words) = (small(), vec![0; 8]);
     let next = |place| next_item(Ok(&codec), &words, place);
-    for odd in [place(64, 0, 0, 0), place(65, 0, 9, 0), place(LAST_PLACE, 4095, 0, 7)] {
+    for odd in [place(64, 3, 0, 0), place(81, 3, 4093, 1), place(27 * 4095, 4095, 0, 1)] {
         assert_eq!(next(odd), refused(WORDS_END, odd));
     }
-    for odd in [place(LAST_PLACE + 1, 0, 0, 0), place(0, 4096, 0, 0), place(u64::MAX, 0, 0, 0)] {
+    // 4096 items are given, and more cannot be.
+    for odd in [place(0, 4096, 0, 0), place(0, 4097, 0, 1), place(0, u32::MAX, 0, 1)] {
         assert_eq!(next(odd), refused(TOO_MANY, odd));
     }
-    // No height of a row is above 4093, and begun decides whether there is one.
-    let odd = place(0, 0, u32::MAX, 1);
-    assert_eq!(next(odd), refused(HEIGHT, odd));
-    assert_eq!(next(place(0, 0, u32::MAX, 0)).place, place(1, 1, 0, 1));
+    // More than 27 bits an item.
+    for odd in [place(1, 0, 0, 0), place(82, 3, 0, 1), place(u32::MAX, 4095, 0, 1)] {
+        assert_eq!(next(odd), refused(TOO_MANY, odd));
+    }
+    // What is previous is no height, or not 0 before there is one; begun is
+    // neither 0 nor 1.
+    for odd in [place(0, 1, 4094, 1), place(0, 1, 1, 0), place(0, 1, 0, 2), place(0, 1, 5, 7)] {
+        assert_eq!(next(odd), refused(TOO_MANY, odd));
+    }
+    assert_eq!(next(place(0, 1, 4093, 1)).place, place(1, 2, 4093, 1));
 }
 
 #[test]
-fn a_refused_opening() {
+fn a_refused_table() {
     for number in 1..=3 {
         let opened = open(Err(number));
-        assert_eq!(opened, ReaderPlace { opening: number, ..ReaderPlace::default() });
-        assert_eq!(next_item(Err(number), &[0; 8], opened), refused(number, opened));
+        assert_eq!(opened, ReaderOpened { number, ..ReaderOpened::default() });
+        for at in [opened.place, place(u32::MAX, 4097, 4094, 2)] {
+            assert_eq!(next_item(Err(number), &[0; 8], at), refused(number, at));
+        }
     }
 }

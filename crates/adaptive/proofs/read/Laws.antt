@@ -5,6 +5,7 @@ use native.Mathlib.Omega.{arith}
 use mathlib.Core.Path.{_≡_, refl, sym, ap, _∙_}
 use mathlib.Core.Bool.{Bool, true, false, cond}
 use mathlib.Core.List.{List}
+use mathlib.Core.Logic.{⊎-elim}
 use lib.ListN.{length}
 use lib.Dec.{leb}
 use lib.IntN.{pos, negsuc}
@@ -40,7 +41,9 @@ gathered-whole s {g} e z = by-front (front 5 s) refl (front-fair 5 s) e
           long = long;
           span = ap (λ x. x .span) q ∙ ap (λ (n : ℕ). 128 ^ n) long;
         }
-    by-front (fault x) f p q = absurd (omega (arith, ap (λ (y : Gathered). y .number) q))
+    by-front (fault x) f p q =
+        let none : x ≡ 0 = sym (ap (λ (y : Gathered). y .number) q) ∙ z in
+        ⊎-elim (λ h. absurd (omega arith)) (λ h. absurd (omega arith)) p
 
 pub gathered-fault : (s : List ℕ) {g : Gathered} → g ≡ gatheredOf (front 5 s) → (g .number ≡ 0 → ⊥)
     → front 5 s ≡ fault (g .number)

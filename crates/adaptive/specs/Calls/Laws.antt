@@ -5,19 +5,68 @@ use mathlib.Core.Path.{_≡_, refl, ap}
 use mathlib.Core.Bool.{true}
 use mathlib.Core.List.{List}
 use lib.ListN.{length, drop}
-use lib.IntN.{ℤ}
+use lib.IntN.{ℤ, pos}
 use borrow.Author.Tests.{le-ltb}
+use Rattle.answer.specs.Outcome.{refusal, wrote, Kept, Within}
+use Rattle.answer.specs.Outcome.Laws.{wroteOrFull-in, wroteOrFull-kept, wroteOrFull-within}
 use Rattle.adaptive.specs.declared.SignedRead.{SignedRead}
-use Rattle.answer.specs.Outcome.{wrote}
+use Rattle.adaptive.specs.declared.UnsignedRead.{UnsignedRead}
 use Rattle.adaptive.specs.Number.{Kind, signed, unsigned, Reading, accepted, rejected, readAs, shortest}
 use Rattle.adaptive.specs.Number.Lawful.{Lawful, signed-lawful, unsigned-lawful}
-use Rattle.adaptive.specs.Number.Read.{readAs-shortest, readAs-used, readAs-rejected}
+use Rattle.adaptive.specs.Number.Read.{RejectedIn, readAs-in, readAs-shortest, readAs-used, readAs-rejected}
 use Rattle.adaptive.specs.Calls.{written, signedRead, signedAnswer, signedWritten, unsignedRead, unsignedAnswer, unsignedWritten}
 
 -- ---- writing
 pub written-done : (b m : List ℕ) → length b ≤ length m → written b m ≡ wrote (length b) b m
 unfolding written
 written-done b m h = rw (le-ltb (length m) (length b) h)
+
+-- ---- what demand 1 says of writing
+pub written-in : (P : ℕ → Type 0) → P 0 → P 5 → (b m : List ℕ) → P (written b m .answer .number)
+unfolding written
+written-in P p0 p5 b m = wroteOrFull-in P p0 p5 (length b) b m
+
+pub written-kept : (b m : List ℕ) → (written b m .answer .number ≡ 0 → ⊥)
+    → Kept (refusal (written b m .answer .number)) m (written b m)
+unfolding written
+written-kept b m = wroteOrFull-kept (length b) b m
+
+pub written-within : (b m : List ℕ) → Within (written b m .answer .count) m (written b m)
+unfolding written
+written-within b m = wroteOrFull-within (length b) b m refl
+
+-- ---- and of reading: of any answer that is made of a reading and has its number
+module _ {A R : Type 0} (answer : Reading A → R) (number : R → ℕ)
+    (done : (v : A) (n : ℕ) → number (answer (accepted v n)) ≡ 0) (right : (e : ℕ) → number (answer (rejected e)) ≡ e) where
+  answer-in : (K : Kind A) (P : ℕ → Type 0) → P 0 → P 12 → P 13 → (s : List ℕ) → P (number (answer (readAs K s)))
+  answer-in K P p0 p12 p13 s = by-reading (readAs K s) (readAs-in K P p12 p13 s)
+    where
+      by-reading : (r : Reading A) → RejectedIn P r → P (number (answer r))
+      by-reading (accepted v n) h = rw (done v n) p0
+      by-reading (rejected e) h = rw (right e) h
+
+  answer-refused : (r : Reading A) → (number (answer r) ≡ 0 → ⊥) → answer r ≡ answer (rejected (number (answer r)))
+  answer-refused (accepted v n) some = absurd (some (done v n))
+  answer-refused (rejected e) some = rw (right e)
+
+pub signedRead-in : (P : ℕ → Type 0) → P 0 → P 12 → P 13 → (s : List ℕ) → P (signedRead s .number)
+unfolding signedRead
+signedRead-in = answer-in signedAnswer (λ (a : SignedRead). a .number) (λ v n. refl) (λ e. refl) signed
+
+pub unsignedRead-in : (P : ℕ → Type 0) → P 0 → P 12 → P 13 → (s : List ℕ) → P (unsignedRead s .number)
+unfolding unsignedRead
+unsignedRead-in = answer-in unsignedAnswer (λ (a : UnsignedRead). a .number) (λ v n. refl) (λ e. refl) unsigned
+
+pub signedRead-refused : (s : List ℕ) → (signedRead s .number ≡ 0 → ⊥)
+    → signedRead s ≡ record { number = signedRead s .number; value = pos 0; used = 0 }
+unfolding signedRead
+signedRead-refused s = answer-refused signedAnswer (λ (a : SignedRead). a .number) (λ v n. refl) (λ e. refl) (readAs signed s)
+
+pub unsignedRead-refused : (s : List ℕ) → (unsignedRead s .number ≡ 0 → ⊥)
+    → unsignedRead s ≡ record { number = unsignedRead s .number; value = 0; used = 0 }
+unfolding unsignedRead
+unsignedRead-refused s =
+    answer-refused unsignedAnswer (λ (a : UnsignedRead). a .number) (λ v n. refl) (λ e. refl) (readAs unsigned s)
 
 -- ---- what is written is read back from the memory that it was written to
 back : {A : Type 0} {K : Kind A} → Lawful K → (v : A) (m : List ℕ) → K .inRange v ≡ true → length (shortest K v) ≤ length m

@@ -8,6 +8,7 @@ use native.Mathlib.Omega.{arith}
 use mathlib.Core.Path.{_≡_, refl, sym, ap, _∙_, subst}
 use mathlib.Core.Bool.{Bool, true, false, cond}
 use mathlib.Core.List.{List, [], _∷_, _++_, append-assoc}
+use mathlib.Core.Logic.{_⊎_, inl, inr}
 use lib.ListN.{length, take, length-append}
 use lib.Dec.{leb, ltb, lit<}
 use lib.Arith.{digits-lt, mod-mul}
@@ -114,7 +115,7 @@ pub record Found (n : ℕ) (s bs : List ℕ) : Type 0 where
 
 abbrev pub Fair : ℕ → List ℕ → Front → Type 0
 Fair n s (whole bs) = Found n s bs
-Fair n s (fault e) = 0 < e
+Fair n s (fault e) = (e ≡ 12) ⊎ (e ≡ 13)
 
 before-fair : (n b : ℕ) (s : List ℕ) → 128 ≤ b → (f : Front) → Fair n s f → Fair (suc n) (b ∷ s) (before b f)
 before-fair n b s h (whole bs) p =
@@ -139,8 +140,8 @@ last-found n b s h =
 
 pub front-fair : (n : ℕ) (s : List ℕ) → Fair n s (front n s)
 unfolding front
-front-fair zero s = lit< tt
-front-fair (suc n) [] = lit< tt
+front-fair zero s = inr refl
+front-fair (suc n) [] = inl refl
 front-fair (suc n) (b ∷ s) = by-flag (front-fair n s) (decLt b 128)
   where
     by-flag : Fair n s (front n s) → Dec (b < 128)

@@ -5,8 +5,9 @@ use native.Mathlib.Omega.{arith}
 use mathlib.Core.Path.{_≡_, refl, sym, ap, _∙_, subst}
 use mathlib.Core.Bool.{Bool, true, false, cond}
 use mathlib.Core.List.{List, _++_}
+use mathlib.Core.Logic.{⊎-elim}
 use lib.ListN.{length, take}
-use Rattle.adaptive.specs.Number.{Front, whole, fault, front, Kind, accepted, rejected, judged, readAs, dataOf, bytesOf, formOf, fewest, shortest}
+use Rattle.adaptive.specs.Number.{Front, whole, fault, front, Kind, Reading, accepted, rejected, judged, readAs, dataOf, bytesOf, formOf, fewest, shortest}
 use Rattle.adaptive.specs.Number.Laws.{front-bytesOf, front-fair, front-take, Fair, Found, length-bytesOf, laterBytes-le, laterBytes-least, laterBytes-holds, holds-more}
 use Rattle.adaptive.specs.Number.Own.{Bytes, bytesOf-mod, whole-own}
 use Rattle.adaptive.specs.Number.Lawful.{Lawful}
@@ -18,6 +19,11 @@ pub record Accepted {A : Type 0} (K : Kind A) (s : List ℕ) (v : A) (n : ℕ) :
   pub value : K .valueOf bytes ≡ v
   pub used : length bytes ≡ n
   pub range : K .inRange v ≡ true
+
+-- the number of a refusal is in P
+abbrev pub RejectedIn : {A : Type 0} → (ℕ → Type 0) → Reading A → Type 0
+RejectedIn P (accepted v n) = Unit {0}
+RejectedIn P (rejected e) = P e
 
 module _ {A : Type 0} (K : Kind A) where
   pub readAs-accepted : (s : List ℕ) (v : A) (n : ℕ) → readAs K s ≡ accepted v n → Accepted K s v n
@@ -53,19 +59,23 @@ module _ {A : Type 0} (K : Kind A) where
       let f = accepted-found s v n a in
       (rw (← a .used) (f .some), rw (← a .used) (f .within), rw (← a .used) (f .there))
 
-  -- the number of a refusal is not 0
-  pub readAs-rejected : (s : List ℕ) (x : ℕ) → readAs K s ≡ rejected x → 0 < x
-  unfolding readAs
-  readAs-rejected s x e = by-front (front 5 s) (front-fair 5 s) e
-    where
-      by-range : (bs : List ℕ) (t : Bool)
-          → cond t (accepted (K .valueOf bs) (length bs)) (rejected 13) ≡ rejected x → 0 < x
-      by-range bs true e = let z : _≡_ {A = ℕ} 0 1 = cc in omega arith
-      by-range bs false e = let z : _≡_ {A = ℕ} 13 x = cc in omega arith
+  -- to show something of the number of a refusal, show it of 12 and 13
+  module _ (P : ℕ → Type 0) (p12 : P 12) (p13 : P 13) where
+    range-in : (t : Bool) (v : A) (n : ℕ) → RejectedIn P (cond t (accepted v n) (rejected 13))
+    range-in true v n = tt
+    range-in false v n = p13
 
-      by-front : (f : Front) → Fair 5 s f → judged K f ≡ rejected x → 0 < x
-      by-front (whole bs) p e = by-range bs (K .inRange (K .valueOf bs)) e
-      by-front (fault y) p e = let z : y ≡ x = cc in omega arith
+    judged-in : (s : List ℕ) (f : Front) → Fair 5 s f → RejectedIn P (judged K f)
+    judged-in s (whole bs) p = range-in (K .inRange (K .valueOf bs)) (K .valueOf bs) (length bs)
+    judged-in s (fault e) p = ⊎-elim (λ q. rw q p12) (λ q. rw q p13) p
+
+    pub readAs-in : (s : List ℕ) → RejectedIn P (readAs K s)
+    unfolding readAs
+    readAs-in s = judged-in s (front 5 s) (front-fair 5 s)
+
+  -- it is not 0
+  pub readAs-rejected : (s : List ℕ) (x : ℕ) → readAs K s ≡ rejected x → 0 < x
+  readAs-rejected s x e = subst (RejectedIn (λ k. 0 < k)) e (readAs-in (λ k. 0 < k) (omega arith) (omega arith) s)
 
   -- nor is any byte after the fifth looked at, whatever the answer
   pub readAs-take : (s : List ℕ) → readAs K (take 5 s) ≡ readAs K s

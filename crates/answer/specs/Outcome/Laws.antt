@@ -8,7 +8,8 @@ use lib.ListN.{length, drop, length-append, length-drop}
 use lib.Seq.{drop-append-seam}
 use lib.Dec.{ltb, eqb}
 use borrow.Author.Tests.{ltb-false, lt-ltb, le-ltb, eqb-true, eq-eqb, ne-eqb, not-false}
-use Rattle.answer.specs.Outcome.{Outcome, outcome, writes, _orElse_, refuseIf, unless, Lent, nothing, lent, roomNumber, Kept, Within}
+use Rattle.answer.specs.declared.Answer.{Answer}
+use Rattle.answer.specs.Outcome.{Outcome, outcome, writes, _orElse_, refuseIf, unless, Lent, nothing, lent, roomNumber, answerOf, refusal, refused, wrote, wroteOrFull, Kept, Within}
 
 -- ---- one refusal
 pub refuseIf-zero : (b : Bool) (e : ℕ) → refuseIf b (suc e) ≡ 0 → b ≡ false
@@ -83,11 +84,6 @@ unless-part f zero refusal done = refl
 unless-part f (suc e) refusal done = refl
 
 module _ {A : Type 0} where
-  pub unless-orElse : (e d : ℕ) (refusal : ℕ → A) (done : A)
-      → unless (e orElse d) refusal done ≡ unless e refusal (unless d refusal done)
-  unless-orElse zero d refusal done = refl
-  unless-orElse (suc e) d refusal done = refl
-
   pub unless-refused : (e : ℕ) (refusal : ℕ → A) (done : A) → (e ≡ 0 → ⊥) → unless e refusal done ≡ refusal e
   unless-refused zero refusal done some = absurd (some refl)
   unless-refused (suc e) refusal done some = refl
@@ -116,10 +112,6 @@ writes-within a k b m e h = record {
 }
 
 module _ {A : Type 0} (none : ℕ → A) (m : List ℕ) (done : Outcome A) where
-  pub unless-within : (e k : ℕ) → (e ≡ 0 → Within k m done) → Within k m (unless e (λ k. outcome (none k) m) done)
-  unless-within zero k h = h refl
-  unless-within (suc e) k h = record { size = refl; rest = refl }
-
   -- refused: the number is that of the refusal
   pub unless-kept : (number : A → ℕ) → ((k : ℕ) → number (none k) ≡ k)
       → let left : ℕ → Outcome A = λ e. unless e (λ k. outcome (none k) m) done in
@@ -141,3 +133,23 @@ module _ (P : ℕ → Type 0) where
   pub roomNumber-in : (m : Lent) (n : ℕ) → P 0 → P 5 → P (roomNumber m n)
   roomNumber-in nothing n none given = none
   roomNumber-in (lent m) n none given = refuseIf-in (ltb m n) 5 none given
+
+-- ---- bytes lent out, or 5
+module _ (c : ℕ) (b m : List ℕ) where
+  pub wroteOrFull-kept : (wroteOrFull c b m .answer .number ≡ 0 → ⊥)
+      → Kept (refusal (wroteOrFull c b m .answer .number)) m (wroteOrFull c b m)
+  wroteOrFull-kept =
+      unless-kept refusal m (wrote c b m) (λ (a : Answer). a .number) (λ k. refl) (roomNumber (lent (length m)) c)
+      (λ some. absurd (some refl))
+
+  pub wroteOrFull-within : length b ≡ c → Within (wroteOrFull c b m .answer .count) m (wroteOrFull c b m)
+  wroteOrFull-within e =
+      unless-in (λ o. Within (o .answer .count) m o) (roomNumber (lent (length m)) c) (λ k. refused k m) (wrote c b m)
+      (λ k h. record { size = refl; rest = refl })
+      (λ h. writes-within (answerOf 0 c) c b m e (lessNumber-zero (length m) c 4 h))
+
+pub wroteOrFull-in : (P : ℕ → Type 0) → P 0 → P 5 → (c : ℕ) (b m : List ℕ) → P (wroteOrFull c b m .answer .number)
+wroteOrFull-in P p0 p5 c b m =
+    let number : Outcome Answer → ℕ = λ o. o .answer .number in
+    rw (unless-number number (λ e. refused e m) (wrote c b m) (λ k. refl) (roomNumber (lent (length m)) c) refl)
+    (roomNumber-in P (lent (length m)) c p0 p5)

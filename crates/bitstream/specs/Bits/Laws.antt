@@ -58,7 +58,9 @@ halves m v = shr-shr v 1 m ∙ ap (λ (k : ℕ). v / 2 ^ k) (native.Mathlib.Nume
 pub digits-split : (m n v : ℕ) → digits (m + n) v ≡ digits m v ++ digits n (v / 2 ^ m)
 unfolding digits
 digits-split zero n v = rw (zero-add n, div-one v)
-digits-split (suc m) n v = rw (suc-add m n) (ap (λ (l : List ℕ). v % 2 ∷ l) (digits-split m n (v / 2) ∙ ap (λ (k : ℕ). digits m (v / 2) ++ digits n k) (halves m v)))
+digits-split (suc m) n v =
+    let high = ap (λ (k : ℕ). digits m (v / 2) ++ digits n k) (halves m v) in
+    rw (suc-add m n) (ap (λ (l : List ℕ). v % 2 ∷ l) (digits-split m n (v / 2) ∙ high))
 
 pub digits-join : (n m q r : ℕ) → r < 2 ^ n → digits n r ++ digits m q ≡ digits (n + m) (q * 2 ^ n + r)
 unfolding digits
@@ -108,7 +110,8 @@ numOf-lt (x ∷ b) h = rw (pow-suc 2 (length b)) (digits-lt (numOf-lt b (below-t
 pub digits-numOf : (b : List ℕ) → Below 2 b → digits (length b) (numOf b) ≡ b
 unfolding digits numOf
 digits-numOf [] h = refl
-digits-numOf (x ∷ b) h = rw (digits-div (numOf b) (below-head h), lib.Arith.digits-mod (numOf b) (below-head h), digits-numOf b (below-tail h))
+digits-numOf (x ∷ b) h =
+    rw (digits-div (numOf b) (below-head h), lib.Arith.digits-mod (numOf b) (below-head h), digits-numOf b (below-tail h))
 
 pub numOf-inj : (a b : List ℕ) → Below 2 a → Below 2 b → length a ≡ length b → numOf a ≡ numOf b → a ≡ b
 numOf-inj a b ha hb l e =
@@ -121,7 +124,8 @@ numOf-take zero b h = sym (mod-one (numOf b))
 numOf-take (suc n) [] h = sym (zero-mod (2 ^ suc n))
 numOf-take (suc n) (x ∷ b) h =
     let two : 0 < 2 = omega arith in
-    rw (numOf-take n b (below-tail h), pow-suc 2 n, mod-mul (numOf b * 2 + x) (pow-pos n) two, digits-div (numOf b) (below-head h), lib.Arith.digits-mod (numOf b) (below-head h))
+    rw (numOf-take n b (below-tail h), pow-suc 2 n, mod-mul (numOf b * 2 + x) (pow-pos n) two)
+    (rw (digits-div (numOf b) (below-head h), lib.Arith.digits-mod (numOf b) (below-head h)))
 
 pub numOf-drop : (n : ℕ) (b : List ℕ) → Below 2 b → numOf (drop n b) ≡ numOf b / 2 ^ n
 unfolding numOf
@@ -138,7 +142,9 @@ numOf-field k n b h = numOf-take n (drop k b) (below-drop k b h) ∙ ap (λ (x :
 pub length-flat : (w : ℕ) (xs : List ℕ) → length (flat w xs) ≡ w * length xs
 unfolding flat
 length-flat w [] = sym (mul-zero w)
-length-flat w (x ∷ xs) = length-append (digits w x) (flat w xs) ∙ rw (length-digits w x, length-flat w xs) (add-comm w (w * length xs) ∙ sym (mul-suc w (length xs)))
+length-flat w (x ∷ xs) =
+    length-append (digits w x) (flat w xs)
+    ∙ rw (length-digits w x, length-flat w xs) (add-comm w (w * length xs) ∙ sym (mul-suc w (length xs)))
 
 pub below-flat : (w : ℕ) (xs : List ℕ) → Below 2 (flat w xs)
 unfolding flat
@@ -180,7 +186,8 @@ getD-cut w zero b i h = absurd (not-suc-le-zero h)
 getD-cut w (suc n) b zero h = ap (λ (k : ℕ). numOf (take w (drop k b))) (sym (mul-zero w))
 getD-cut w (suc n) b (suc i) h =
     getD-cut w n (drop w b) i (le-of-suc-le-suc h)
-    ∙ ap (λ (l : List ℕ). numOf (take w l)) (lib.Seq.drop-drop (w * i) w b ∙ ap (λ (k : ℕ). drop k b) (add-comm w (w * i) ∙ sym (mul-suc w i)))
+    ∙ ap (λ (l : List ℕ). numOf (take w l))
+    (lib.Seq.drop-drop (w * i) w b ∙ ap (λ (k : ℕ). drop k b) (add-comm w (w * i) ∙ sym (mul-suc w i)))
 
 -- numbers below 2 ^ w come back, whatever follows
 pub cut-flat : (w : ℕ) (xs r : List ℕ) → Below (2 ^ w) xs → cut w (length xs) (flat w xs ++ r) ≡ xs
@@ -188,7 +195,9 @@ unfolding cut flat
 cut-flat w [] r h = refl
 cut-flat w (x ∷ xs) r h =
     let e : digits w x ++ flat w xs ++ r ≡ digits w x ++ (flat w xs ++ r) = append-assoc (digits w x) (flat w xs) r in
-    rw (e, take-at (digits w x) (flat w xs ++ r) w (length-digits w x), drop-at (digits w x) (flat w xs ++ r) w (length-digits w x), numOf-digits w x, mod-eq-of-lt (below-head h), cut-flat w xs r (below-tail h))
+    let long : length (digits w x) ≡ w = length-digits w x in
+    rw (e, take-at (digits w x) (flat w xs ++ r) w long, drop-at (digits w x) (flat w xs ++ r) w long)
+    (rw (numOf-digits w x, mod-eq-of-lt (below-head h), cut-flat w xs r (below-tail h)))
 
 -- a stream in two parts, the first of m whole numbers
 pub cut-append : (w m n : ℕ) (a b : List ℕ) → length a ≡ w * m → cut w (m + n) (a ++ b) ≡ cut w m a ++ cut w n b
@@ -199,7 +208,8 @@ cut-append w (suc m) n a b e =
     let whole : length a ≡ w * m + w = e ∙ mul-suc w m in
     let enough : w ≤ length a = omega arith in
     let rest : length (drop w a) ≡ w * m = length-drop w a ∙ (omega arith) in
-    rw (suc-add m n, take-append-le w a b enough, drop-append-le w a b enough) (ap (numOf (take w a) ∷_) (cut-append w m n (drop w a) b rest))
+    rw (suc-add m n, take-append-le w a b enough, drop-append-le w a b enough)
+    (ap (numOf (take w a) ∷_) (cut-append w m n (drop w a) b rest))
 
 -- ---- the first k bits of a stream, 0 past its end
 pub pad-add : (m n : ℕ) (b : List ℕ) → pad (m + n) b ≡ pad m b ++ pad n (drop m b)
@@ -219,7 +229,9 @@ pad-nil (suc k) = ap (0 ∷_) (pad-nil k)
 pub pad-all : (k : ℕ) (b : List ℕ) → length b ≤ k → pad k b ≡ b ++ replicate (k - length b) 0
 pad-all k [] h = pad-nil k ∙ ap (λ (n : ℕ). replicate n 0) (sym (native.Mathlib.Nat.sub-zero k))
 pad-all zero (x ∷ b) h = absurd (not-suc-le-zero h)
-pad-all (suc k) (x ∷ b) h = ap (x ∷_) (pad-all k b (le-of-suc-le-suc h) ∙ ap (λ (n : ℕ). b ++ replicate n 0) (sym (native.Mathlib.Nat.suc-sub-suc k (length b))))
+pad-all (suc k) (x ∷ b) h =
+    let same = sym (native.Mathlib.Nat.suc-sub-suc k (length b)) in
+    ap (x ∷_) (pad-all k b (le-of-suc-le-suc h) ∙ ap (λ (n : ℕ). b ++ replicate n 0) same)
 
 pub pad-append : (b c : List ℕ) (n : ℕ) → pad (length b + n) (b ++ c) ≡ b ++ pad n c
 pad-append [] c n = rw (zero-add n)
@@ -229,7 +241,8 @@ pub digits-pad : (w : ℕ) (b : List ℕ) → Below 2 b → digits w (numOf b) �
 unfolding digits numOf
 digits-pad zero b h = refl
 digits-pad (suc w) [] h = ap (0 ∷_) (digits-pad w [] h)
-digits-pad (suc w) (x ∷ b) h = rw (digits-div (numOf b) (below-head h), lib.Arith.digits-mod (numOf b) (below-head h), digits-pad w b (below-tail h))
+digits-pad (suc w) (x ∷ b) h =
+    rw (digits-div (numOf b) (below-head h), lib.Arith.digits-mod (numOf b) (below-head h), digits-pad w b (below-tail h))
 
 -- a stream taken apart and put together again
 pub flat-cut : (w n : ℕ) (b : List ℕ) → Below 2 b → flat w (cut w n b) ≡ pad (w * n) b
@@ -249,7 +262,8 @@ below-cut w (suc n) b h =
 
 -- ---- little-endian numbers in bytes
 -- the first byte is the lowest; a byte past the end counts as 0
-pub numberOf-suc : (n at : ℕ) (s : List ℕ) → numOf (flat 8 (take (suc n) (drop at s))) ≡ numOf (flat 8 (take n (drop (suc at) s))) * 256 + getD s at 0 % 256
+pub numberOf-suc : (n at : ℕ) (s : List ℕ)
+    → numOf (flat 8 (take (suc n) (drop at s))) ≡ numOf (flat 8 (take n (drop (suc at) s))) * 256 + getD s at 0 % 256
 unfolding flat numOf
 numberOf-suc n zero [] = rw (take-nil n)
 numberOf-suc n zero (x ∷ s) = numOf-append (digits 8 x) (flat 8 (take n s)) ∙ rw (length-digits 8 x, numOf-digits 8 x)

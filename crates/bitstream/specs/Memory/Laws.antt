@@ -17,20 +17,25 @@ byte-mod h = ap (_% 256) (sym (h .value)) ∙ mod-eq-of-lt (h .small)
 number-last : {s : List ℕ} {at b : ℕ} → ByteAt s at b → b ≡ numberOf (take 1 (drop at s))
 number-last {s} {at} {b} h = sym (numberOf-suc 0 at s ∙ unfold flat numOf in (zero-add (getD s at 0 % 256) ∙ byte-mod h))
 
-number-more : {s : List ℕ} (at next n : ℕ) {b v : ℕ} → next ≡ suc at → ByteAt s at b → v ≡ numberOf (take n (drop next s)) → v * 256 + b ≡ numberOf (take (suc n) (drop at s))
+number-more : {s : List ℕ} (at next n : ℕ) {b v : ℕ} → next ≡ suc at → ByteAt s at b → v ≡ numberOf (take n (drop next s))
+    → v * 256 + b ≡ numberOf (take (suc n) (drop at s))
 number-more {s} at next n {b} {v} e h q =
-    sym (numberOf-suc n at s ∙ rw (byte-mod h) (ap (λ (k : ℕ). numberOf (take n (drop k s)) * 256 + b) (sym e) ∙ ap (λ (k : ℕ). k * 256 + b) (sym q)))
+    sym
+    (numberOf-suc n at s
+    ∙ rw (byte-mod h) (ap (λ (k : ℕ). numberOf (take n (drop k s)) * 256 + b) (sym e) ∙ ap (λ (k : ℕ). k * 256 + b) (sym q)))
 
 pub read-two : {s : List ℕ} (at : ℕ) {b0 b1 : ℕ} → ByteAt s at b0 → ByteAt s (at + 1) b1 → b1 * 256 + b0 ≡ numberOf (take 2 (drop at s))
 read-two at h0 h1 = number-more at (at + 1) 1 (omega arith) h0 (number-last h1)
 
-pub read-four : {s : List ℕ} (at : ℕ) {b0 b1 b2 b3 : ℕ} → ByteAt s at b0 → ByteAt s (at + 1) b1 → ByteAt s (at + 2) b2 → ByteAt s (at + 3) b3
+pub read-four : {s : List ℕ} (at : ℕ) {b0 b1 b2 b3 : ℕ}
+    → ByteAt s at b0 → ByteAt s (at + 1) b1 → ByteAt s (at + 2) b2 → ByteAt s (at + 3) b3
     → ((b3 * 256 + b2) * 256 + b1) * 256 + b0 ≡ numberOf (take 4 (drop at s))
 read-four at h0 h1 h2 h3 =
     number-more at (at + 1) 3 (omega arith) h0
     (number-more (at + 1) (at + 2) 2 (omega arith) h1 (number-more (at + 2) (at + 3) 1 (omega arith) h2 (number-last h3)))
 
-pub read-five : {s : List ℕ} (at : ℕ) {b0 b1 b2 b3 b4 : ℕ} → ByteAt s at b0 → ByteAt s (at + 1) b1 → ByteAt s (at + 2) b2 → ByteAt s (at + 3) b3 → ByteAt s (at + 4) b4
+pub read-five : {s : List ℕ} (at : ℕ) {b0 b1 b2 b3 b4 : ℕ}
+    → ByteAt s at b0 → ByteAt s (at + 1) b1 → ByteAt s (at + 2) b2 → ByteAt s (at + 3) b3 → ByteAt s (at + 4) b4
     → (((b4 * 256 + b3) * 256 + b2) * 256 + b1) * 256 + b0 ≡ numberOf (take 5 (drop at s))
 read-five at h0 h1 h2 h3 h4 =
     number-more at (at + 1) 4 (omega arith) h0
@@ -57,7 +62,8 @@ take-drop-take (suc r) n zero l h = absurd (not-suc-le-zero (rw (suc-add r n) at
 take-drop-take (suc r) n (suc m) [] h = refl
 take-drop-take (suc r) n (suc m) (x ∷ l) h = take-drop-take r n m l (omega arith)
 
-pub field-of-five : (s : List ℕ) (at v : ℕ) → v ≡ numberOf (take 5 (drop (at / 8) s)) → v / 2 ^ (at % 8) % 4294967296 ≡ numOf (take 32 (drop at (bitsOf s)))
+pub field-of-five : (s : List ℕ) (at v : ℕ) → v ≡ numberOf (take 5 (drop (at / 8) s))
+    → v / 2 ^ (at % 8) % 4294967296 ≡ numOf (take 32 (drop at (bitsOf s)))
 field-of-five s at v q =
     let bits : List ℕ = bitsOf (take 5 (drop (at / 8) s)) in
     let five : bits ≡ take 40 (drop (8 * (at / 8)) (bitsOf s)) = flat-take 8 5 (drop (at / 8) s) ∙ ap (take 40) (flat-drop 8 (at / 8) s) in
@@ -77,7 +83,8 @@ front-length m at b h = length-append (take at m) b ∙ ap (_+ length b) (length
 pub take-overwritten : (m : List ℕ) (at : ℕ) (b : List ℕ) → at ≤ length m → take (at + length b) (overwritten m at b) ≡ take at m ++ b
 take-overwritten m at b h = take-at (take at m ++ b) (drop (at + length b) m) (at + length b) (front-length m at b h)
 
-pub drop-overwritten : (m : List ℕ) (at : ℕ) (b : List ℕ) → at ≤ length m → drop (at + length b) (overwritten m at b) ≡ drop (at + length b) m
+pub drop-overwritten : (m : List ℕ) (at : ℕ) (b : List ℕ) → at ≤ length m
+    → drop (at + length b) (overwritten m at b) ≡ drop (at + length b) m
 drop-overwritten m at b h = drop-at (take at m ++ b) (drop (at + length b) m) (at + length b) (front-length m at b h)
 
 pub length-overwritten : (m : List ℕ) (at : ℕ) (b : List ℕ) → at + length b ≤ length m → length (overwritten m at b) ≡ length m

@@ -35,7 +35,13 @@ abbrev free-below : ℕ → In 1 free-kinds.ps
 free-below t = and 1 free-kinds.ps (falls 1 free-kinds.ps _<_ μ-free t) free.Pre
 
 -- what the functions that it calls ask and tell
-abbrev callees : ℕ → In 1 shortest-kinds.ps × Out 1 shortest-kinds.ps shortest-kinds.r × In 1 split-kinds.ps × Out 1 split-kinds.ps split-kinds.r × In 1 free-kinds.ps × Out 1 free-kinds.ps free-kinds.r
+abbrev callees : ℕ
+    → In 1 shortest-kinds.ps
+    × Out 1 shortest-kinds.ps shortest-kinds.r
+    × In 1 split-kinds.ps
+    × Out 1 split-kinds.ps split-kinds.r
+    × In 1 free-kinds.ps
+    × Out 1 free-kinds.ps free-kinds.r
 callees t = (shortest.Asked, shortest.Learnt, split.Asked, split.Learnt, free-below t, free.Post)
 
 module _ (t : ℕ) where
@@ -52,8 +58,10 @@ module _ (t : ℕ) where
   -- a codeword has ended
   returns-2 : free-lts.Need-returns-2 (callees t) (free-at t) free.Post
   returns-2 c =
-      let start = c .before .before .before .before .before in
-      sym (ap not (clashes-ended (start .args .d) (start .pre .1 .1) (c .before .before .before .if1 .left) (c .before .shortest .ensures) (omega arith) (start .pre .1 .0)))
+      let at-if1 = c .before .before .before in
+      let start = at-if1 .before .before in
+      let ended = c .before .shortest .ensures in
+      sym (ap not (clashes-ended (start .args .d) (start .pre .1 .1) (at-if1 .if1 .left) ended (omega arith) (start .pre .1 .0)))
 
   split-requires : free-lts.Need-split-requires (callees t) (free-at t) free.Post
   split-requires c κs =
@@ -71,7 +79,8 @@ module _ (t : ℕ) where
   add-free c = search needs
 
   -- after the parting there is a bit more to go by
-  deeper : (c : free-lts.After-split (callees t) (free-at t) free.Post) → c .before .before .before .before .before .before .before .args .d + 1 < 32
+  deeper : (c : free-lts.After-split (callees t) (free-at t) free.Post)
+      → c .before .before .before .before .before .before .before .args .d + 1 < 32
   deeper c =
       let start = c .before .before .before .before .before .before .before in
       shortest-deeper (start .args .d) (c .before .before .before .shortest .ensures) (omega arith) (c .before .before .if2 .left)
@@ -121,7 +130,8 @@ module _ (t : ℕ) where
   returns-3 c =
       let lower = c .before .before .before .before .before .before .before in
       let low = not-true _ (sym (lower .free .ensures) ∙ c .before .before .before .before .if3 .taken) in
-      (rw (higher lower) at (c .before .before .free2 .ensures)) ∙ sym (ap not (clashes-low-free (lower .before .before .before .before .split .ensures) low))
+      let parted = lower .before .before .before .before .split .ensures in
+      (rw (higher lower) at (c .before .before .free2 .ensures)) ∙ sym (ap not (clashes-low-free parted low))
 
   same-length-3 : free-lts.Need-same-length-3 (callees t) (free-at t) free.Post
   same-length-3 c = search needs

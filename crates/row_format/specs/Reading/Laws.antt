@@ -1,6 +1,5 @@
 -- The laws of reading: what reading one item answers, case by case, and what reading a row comes to. Assumes nothing.
 use Prim.Native.Nat.{ℕ, zero, suc, _+_, _*_, _≤_, _<_}
-use native.Mathlib.Omega.{arith}
 use mathlib.Core.Path.{_≡_, refl, ap, subst}
 use mathlib.Core.Bool.{true, false, not}
 use mathlib.Core.List.{List, []}
@@ -9,7 +8,7 @@ use lib.Dec.{ltb}
 use borrow.Author.Tests.{ltb-true, ltb-false}
 use Rattle.bitstream.specs.Bits.{numOf, begins}
 use Rattle.answer.specs.Outcome.{_orElse_, Lent, nothing, lent, roomNumber}
-use Rattle.answer.specs.Outcome.Laws.{orElse-none, orElse-same, orElse-zero-left, orElse-zero-right, roomNumber-none, lessNumber-none, lessNumber-zero, unless-number}
+use Rattle.answer.specs.Outcome.Laws.{orElse-none, orElse-zero-left, orElse-zero-right, roomNumber-none, lessNumber-none, lessNumber-zero, unless-number}
 use Rattle.row_format.specs.Lists.{any, least}
 use Rattle.row_format.specs.Lists.Laws.{by-test}
 use Rattle.row_format.specs.Table.{entryDifference, tableNumber}
@@ -108,12 +107,3 @@ pub rowReading-room : (m : Lent) (tb : List ℕ) (n : ℕ) (wb : List ℕ) → r
     → rowReading m tb n wb ≡ rowReading nothing tb n wb
 unfolding rowReading firstNumber
 rowReading-room m tb n wb e = rw e
-
--- 8192 bytes are room for every row
-pub rowReading-enough : (k : ℕ) → 8192 ≤ k → (tb : List ℕ) (n : ℕ) (wb : List ℕ)
-    → rowReading (lent k) tb n wb ≡ rowReading nothing tb n wb
-unfolding rowReading firstNumber
-rowReading-enough k enough tb n wb =
-    let same : tooMany n orElse roomNumber (lent k) (2 * n) ≡ tooMany n orElse 0 =
-    orElse-same (tooMany n) (roomNumber (lent k) (2 * n)) 0 (λ e. lent-room k n (omega (arith, tooMany-zero n e))) in
-    rw same

@@ -14,7 +14,7 @@ use Rattle.row_format.specs.Table.Laws.{length-codewordAt}
 use Rattle.row_format.specs.Reading.{Fits}
 use Rattle.row_format.specs.Row as row
 use Rattle.row_format.specs.Theorems.Items.{entry}
-use Rattle.code_table.specs.Entry.Laws.{Counted, signed-fits, signed-back, sum-fits, sum-count}
+use Rattle.code_table.specs.SignedLaws.{Counted, signed-fits, signed-back, sum-fits, sum-count}
 use Rattle.row_item.specs.declared.Item.{Item}
 use Rattle.row_item.specs.declared.Item.the-variants.{Difference, BadPixel, BadBias, Escape}
 use Rattle.row_item.specs.Coded.{coded}
@@ -106,5 +106,6 @@ module _ {t : List ℕ} {i : Item} {h : ℕ} (e : i ≡ Escape h) (c : Codable t
   pub escape-twelve : h < 4096
   escape-twelve = subst (Codable t) e c .fits
 
-  pub holds-escape : {q r : Field} → Holds (codewordAt t 0) q → Holds (digits (q .len) (q .bits) ++ digits 12 h) r → Holds (row.itemBits t (plain i)) r
+  pub holds-escape : {q r : Field} → Holds (codewordAt t 0) q → Holds (digits (q .len) (q .bits) ++ digits 12 h) r
+      → Holds (row.itemBits t (plain i)) r
   holds-escape first all = rw (e, ← first .bits) all

@@ -11,7 +11,7 @@ use mir.Facts.{toZ-ofZ}
 use borrow.Author.Tests.{le-leb, lt-leb, lt-ltb, le-ltb, eq-eqb, ne-eqb}
 use Rattle.row_format.specs.Table.{lowLimit, tableSize, signed, hasDifference}
 use Rattle.row_format.specs.Row.{State, fresh, past, previous, differenceTo, byDifference, itemFor}
-use Rattle.code_table.specs.Entry.Laws.{signed-fits}
+use Rattle.code_table.specs.SignedLaws.{signed-fits}
 use Rattle.row_item.specs.declared.Item.the-variants.{Difference, BadPixel, BadBias, Escape}
 use Rattle.row_item.specs.declared.Progress.{Progress}
 use Rattle.row_item.specs.Coded.{progress}

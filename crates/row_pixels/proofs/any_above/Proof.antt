@@ -34,7 +34,10 @@ loop-again c =
     let inside = inside-halves (turn .before .before .before .args .pixels .now) (turn .loop-test .taken) in
     let inv = turn .before .loop .inv in
     let pixel = c .before .pixel-at .ensures in
-    ⊎-elim (λ w. rw (w .1) (looking-high inv inside pixel (w .0 .taken))) (λ w. rw (w .1) (looking-low inv inside pixel (w .0 .left))) (c .if1 .came)
+    ⊎-elim
+    (λ w. rw (w .1) (looking-high inv inside pixel (w .0 .taken)))
+    (λ w. rw (w .1) (looking-low inv inside pixel (w .0 .left)))
+    (c .if1 .came)
 
 returns : tie.Need-returns Inv-loop μ-loop
 returns c =

@@ -3,84 +3,120 @@ use Prim.Native.Nat.{ℕ, zero, suc, _+_, _*_, _/_, _≤_, _<_}
 use native.Mathlib.Nat.{add-zero, zero-add, add-assoc, not-suc-le-zero, le-trans}
 use native.Mathlib.Omega.{arith}
 use mathlib.Core.Path.{_≡_, refl, sym, ap, _∙_, subst}
-use mathlib.Core.Bool.{cond}
-use mathlib.Core.Logic.{_⊎_, inl, inr}
+use mathlib.Core.Bool.{false, cond}
+use mathlib.Core.Logic.{_⊎_, inl, inr, ⊎-elim}
 use mathlib.Core.List.{List, [], _∷_}
 use lib.ListN.{length, drop}
 use lib.Seq.{drop-drop}
-use lib.Dec.{ltb, eqb}
-use borrow.Author.Tests.{le-ltb, eq-eqb, ne-eqb, eqb-false}
+use lib.Dec.{eqb}
+use borrow.Author.Tests.{ne-eqb, eqb-true}
 use Rattle.bitstream.specs.Bits.{wordsOf, stream}
-use Rattle.answer.specs.Outcome.{refused, wrote, lent}
+use Rattle.bitstream.specs.Bits.Laws.{below-flat, below-drop}
+use Rattle.answer.specs.Outcome.{Outcome, refused, wrote, lent}
+use Rattle.answer.specs.Outcome.Laws.{unless-in}
+use Rattle.answer.specs.declared.Answer.{Answer}
 use Rattle.row_format.specs.Lists.Laws.{by-test}
-use Rattle.row_format.specs.Table.{tableNumber, maxItemBits}
+use Rattle.row_format.specs.Table.{tableNumber, maxItemBits, Accepted}
 use Rattle.row_format.specs.Table.Laws.{accepted, tableNumber-verdict, maxItemBits-most}
 use Rattle.row_format.specs.Row as row
 use Rattle.row_format.specs.Row.{pixelsOf, pixelBytes}
 use Rattle.row_format.specs.Reading.{Reading, item, fault, bitsOfReading, Run, done, stop, prepend, readItem, readBy, readItems, stray, withoutStray, rowReading, Readable}
-use Rattle.row_format.specs.Reading.Laws.{firstNumber-readable, lent-room}
-use Rattle.row_format.specs.Calls.{unpacked, rowOutcome}
+use Rattle.row_format.specs.Reading.Laws.{firstNumber-readable, lent-room, room-lent}
+use Rattle.row_format.specs.Calls.{unpacked, rowOutcome, Accepts}
 use Rattle.row_format.specs.Theorems.Bounds.{readItem-uses}
+use Rattle.row_format.specs.Theorems.Done.{unpacked-accepts}
+use Rattle.row_format.specs.Theorems.Items.{after-height}
 use Rattle.row_format.specs.Theorems.Numbers.{FaultIn, readItem-in}
+use Rattle.row_format.specs.Theorems.Standing as standing
+use Rattle.row_item.specs.declared.Progress.{Progress}
 use Rattle.row_item.specs.Coded.{progress, stateOf}
 use Rattle.row_item.specs.Coded.Laws.{stateOf-progress}
 use Rattle.row_reader.specs.declared.step.Place.{Place}
 use Rattle.row_reader.specs.declared.step.ItemRead.{ItemRead}
-use Rattle.row_reader.specs.Step.{startPlace, refusedAt, given, itemRead}
-use Rattle.row_reader.specs.Walk.{Walk, gave, ended, onto, walk}
+use Rattle.row_reader.specs.Step.{startPlace, impossible, placeNumber, refusedAt, placeAfter, given, readingAt, itemRead}
+use Rattle.row_reader.specs.Step.Laws.{impossible-false, placeNumber-none, Stands, placeNumber-stands, step-read}
+use Rattle.row_reader.specs.Walk.{Walk, gave, ended, onto, walk, Handed}
 
 -- ---- one step
--- where a reader of an accepted table is: after count items it has used at most 27 bits for each
+-- a reader of an accepted table, in the state s: after count items it has used at most 27 bits for each
 pub record At (pl : Place) (s : row.State) : Type 0 where
   pub is : pl .progress ≡ progress s
-  pub most : pl .at ≤ 27 * (pl .count)
+  pub near : pl .at ≤ 27 * (pl .count)
+  pub height : row.previous s ≤ 4093
   pub opened : pl .opening ≡ 0
 
+previous-progress : (s : row.State) → progress s .previous ≡ row.previous s
+previous-progress row.fresh = refl
+previous-progress (row.past h) = refl
+
+-- it is a possible place
+at-possible : (pl : Place) (s : row.State) → At pl s → pl .count ≤ 4096 → impossible pl ≡ false
+at-possible pl s a few =
+    impossible-false pl s (a .is) few (a .near) (rw (a .is, previous-progress s) (a .height))
+
 module _ (tb wb : List ℕ) where
-  step-given : (pl : Place) (s : row.State) → At pl s → pl .count ≤ 4095 → itemRead tb wb pl ≡ given pl s (readItem (wordsOf tb) s (drop (pl .at) (stream wb)))
-  unfolding itemRead
-  step-given pl s a h =
+  -- the reading in the state s
+  abbrev reading : Place → row.State → Reading
+  reading pl s = readItem (wordsOf tb) s (drop (pl .at) (stream wb))
+
+  step-given : (pl : Place) (s : row.State) → At pl s → pl .count ≤ 4095 → itemRead tb wb pl ≡ given pl s (reading pl s)
+  step-given pl s a more =
       let e : stateOf (pl .progress) ≡ s = ap stateOf (a .is) ∙ stateOf-progress s in
-      rw (eq-eqb (pl .opening) 0 (a .opened), le-ltb 4095 (pl .count) h, le-ltb 110592 (pl .at) (omega (arith, a .most)), e)
+      let none = sym (placeNumber-none pl (a .opened) (at-possible pl s a (omega arith)) more) in
+      sym (step-read tb wb pl none) ∙ rw e
 
-  -- by whether the count and the place allow another item
-  by-limits : (P : ItemRead → Type 0) (pl : Place) → ((pl .opening ≡ 0 → ⊥) → P (refusedAt (pl .opening) pl)) → P (refusedAt 11 pl)
-      → P (given pl (stateOf (pl .progress)) (readItem (wordsOf tb) (stateOf (pl .progress)) (drop (pl .at) (stream wb)))) → P (itemRead tb wb pl)
+  -- by whether it is refused before an item is read
+  by-place : (P : ItemRead → Type 0) (pl : Place) → ((k : ℕ) → P (refusedAt (suc k) pl))
+      → (placeNumber pl ≡ 0 → P (given pl (stateOf (pl .progress)) (readingAt tb wb pl))) → P (itemRead tb wb pl)
   unfolding itemRead
-  by-limits P pl shut full read = by-test (eqb (pl .opening) 0)
-      (λ o. by-test (ltb 4095 (pl .count)) (λ e. rw (o, e) full) (λ e. by-test (ltb 110592 (pl .at)) (λ g. rw (o, e, g) full) (λ g. rw (o, e, g) read)))
-      (λ o. rw o (shut (eqb-false (pl .opening) 0 o)))
+  by-place P pl shut read =
+      let give = given pl (stateOf (pl .progress)) (readingAt tb wb pl) in
+      unless-in P (placeNumber pl) (λ e. refusedAt e pl) give (λ k e. shut k) read
 
-  pub stays : (pl : Place) → (itemRead tb wb pl .number ≡ 0 → ⊥) → (itemRead tb wb pl .place ≡ pl) × (itemRead tb wb pl .pixel ≡ 0)
-  stays pl = by-limits (λ r. (r .number ≡ 0 → ⊥) → (r .place ≡ pl) × (r .pixel ≡ 0)) pl (λ o h. (refl, refl)) (λ h. (refl, refl)) (still (readItem (wordsOf tb) (stateOf (pl .progress)) (drop (pl .at) (stream wb))))
+  pub stays : (pl : Place) → (itemRead tb wb pl .number ≡ 0 → ⊥)
+      → (itemRead tb wb pl .place ≡ pl) × (itemRead tb wb pl .pixel ≡ 0)
+  stays pl = by-place Still pl (λ e h. (refl, refl)) (λ none. still (readingAt tb wb pl))
     where
-      still : (rd : Reading) → (given pl (stateOf (pl .progress)) rd .number ≡ 0 → ⊥) → (given pl (stateOf (pl .progress)) rd .place ≡ pl) × (given pl (stateOf (pl .progress)) rd .pixel ≡ 0)
+      Still : ItemRead → Type 0
+      Still r = (r .number ≡ 0 → ⊥) → (r .place ≡ pl) × (r .pixel ≡ 0)
+
+      still : (rd : Reading) → Still (given pl (stateOf (pl .progress)) rd)
       still (item i u) h = absurd (h refl)
       still (fault e u) h = (refl, refl)
 
   pub moves : (pl : Place) → itemRead tb wb pl .place .at ≤ pl .at + maxItemBits (wordsOf tb)
   moves pl =
-      by-limits (λ r. r .place .at ≤ pl .at + maxItemBits (wordsOf tb)) pl (λ o. omega arith) (omega arith)
-      (within (readItem (wordsOf tb) (stateOf (pl .progress)) (drop (pl .at) (stream wb))) (readItem-uses (wordsOf tb) (stateOf (pl .progress)) (drop (pl .at) (stream wb))))
+      let uses = readItem-uses (wordsOf tb) (stateOf (pl .progress)) (drop (pl .at) (stream wb)) in
+      by-place Near pl (λ e. omega arith) (λ none. within (readingAt tb wb pl) uses)
     where
-      within : (rd : Reading) → bitsOfReading rd ≤ maxItemBits (wordsOf tb) → given pl (stateOf (pl .progress)) rd .place .at ≤ pl .at + maxItemBits (wordsOf tb)
+      Near : ItemRead → Type 0
+      Near r = r .place .at ≤ pl .at + maxItemBits (wordsOf tb)
+
+      within : (rd : Reading) → bitsOfReading rd ≤ maxItemBits (wordsOf tb) → Near (given pl (stateOf (pl .progress)) rd)
       within (item i u) h = omega arith
       within (fault e u) h = omega arith
 
   -- what a step's reading makes of the rest of a walk
   abbrev onward : Place → row.State → ℕ → Reading → Walk
-  onward pl s n (item i u) = onto (row.pixelOf s i) (walk tb wb n (record { at = pl .at + u; count = pl .count + 1; progress = progress (row.after s i); opening = pl .opening }))
+  onward pl s n (item i u) = onto (row.pixelOf s i) (walk tb wb n (placeAfter pl s i u))
   onward pl s n (fault e u) = ended e 0
 
+  -- no faulty item has the number 0
+  real : (s : row.State) (r : List ℕ) → FaultIn (λ e. e ≡ 0 → ⊥) (readItem (wordsOf tb) s r)
+  real s r =
+      readItem-in (λ e. e ≡ 0 → ⊥) (λ z. omega arith) (λ z. omega arith) (λ z. omega arith) (λ z. omega arith) (wordsOf tb) s r
+
   walk-suc : (n : ℕ) (pl : Place) (s : row.State) → At pl s → pl .count ≤ 4095
-      → walk tb wb (suc n) pl ≡ onward pl s n (readItem (wordsOf tb) s (drop (pl .at) (stream wb)))
+      → walk tb wb (suc n) pl ≡ onward pl s n (reading pl s)
   unfolding walk
-  walk-suc n pl s a h = rw (step-given pl s a h) (by-reading (readItem (wordsOf tb) s (drop (pl .at) (stream wb))) (readItem-in (λ e. e ≡ 0 → ⊥) (λ z. omega arith) (λ z. omega arith) (λ z. omega arith) (λ z. omega arith) (wordsOf tb) s (drop (pl .at) (stream wb))))
+  walk-suc n pl s a more = rw (step-given pl s a more) (by-reading (reading pl s) (real s (drop (pl .at) (stream wb))))
     where
-      by-reading : (rd : Reading) → FaultIn (λ e. e ≡ 0 → ⊥) rd
-          → cond (eqb (given pl s rd .number) 0) (onto (given pl s rd .pixel) (walk tb wb n (given pl s rd .place))) (ended (given pl s rd .number) 0) ≡ onward pl s n rd
-      by-reading (item i u) real = refl
-      by-reading (fault e u) real = rw (ne-eqb e 0 real)
+      taken : ItemRead → Walk
+      taken r = cond (eqb (r .number) 0) (onto (r .pixel) (walk tb wb n (r .place))) (ended (r .number) 0)
+
+      by-reading : (rd : Reading) → FaultIn (λ e. e ≡ 0 → ⊥) rd → taken (given pl s rd) ≡ onward pl s n rd
+      by-reading (item i u) h = refl
+      by-reading (fault e u) h = rw (ne-eqb e 0 h)
 
   -- ---- many steps
   -- the reading of n items from a place
@@ -104,17 +140,20 @@ module _ (tb wb : List ℕ) where
   -- what a walk of n steps says of the rows
   abbrev pub Agrees : Place → row.State → ℕ → Walk → Type 0
   Agrees pl s n (gave ps pl′) = Whole pl s n ps pl′
-  Agrees pl s n (ended e k) = (j : ℕ) → k < j → Stops pl s j e
+  Agrees pl s n (ended e k) = (k < n) × ((j : ℕ) → k < j → Stops pl s j e)
 
   module _ (pl : Place) (s : row.State) where
     -- after an item i of u bits
-    module _ (i : row.Item) (u : ℕ) (e : readItem (wordsOf tb) s (drop (pl .at) (stream wb)) ≡ item i u) where
+    module _ (i : row.Item) (u : ℕ) (e : reading pl s ≡ item i u) where
       abbrev next : Place
-      next = record { at = pl .at + u; count = pl .count + 1; progress = progress (row.after s i); opening = pl .opening }
+      next = placeAfter pl s i u
 
       run-suc : (n : ℕ) → run pl s (suc n) ≡ prepend i u (run next (row.after s i) n)
       unfolding readBy
-      run-suc n = rw e (ap (λ (l : List ℕ). prepend i u (readBy (readItem (wordsOf tb)) (row.after s i) n l)) (drop-drop u (pl .at) (stream wb)))
+      run-suc n = rw e (ap rest (drop-drop u (pl .at) (stream wb)))
+        where
+          rest : List ℕ → Run
+          rest l = prepend i u (readBy (readItem (wordsOf tb)) (row.after s i) n l)
 
       onto-agrees : (n : ℕ) (w : Walk) → Agrees next (row.after s i) n w → Agrees pl s (suc n) (onto (row.pixelOf s i) w)
       unfolding pixelsOf
@@ -126,45 +165,110 @@ module _ (tb wb : List ℕ) where
             pixels = ap (row.pixelOf s i ∷_) (a .pixels);
             place = a .place ∙ add-assoc (pl .at) u (a .used);
           }
-      onto-agrees n (ended x k) a = go
+      onto-agrees n (ended x k) a = (omega (arith, a .0), go)
         where
           go : (j : ℕ) → suc k < j → Stops pl s j x
           go zero h = absurd (not-suc-le-zero h)
           go (suc j) h =
-              let b = a j (omega arith) in
+              let b = a .1 j (omega arith) in
               record { faultAt = u + b .faultAt; used = u + b .used; read = run-suc j ∙ ap (prepend i u) (b .read) }
 
-    fault-agrees : (x u : ℕ) → readItem (wordsOf tb) s (drop (pl .at) (stream wb)) ≡ fault x u → (j : ℕ) → 0 < j → Stops pl s j x
+    fault-agrees : (x u : ℕ) → reading pl s ≡ fault x u → (j : ℕ) → 0 < j → Stops pl s j x
     unfolding readBy
     fault-agrees x u e zero h = absurd (not-suc-le-zero h)
     fault-agrees x u e (suc j) h = record { faultAt = 0; used = u; read = rw e }
 
   module _ (ok : tableNumber tb ≡ 0) where
+    sound : Accepted (wordsOf tb)
+    sound = accepted (wordsOf tb) (tableNumber-verdict tb ok)
+
     few : (s : row.State) (r : List ℕ) → bitsOfReading (readItem (wordsOf tb) s r) ≤ 27
-    few s r = le-trans (readItem-uses (wordsOf tb) s r) (maxItemBits-most (wordsOf tb) (accepted (wordsOf tb) (tableNumber-verdict tb ok)))
+    few s r = le-trans (readItem-uses (wordsOf tb) s r) (maxItemBits-most (wordsOf tb) sound)
 
-    by-reading : (pl : Place) (s : row.State) (n : ℕ) (rd : Reading) → readItem (wordsOf tb) s (drop (pl .at) (stream wb)) ≡ rd
-        → ((i : row.Item) (u : ℕ) → (e : readItem (wordsOf tb) s (drop (pl .at) (stream wb)) ≡ item i u) → Agrees (next pl s i u e) (row.after s i) n (walk tb wb n (next pl s i u e)))
-        → Agrees pl s (suc n) (onward pl s n rd)
-    by-reading pl s n (item i u) e rest = onto-agrees pl s i u e n (walk tb wb n (next pl s i u e)) (rest i u e)
-    by-reading pl s n (fault x u) e rest = fault-agrees pl s x u e
-
-    at-next : (pl : Place) (s : row.State) (i : row.Item) (u : ℕ) → At pl s → (e : readItem (wordsOf tb) s (drop (pl .at) (stream wb)) ≡ item i u) → At (next pl s i u e) (row.after s i)
+    -- the place after an item that is read
+    at-next : (pl : Place) (s : row.State) (i : row.Item) (u : ℕ) → At pl s → reading pl s ≡ item i u
+        → At (placeAfter pl s i u) (row.after s i)
     at-next pl s i u a e =
-        let h : u ≤ 27 = subst (λ (rd : Reading). bitsOfReading rd ≤ 27) e (few s (drop (pl .at) (stream wb))) in
-        record { is = refl; most = omega (arith, a .most); opened = a .opened }
+        let rest = drop (pl .at) (stream wb) in
+        let h : u ≤ 27 = subst (λ (rd : Reading). bitsOfReading rd ≤ 27) e (few s rest) in
+        let there = standing.readItem-stands (wordsOf tb) sound s rest (below-drop (pl .at) (stream wb) (below-flat 8 _)) in
+        let fits = subst (standing.Stands (wordsOf tb) s rest) e there .0 in
+        record {
+          is = refl;
+          near = omega (arith, a .near);
+          height = after-height (wordsOf tb) s i (a .height) fits;
+          opened = a .opened;
+        }
+
+    by-reading : (pl : Place) (s : row.State) (n : ℕ) (rd : Reading) → reading pl s ≡ rd
+        → ((i : row.Item) (u : ℕ) → reading pl s ≡ item i u
+        → Agrees (placeAfter pl s i u) (row.after s i) n (walk tb wb n (placeAfter pl s i u)))
+        → Agrees pl s (suc n) (onward pl s n rd)
+    by-reading pl s n (item i u) e rest = onto-agrees pl s i u e n (walk tb wb n (placeAfter pl s i u)) (rest i u e)
+    by-reading pl s n (fault x u) e rest = (omega arith, fault-agrees pl s x u e)
 
     pub walk-agrees : (n : ℕ) (pl : Place) (s : row.State) → At pl s → pl .count + n ≤ 4096 → Agrees pl s n (walk tb wb n pl)
     unfolding walk readBy pixelsOf
-    walk-agrees zero pl s a h = record { items = []; used = 0; read = refl; pixels = refl; place = sym (add-zero (pl .at)) }
+    walk-agrees zero pl s a h =
+        record { items = []; used = 0; read = refl; pixels = refl; place = sym (add-zero (pl .at)) }
     walk-agrees (suc n) pl s a h =
         rw (walk-suc n pl s a (omega arith))
-        (by-reading pl s n (readItem (wordsOf tb) s (drop (pl .at) (stream wb))) refl
-        (λ i u e. walk-agrees n (next pl s i u e) (row.after s i) (at-next pl s i u a e) (omega arith)))
+        (by-reading pl s n (reading pl s) refl
+        (λ i u e. walk-agrees n (placeAfter pl s i u) (row.after s i) (at-next pl s i u a e) (omega arith)))
+
+    -- ---- possible places: every item that is given leads to one
+    stands-at : (pl : Place) → Stands pl → At pl (stateOf (pl .progress))
+    stands-at pl st =
+        let s = stateOf (pl .progress) in
+        let h : row.previous (stateOf (pl .progress)) ≡ pl .progress .previous =
+        sym (previous-progress s) ∙ sym (ap (λ (p : Progress). p .previous) (st .possible .settled)) in
+        record {
+          is = st .possible .settled;
+          near = st .possible .near;
+          height = omega (arith, st .possible .height);
+          opened = st .opened;
+        }
+
+    pub given-possible : (pl : Place) → itemRead tb wb pl .number ≡ 0 → impossible (itemRead tb wb pl .place) ≡ false
+    given-possible pl = by-place Possible′ pl (λ k h. absurd (omega arith))
+        (λ none. by-read (placeNumber-stands pl none) (readingAt tb wb pl) refl (real (stateOf (pl .progress)) _))
+      where
+        Possible′ : ItemRead → Type 0
+        Possible′ r = r .number ≡ 0 → impossible (r .place) ≡ false
+        by-read : Stands pl → (rd : Reading) → readingAt tb wb pl ≡ rd → FaultIn (λ e. e ≡ 0 → ⊥) rd
+            → Possible′ (given pl (stateOf (pl .progress)) rd)
+        by-read st (item i u) e some h =
+            let s = stateOf (pl .progress) in
+            let after = at-next pl s i u (stands-at pl st) e in
+            at-possible (placeAfter pl s i u) (row.after s i) after (omega (arith, st .more))
+        by-read st (fault x u) e some h = absurd (some h)
+
+    -- so that every walk's place is one
+    abbrev PossibleAfter : Walk → Type 0
+    PossibleAfter (gave ps pl) = impossible pl ≡ false
+    PossibleAfter (ended e k) = Unit {0}
+
+    onto-possible : (p : ℕ) (w : Walk) → PossibleAfter w → PossibleAfter (onto p w)
+    onto-possible p (gave ps pl) h = h
+    onto-possible p (ended e k) h = tt
+
+    walk-possible : (n : ℕ) (pl : Place) → impossible pl ≡ false → PossibleAfter (walk tb wb n pl)
+    unfolding walk
+    walk-possible zero pl h = h
+    walk-possible (suc n) pl h =
+        let r = itemRead tb wb pl in
+        by-test (eqb (r .number) 0)
+        (λ e. rw e (onto-possible (r .pixel) (walk tb wb n (r .place))
+        (walk-possible n (r .place) (given-possible pl (eqb-true (r .number) 0 e)))))
+        (λ e. rw e tt)
+
+    pub walk-place : (n : ℕ) (ps : List ℕ) (pl : Place) → walk tb wb n (startPlace tb) ≡ gave ps pl → impossible pl ≡ false
+    unfolding impossible
+    walk-place n ps pl e = subst PossibleAfter e (walk-possible n (startPlace tb) refl)
 
     -- ---- the row call
     start : At (startPlace tb) row.fresh
-    start = record { is = refl; most = omega arith; opened = ok }
+    start = record { is = refl; near = omega arith; height = omega arith; opened = ok }
 
     module _ (n : ℕ) (m : List ℕ) (rm : n ≤ length m / 2) (lim : n ≤ 4096) where
       passes : Readable (lent (length m)) tb n
@@ -177,9 +281,10 @@ module _ (tb wb : List ℕ) where
       -- where it gives n items, a row call of n with room for them gives those pixels or refuses 10
       whole-row : (ps : List ℕ) (pl : Place) → Whole (startPlace tb) row.fresh n ps pl
           → (unpacked tb wb n m ≡ wrote (pl .at) (pixelBytes ps) m) ⊎ (unpacked tb wb n m ≡ refused 10 m)
-      whole-row ps pl w = by-test (stray (w .used) (stream wb))
-          (λ e. inr (row-is (done (w .items) (w .used)) (unfold readItems in w .read) ∙ rw e))
-          (λ e. inl (row-is (done (w .items) (w .used)) (unfold readItems in w .read) ∙ rw (e, w .pixels, w .place, zero-add (w .used))))
+      whole-row ps pl w =
+          let is = row-is (done (w .items) (w .used)) (unfold readItems in w .read) in
+          by-test (stray (w .used) (stream wb)) (λ e. inr (is ∙ rw e))
+          (λ e. inl (is ∙ rw (e, w .pixels, w .place, zero-add (w .used))))
 
       stopped-row : (e : ℕ) → Stops (startPlace tb) row.fresh n e → unpacked tb wb n m ≡ refused e m
       stopped-row e s = row-is (stop e (s .faultAt) (s .used)) (unfold readItems in s .read)
@@ -187,8 +292,40 @@ module _ (tb wb : List ℕ) where
       -- by a walk's own answer
       pub gives : (ps : List ℕ) (pl : Place) → walk tb wb n (startPlace tb) ≡ gave ps pl
           → (unpacked tb wb n m ≡ wrote (pl .at) (pixelBytes ps) m) ⊎ (unpacked tb wb n m ≡ refused 10 m)
-      gives ps pl e = whole-row ps pl (subst (Agrees (startPlace tb) row.fresh n) e (walk-agrees n (startPlace tb) row.fresh start (omega arith)))
+      gives ps pl e =
+          let agrees = walk-agrees n (startPlace tb) row.fresh start (omega arith) in
+          whole-row ps pl (subst (Agrees (startPlace tb) row.fresh n) e agrees)
 
       pub refuses : (k e i : ℕ) → k ≤ 4096 → walk tb wb k (startPlace tb) ≡ ended e i → i < n → unpacked tb wb n m ≡ refused e m
       refuses k e i h w reaches =
-          stopped-row e (subst (Agrees (startPlace tb) row.fresh k) w (walk-agrees k (startPlace tb) row.fresh start (omega arith)) n reaches)
+          let agrees = walk-agrees k (startPlace tb) row.fresh start (omega arith) in
+          stopped-row e (subst (Agrees (startPlace tb) row.fresh k) w agrees .1 n reaches)
+
+    -- and back: where a row call of n is done, the reader gives those n items
+    module _ (n : ℕ) (m : List ℕ) (a : Accepts tb wb n m) where
+      within : 2 * n ≤ length m
+      within = room-lent (length m) n (a .reads .given .room)
+
+      -- 10 is not the number of a done call
+      not-ten : unpacked tb wb n m ≡ refused 10 m → ⊥
+      not-ten e =
+          let z : _≡_ {A = ℕ} 0 10 = ap (λ (o : Outcome Answer). o .answer .number) (sym (a .left) ∙ e) in
+          omega arith
+
+      back-by : (w : Walk) → walk tb wb n (startPlace tb) ≡ w → Agrees (startPlace tb) row.fresh n w → Handed tb wb n m
+      unfolding readItems
+      back-by (gave ps pl) e x =
+          record {
+            pixels = ps;
+            place = pl;
+            walked = e;
+            row = ⊎-elim (λ h. h) (λ h. absurd (not-ten h)) (gives n m (omega (arith, within)) (a .reads .given .few) ps pl e);
+          }
+      back-by (ended k i) e x =
+          let stopped = x .1 n (x .0) .read in
+          absurd (let z : _≡_ {A = ℕ} 0 1 = cc (stopped, a .reads .read) in omega arith)
+
+      pub hands : Handed tb wb n m
+      hands =
+          let agrees = walk-agrees n (startPlace tb) row.fresh start (omega (arith, a .reads .given .few)) in
+          back-by (walk tb wb n (startPlace tb)) refl agrees

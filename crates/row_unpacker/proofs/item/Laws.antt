@@ -18,7 +18,7 @@ use Rattle.row_format.specs.Row.{State, previous}
 use Rattle.row_format.specs.Reading.{Match, none, found, find, unmatched, rawHeight, matched, readItem}
 use Rattle.row_format.specs.Theorems.Search.{Found, find-found}
 use Rattle.code_table.specs.Check.Laws.{length-words}
-use Rattle.code_table.specs.Entry.Laws.{signed-fits}
+use Rattle.code_table.specs.SignedLaws.{signed-fits}
 use Rattle.row_item.specs.declared.Item.the-variants.{Difference, BadPixel, BadBias, Escape}
 use Rattle.row_item.specs.declared.Progress.{Progress}
 use Rattle.row_item.specs.Coded.{stateOf}

@@ -48,7 +48,8 @@ module _ (r : List ℕ) (used : ℕ) where
   unfolding stray any
   stray-none h = let e : 32 * wordsFor used - used ≡ 0 = omega arith in rw e
 
-  pub stray-low : (v : View) → Seen (drop used r) v → (used % 32 ≡ 0 → ⊥) → (x : ℕ) → x ≡ v .window % 2 ^ (32 - used % 32) → not (eqb x 0) ≡ stray used r
+  pub stray-low : (v : View) → Seen (drop used r) v → (used % 32 ≡ 0 → ⊥)
+      → (x : ℕ) → x ≡ v .window % 2 ^ (32 - used % 32) → not (eqb x 0) ≡ stray used r
   unfolding stray
   stray-low v seen h x is =
       let e : 32 * wordsFor used - used ≡ 32 - used % 32 = omega arith in
@@ -58,7 +59,8 @@ module _ (r : List ℕ) (used : ℕ) where
 -- ---- the ways out after a row was read: x is the code's answer, out the row's memory
 module _ (r : List ℕ) (n : ℕ) (m out : List ℕ) (x : RowRead) where
   module _ (used : ℕ) (e : x ≡ Done used) where
-    pub row-stray : (run : Run) → RowIs n out x (reached n fresh run) → true ≡ stray used r → refused 10 m ≡ rowOutcome m (withoutStray r run)
+    pub row-stray : (run : Run) → RowIs n out x (reached n fresh run) → true ≡ stray used r
+        → refused 10 m ≡ rowOutcome m (withoutStray r run)
     row-stray (done is u) h b = let same : u ≡ used = cc (h .0) in rw (same, ← b)
     row-stray (stop k at u) h b = absurd (let z : _≡_ {A = ℕ} 0 1 = cc in omega arith)
 
@@ -82,7 +84,8 @@ module _ (r : List ℕ) (n : ℕ) (m out : List ℕ) (x : RowRead) where
     pub row-used : (t : List ℕ) → RowIs n out x (reached n fresh (readItems t n r)) → used ≤ n * 43
     row-used t h = omega (arith, used-by (readItems t n r) h, readItems-uses t n r, mul-le-mul-left n (maxItemBits-any t))
 
-  pub row-refused : (number place : ℕ) → x ≡ Refused number place → (run : Run) → RowIs n out x (reached n fresh run) → refused number m ≡ rowOutcome m (withoutStray r run)
+  pub row-refused : (number place : ℕ) → x ≡ Refused number place → (run : Run) → RowIs n out x (reached n fresh run)
+      → refused number m ≡ rowOutcome m (withoutStray r run)
   row-refused number place e (done is u) h = absurd (let z : _≡_ {A = ℕ} 0 1 = cc (h .0) in omega arith)
   row-refused number place e (stop k at u) h = let same : k ≡ number = cc in rw same
 
@@ -106,7 +109,8 @@ module _ (tb wb : List ℕ) (n : ℕ) (m : List ℕ) (a : Answer) (is : a ≡ ch
     unfolding unpacked rowReading firstNumber
     unpacked-full h g = rw (accepted-table, le-ltb 4096 n h, lt-ltb (length m) (2 * n) (omega arith))
 
-    pub unpacked-row : n ≤ 4096 → n ≤ length m / 2 → (o : Outcome Answer) → o ≡ rowOutcome m (withoutStray (stream wb) (readItems (wordsOf tb) n (stream wb))) → o ≡ unpacked tb wb n m
+    pub unpacked-row : n ≤ 4096 → n ≤ length m / 2 → (o : Outcome Answer)
+        → o ≡ rowOutcome m (withoutStray (stream wb) (readItems (wordsOf tb) n (stream wb))) → o ≡ unpacked tb wb n m
     unfolding unpacked rowReading
     unpacked-row h g o e =
         let room = lent-room (length m) n (omega arith) in

@@ -12,7 +12,8 @@ use Rattle.row_unpacker.specs.View.{Seen}
 use Rattle.row_unpacker.specs.declared.view.View.{View}
 
 -- from a place of the whole words on
-pub seen-stream : (ws : List ℕ) (at window left : ℕ) → window ≡ numOf (take 32 (drop at (stream ws))) → left ≡ min 64 (32 * (length ws / 4) - at)
+pub seen-stream : (ws : List ℕ) (at window left : ℕ)
+    → window ≡ numOf (take 32 (drop at (stream ws))) → left ≡ min 64 (32 * (length ws / 4) - at)
     → Seen (drop at (stream ws)) (record { window = window; left = left })
 seen-stream ws at window left e d = record {
   bits = below-drop at (stream ws) (below-flat 8 (take (4 * (length ws / 4)) ws));

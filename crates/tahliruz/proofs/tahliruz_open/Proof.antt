@@ -1,7 +1,11 @@
--- `tahliruz::tahliruz_open` meets its contract: the place of the start, as C has it. Assumes nothing.
-use mathlib.Core.Path.{ap, _∙_}
+-- `tahliruz::tahliruz_open` meets its contract: the place of the start, as C has it, beside its opening. Assumes nothing.
+use Prim.Native.Nat.{_≤_}
+use native.Mathlib.Omega.{arith}
+use mathlib.Core.Path.{_≡_, sym, ap, _∙_}
 use borrow.Author.Needs.{needs}
-use Rattle.tahliruz.specs.Items.{flatPlace}
+use Rattle.row_reader.specs.declared.step.Place.{Place}
+use Rattle.tahliruz.specs.Items.{flatPlace, readerOpened}
+use Rattle.tahliruz.specs.declared.item.ReaderOpened.{ReaderOpened}
 use Rattle.tahliruz.proofs.tahliruz_open.Statement.{statement}
 use Rattle.tahliruz.proofs.tahliruz_open.Tie as tie
 
@@ -9,10 +13,14 @@ start-requires : tie.Need-start-requires
 start-requires c κs = search needs
 
 flat-place-requires : tie.Need-flat-place-requires
-flat-place-requires c κs = search needs
+flat-place-requires c κs = rw (c .start .ensures) (omega arith)
+
+abbrev opened : Place → ReaderOpened
+opened p = record { number = p .opening; place = flatPlace p }
 
 returns : tie.Need-returns
-returns c = c .flat-place .ensures ∙ ap flatPlace (c .before .start .ensures)
+unfolding readerOpened
+returns c = rw (c .flat-place .ensures) (ap opened (c .before .start .ensures))
 
 pub tahliruz-open-spec : {M : Type 1} → statement M
 tahliruz-open-spec = tie.close (tie.spec start-requires flat-place-requires returns)

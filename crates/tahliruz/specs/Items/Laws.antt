@@ -1,24 +1,93 @@
--- The ways out of the item call. Assumes nothing.
-use Prim.Native.Nat.{ℕ, zero, suc}
+-- The ways out of the item call, and its numbers. Assumes nothing.
+use Prim.Native.Nat.{ℕ, zero, suc, _≤_}
+use native.Mathlib.Omega.{arith}
 use mathlib.Core.Path.{_≡_, refl, sym, ap, _∙_}
+use mathlib.Core.Bool.{Bool, true, false, not}
+use mathlib.Core.List.{List}
 use lib.IntN.{ℤ, pos}
+use lib.Dec.{ltb, eqb}
+use borrow.Author.Tests.{le-ltb}
+use Rattle.answer.specs.Outcome.{_orElse_, unless, refuseIf}
+use Rattle.answer.specs.Outcome.Laws.{orElse-in, refuseIf-in, unless-in, unless-first, unless-refused, unless-number, orElse-zero-left}
+use Rattle.row_format.specs.Table.{tableNumber}
+use Rattle.row_format.specs.Theorems.Numbers.{tableNumber-in}
+use Rattle.row_reader.specs.declared.step.Place.{Place}
 use Rattle.row_reader.specs.declared.step.ItemRead.{ItemRead}
+use Rattle.row_reader.specs.Step.{itemRead}
+use Rattle.row_reader.specs.Step.Laws.{possible, itemRead-in}
+use Rattle.row_reader.specs.Theorems.{reader-possible}
 use Rattle.tahliruz.specs.declared.item.ReaderPlace.{ReaderPlace}
 use Rattle.tahliruz.specs.declared.item.ItemAnswer.{ItemAnswer}
-use Rattle.tahliruz.specs.Items.{flatPlace, kindOf, stepOf, itemGiven, itemAnswer}
+use Rattle.tahliruz.specs.Items.{placeOf, bitOf, flatPlace, itemKind, itemStep, refusedItem, givenItem, nextNumber, nextItem}
 
--- x is the reading, as it was had and as it is defined
-module _ (p : ReaderPlace) (x r : ItemRead) (e : x ≡ r) where
-  refused-by : (n : ℕ) → (n ≡ 0 → ⊥) → _≡_ {A = ItemAnswer} (record { number = n; kind = 0; step = pos 0; pixel = 0; place = p }) (itemGiven n p r)
-  refused-by zero h = absurd (h refl)
-  refused-by (suc n) h = refl
+module _ (tb wb : List ℕ) (p : ReaderPlace) where
+  abbrev read : ItemRead
+  read = itemRead tb wb (placeOf p)
 
-  pub item-refused : (x .number ≡ 0 → ⊥) → _≡_ {A = ItemAnswer} (record { number = x .number; kind = 0; step = pos 0; pixel = 0; place = p }) (itemAnswer p r)
-  unfolding itemAnswer
-  item-refused h = refused-by (x .number) h ∙ ap (λ (y : ItemRead). itemGiven (y .number) p r) e
+  -- before the place is looked at
+  pub next-first : (n : ℕ) → n ≡ nextNumber tb p → (n ≡ 0 → ⊥) → refusedItem p n ≡ nextItem tb wb p
+  unfolding nextItem
+  next-first n is h = rw (← is) (sym (unless-first n (read .number) (refusedItem p) (givenItem read) h))
 
-  pub item-given : (k : ℕ) (z : ℤ) (q : ReaderPlace) → x .number ≡ 0 → k ≡ kindOf (x .item) → z ≡ stepOf (x .item) → q ≡ flatPlace (x .place)
-      → _≡_ {A = ItemAnswer} (record { number = 0; kind = k; step = z; pixel = x .pixel; place = q }) (itemAnswer p r)
-  unfolding itemAnswer
-  item-given k z q h ek ez eq =
-      rw (ek, ez, eq) (ap (λ (n : ℕ). itemGiven n p x) (sym h) ∙ ap (λ (y : ItemRead). itemGiven (y .number) p y) e)
+  -- x is the reading, as it was had
+  module _ (none : 0 ≡ nextNumber tb p) (x : ItemRead) (e : x ≡ read) where
+    -- the place after an item is a possible one, so that its bits fit 32 bits
+    pub next-at : x .number ≡ 0 → x .place .at ≤ 4294967295
+    next-at h =
+        let ok : tableNumber tb ≡ 0 = orElse-zero-left (tableNumber tb) _ (sym none) in
+        let after = possible (read .place) (reader-possible tb wb ok (placeOf p) (sym (ap (λ (r : ItemRead). r .number) e) ∙ h)) in
+        let same : x .place .at ≡ read .place .at = ap (λ (r : ItemRead). r .place .at) e in
+        omega (arith, after .near, after .few)
+
+    pub next-refused : (x .number ≡ 0 → ⊥) → refusedItem p (x .number) ≡ nextItem tb wb p
+    unfolding nextItem
+    next-refused h = rw (← none, ← e) (sym (unless-refused (x .number) (refusedItem p) (givenItem x) h))
+
+    pub next-given : (k : ℕ) (z : ℤ) (q : ReaderPlace) → x .number ≡ 0 → k ≡ itemKind (x .item) → z ≡ itemStep (x .item)
+        → q ≡ flatPlace (x .place)
+        → _≡_ {A = ItemAnswer} (record { number = 0; kind = k; step = z; pixel = x .pixel; place = q }) (nextItem tb wb p)
+    unfolding nextItem
+    next-given k z q h ek ez eq = rw (ek, ez, eq, ← none, ← e, h)
+
+-- ---- a refusal, and a step
+pub nextItem-kept : (tb wb : List ℕ) (p : ReaderPlace) → (nextItem tb wb p .number ≡ 0 → ⊥)
+    → nextItem tb wb p ≡ refusedItem p (nextItem tb wb p .number)
+unfolding nextItem
+nextItem-kept tb wb p =
+    let r = itemRead tb wb (placeOf p) in
+    unless-in (λ (a : ItemAnswer). (a .number ≡ 0 → ⊥) → a ≡ refusedItem p (a .number)) (nextNumber tb p orElse r .number)
+    (refusedItem p) (givenItem r) (λ k e h. refl) (λ e h. absurd (h refl))
+
+bit-small : (b : Bool) → bitOf b ≤ 1
+bit-small true = omega arith
+bit-small false = omega arith
+
+bit-not : (b : Bool) → not (eqb (bitOf b) 0) ≡ b
+bit-not true = refl
+bit-not false = refl
+
+-- C's numbers for a place stand for that place
+placeOf-flat : (pl : Place) → pl .opening ≡ 0 → placeOf (flatPlace pl) ≡ pl
+placeOf-flat pl o = λ i.
+    record {
+      at = pl .at;
+      count = pl .count;
+      progress = record { begun = bit-not (pl .progress .begun) i; previous = pl .progress .previous };
+      opening = sym o i;
+    }
+
+pub nextItem-step : (tb wb : List ℕ) (pl : Place) → tableNumber tb ≡ 0 → pl .opening ≡ 0
+    → nextItem tb wb (flatPlace pl) ≡ unless (itemRead tb wb pl .number) (refusedItem (flatPlace pl)) (givenItem (itemRead tb wb pl))
+unfolding nextItem
+nextItem-step tb wb pl ok o =
+    rw (ok, le-ltb 1 (bitOf (pl .progress .begun)) (bit-small (pl .progress .begun)), placeOf-flat pl o)
+
+-- ---- the numbers, over any property P that they have
+module _ (P : ℕ → Type 0) (p0 : P 0) (p1 : P 1) (p2 : P 2) (p3 : P 3) (p11 : P 11) where
+  pub nextItem-in : (tb wb : List ℕ) (p : ReaderPlace) → P 6 → P 7 → P 8 → P 9 → P (nextItem tb wb p .number)
+  unfolding nextItem
+  nextItem-in tb wb p p6 p7 p8 p9 =
+      let r = itemRead tb wb (placeOf p) in
+      let first = orElse-in P (tableNumber tb) _ (tableNumber-in P tb p0 p1 p2 p3) (refuseIf-in P (ltb 1 (p .begun)) 11 p0 p11) in
+      rw (unless-number (λ (a : ItemAnswer). a .number) (refusedItem p) (givenItem r) (λ k. refl) (nextNumber tb p orElse r .number) refl)
+      (orElse-in P (nextNumber tb p) (r .number) first (itemRead-in P p0 p1 p2 p3 p11 tb wb (placeOf p) p6 p7 p8 p9))

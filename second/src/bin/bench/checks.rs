@@ -14,14 +14,11 @@ const ENTRIES: [usize; 2] = [512, 8187];
 type Pair = (f64, f64);
 
 pub fn print() {
-    println!("table check, microseconds");
+    println!("Table check, microseconds, and how they grow from 515 strings to 8190");
+    println!("{:<18} {:^27}  {:^27}  {:^17}", "", "515 strings", "8190 strings", "8190 by 515");
     println!(
         "{:<18} {:>9} {:>9} {:>7}  {:>9} {:>9} {:>7}  {:>8} {:>8}",
-        "", "515", "515", "", "8190", "8190", "", "8190/515", "8190/515"
-    );
-    println!(
-        "{:<18} {:>9} {:>9} {:>7}  {:>9} {:>9} {:>7}  {:>8} {:>8}",
-        "strings", "proved", "second", "ratio", "proved", "second", "ratio", "proved", "second"
+        "shape and order", "proved", "second", "p/s", "proved", "second", "p/s", "proved", "second"
     );
     let mut random = Random::new(3);
     for shape in SHAPES {

@@ -1,14 +1,30 @@
-//! Prints the times of the proved library beside the second program's.
+//! Prints the times of the proved library beside the second program's, and what
+//! it packs rows into beside what other programs make of them.
 
 mod checks;
 #[cfg(feature = "rows")]
 mod fitted;
 #[cfg(feature = "rows")]
+mod heights;
+#[cfg(feature = "rows")]
+mod items;
+#[cfg(feature = "rows")]
 mod rows;
+#[cfg(feature = "rows")]
+mod sizes;
 mod timing;
 
 fn main() {
+    println!("Times, each the best of several runs on this machine:");
+    println!("  proved  the proved library, called as C calls it");
+    println!("  second  second/, an independent implementation in Rust");
+    println!("  p/s     proved divided by second: below 1 the proved library is faster");
+    println!();
     checks::print();
     #[cfg(feature = "rows")]
-    rows::print();
+    {
+        rows::print();
+        items::print();
+        sizes::print();
+    }
 }

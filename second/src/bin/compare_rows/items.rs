@@ -6,10 +6,10 @@ use second::compared::{walk, Items};
 use second::memory::Given;
 use second::random::Random;
 
-/// Reading an item looks through the table's strings, so a row costs its items
-/// times these. What costs more than this is read less often in proportion;
-/// long rows and large tables would take all the time otherwise.
-const WORK: usize = 2_000_000;
+/// Reading an item checks the table and looks through its strings, so a row
+/// costs its items times these. What costs more than this is read less often in
+/// proportion; long rows and large tables would take all the time otherwise.
+const WORK: usize = 60_000;
 
 /// Reads the words, about `items` of them, to the end and past it.
 pub fn compare(

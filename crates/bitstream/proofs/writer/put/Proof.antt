@@ -13,8 +13,10 @@ above-requires : tie.Need-above-requires
 above-requires c κs =
     let at-start = c .before .before in
     let args = at-start .args in
-    let ready = at-start .pre .0 in
-    (ready .good .few, above-fits (args .w .count) (args .n) (args .v) (args .w .acc) (ready .good .low) (at-start .pre .1) (ready .good .few) (ready .most))
+    let ready = at-start .pre .0 in (
+      ready .good .few,
+      above-fits (args .w .count) (args .n) (args .v) (args .w .acc) (ready .good .low) (at-start .pre .1) (ready .good .few) (ready .most),
+    )
 
 returns : tie.Need-returns
 returns c =

@@ -1,4 +1,5 @@
--- `code_table::check::check_codewords` meets its contract: the escape is too long, or a word is wrong, or the prefix test decides. Assumes nothing.
+-- `code_table::check::check_codewords` meets its contract: the escape is too long, or a word is wrong, or the prefix test
+-- decides. Assumes nothing.
 use Prim.Native.Nat.{ℕ, _-_, _/_, _%_, _<_}
 use native.Mathlib.Omega.{arith}
 use mathlib.Core.Path.{sym, ap, _∙_, subst}

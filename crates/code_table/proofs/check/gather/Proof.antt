@@ -1,4 +1,5 @@
--- `code_table::check::gather` meets its contract: the invariant is that the words so far are copied, right, and their longest length known; the measure is the count of words left. Assumes nothing.
+-- `code_table::check::gather` meets its contract: the invariant is that the words so far are copied, right, and their
+-- longest length known; the measure is the count of words left. Assumes nothing.
 mod Turn
 use Prim.Native.Nat.{_-_}
 use native.Mathlib.Omega.{arith}

@@ -4,7 +4,7 @@ use native.Mathlib.Omega.{arith}
 use mathlib.Core.Path.{ap, _∙_}
 use mir.Facts.{toZ-ofZ}
 use Rattle.row_format.specs.Table.{signed}
-use Rattle.code_table.specs.Entry.Laws.{signed-fits}
+use Rattle.code_table.specs.SignedLaws.{signed-fits}
 use Rattle.code_table.specs.Check.Laws.{whole-table-words}
 use Rattle.code_table.proofs.entry.difference_of.Statement.{statement}
 use Rattle.code_table.proofs.entry.difference_of.Tie as tie

@@ -3,7 +3,7 @@ use native.Mathlib.Omega.{arith}
 use borrow.Author.Needs.{needs}
 use mir.Syntax.{w32}
 use mir.Facts.{toZ-pos, toZ-ofZ}
-use Rattle.code_table.specs.Entry.Laws.{signed-fits}
+use Rattle.code_table.specs.SignedLaws.{signed-fits}
 use Rattle.code_table.proofs.entry.signed_of.Statement.{statement}
 use Rattle.code_table.proofs.entry.signed_of.Tie as tie
 

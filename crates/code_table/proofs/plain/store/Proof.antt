@@ -1,4 +1,5 @@
--- `code_table::plain::store` meets its contract: the invariant is that the words so far are stored and the rest is as it was; the measure is the count of words left. Assumes nothing.
+-- `code_table::plain::store` meets its contract: the invariant is that the words so far are stored and the rest is as it
+-- was; the measure is the count of words left. Assumes nothing.
 mod Turn
 use Prim.Native.Nat.{_-_}
 use lib.ListN.{length}

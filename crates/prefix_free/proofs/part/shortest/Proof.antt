@@ -36,8 +36,10 @@ loop-less c = search needs
 
 loop-again : tie.Need-loop-again Inv-loop μ-loop
 loop-again c =
-    let inv = c .before .before .before .loop .inv .1 in
-    (search needs, ⊎-elim (λ w. rw (w .1) (shortest-less inv (w .0 .taken))) (λ w. rw (w .1) (shortest-kept inv (w .0 .left))) (c .if1 .came))
+    let inv = c .before .before .before .loop .inv .1 in (
+      search needs,
+      ⊎-elim (λ w. rw (w .1) (shortest-less inv (w .0 .taken))) (λ w. rw (w .1) (shortest-kept inv (w .0 .left))) (c .if1 .came),
+    )
 
 returns : tie.Need-returns Inv-loop μ-loop
 returns c =

@@ -64,7 +64,8 @@ loop-again c =
     let at-turn = c .before .before .before .before in
     let r = at-turn .loop .inv .1 in
     let p = at-turn .loop .inv .2 in
-    (search needs, reordered-more (at-turn .loop .i) (at-turn .loop .zeros) r (omega arith) (omega arith), rw (c .bit .ensures) (parted-more p (omega arith)))
+    let order = reordered-more (at-turn .loop .i) (at-turn .loop .zeros) r (omega arith) (omega arith) in
+    (search needs, order, rw (c .bit .ensures) (parted-more p (omega arith)))
 
 same-length : tie.Need-same-length Inv-loop μ-loop
 same-length c = search needs

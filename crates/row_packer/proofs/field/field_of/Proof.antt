@@ -84,7 +84,8 @@ returns-3 c = rw (c .before .enum-told2 .given .1) (c .codeword-at3 .ensures)
 returns-4 : tie.Need-returns-4
 returns-4 c =
     let arm = c .before .before .before in
-    holds-escape (arm .item2 .given .1) (arm .before .before .before .pre .1 .1) (c .before .codeword-at4 .ensures) (c .with-height .ensures)
+    let codable = arm .before .before .before .pre .1 .1 in
+    holds-escape (arm .item2 .given .1) codable (c .before .codeword-at4 .ensures) (c .with-height .ensures)
 
 pub field-of-spec : {M : Type 1} → statement M
 field-of-spec =

@@ -28,7 +28,8 @@ returns-4 : tie.Need-returns-4
 returns-4 c =
     let low = c .before .before .before .before in
     let height = low .before .before .before in
-    chosen-difference (height .before .if1 .left) (height .if2 .left) (c .signed-of .ensures) (height .before .before .pre .1) (low .if3 .left) (c .before .if4 .taken)
+    chosen-difference (height .before .if1 .left) (height .if2 .left) (c .signed-of .ensures) (height .before .before .pre .1)
+    (low .if3 .left) (c .before .if4 .taken)
 
 returns-5 : tie.Need-returns-5
 returns-5 c =

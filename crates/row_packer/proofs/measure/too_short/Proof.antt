@@ -35,7 +35,8 @@ measure-requires c κs = search needs
 words-for-requires-2 : tie.Need-words-for-requires-2
 words-for-requires-2 c κs =
     let start = c .before .before .before .before .before in
-    omega (arith, c .measure .ensures, rowBits-most (start .pre .0) (start .args .pixels .now) (start .pre .1 .1 .0) (start .pre .1 .1 .1 .1))
+    let few = rowBits-most (start .pre .0) (start .args .pixels .now) (start .pre .1 .1 .0) (start .pre .1 .1 .1 .1) in
+    omega (arith, c .measure .ensures, few)
 
 -- the row is measured
 returns-2 : tie.Need-returns-2

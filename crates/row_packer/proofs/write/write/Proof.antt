@@ -35,7 +35,8 @@ start-requires-2 c κs = search needs
 loop-holds : tie.Need-loop-holds Inv-loop μ-loop
 loop-holds c =
     let args = c .before .before .before .before .before .args in
-    writing-none (wordsOf (args .table .now)) (halvesOf (args .pixels .now)) (args .words .now) (c .before .start .ensures) (c .start2 .ensures)
+    writing-none (wordsOf (args .table .now)) (halvesOf (args .pixels .now)) (args .words .now) (c .before .start .ensures)
+    (c .start2 .ensures)
 
 pixel-at-requires : tie.Need-pixel-at-requires Inv-loop μ-loop
 pixel-at-requires c κs = search needs
@@ -55,7 +56,8 @@ put-requires c κs =
     let turn = coded .before .before in
     let start = turn .before .before .before .before .before .before .before in
     let inside = inside-halves (start .args .pixels .now) (turn .loop-test .taken) in
-    let ready = writing-ready (turn .before .loop .inv) (start .pre .1 .1 .1 .1) inside (coded .before .pixel-at .ensures) (coded .encode .ensures) in
+    let pixel = coded .before .pixel-at .ensures in
+    let ready = writing-ready (turn .before .loop .inv) (start .pre .1 .1 .1 .1) inside pixel (coded .encode .ensures) in
     (ready (omega arith), search needs)
 
 add-i : tie.Need-add-i Inv-loop μ-loop
@@ -73,8 +75,8 @@ loop-again c =
     let turn = coded .before .before in
     let start = turn .before .before .before .before .before .before .before in
     let inside = inside-halves (start .args .pixels .now) (turn .loop-test .taken) in
-    writing-more (turn .before .loop .inv) (start .pre .1 .1 .1 .1) inside (coded .before .pixel-at .ensures) (coded .encode .ensures) (put .put .ensures)
-    (c .before .before .words .given)
+    writing-more (turn .before .loop .inv) (start .pre .1 .1 .1 .1) inside (coded .before .pixel-at .ensures)
+    (coded .encode .ensures) (put .put .ensures) (c .before .before .words .given)
 
 finish-requires : tie.Need-finish-requires Inv-loop μ-loop
 finish-requires c κs =
@@ -104,7 +106,8 @@ returns c =
     let all = past-halves (start .args .pixels .now) (done .loop-test .left) in
     let written = written-all (done .before .loop .inv) (start .pre .1 .1 .1 .1) all in
     rw (c .total .ensures)
-    (written (known .before .before .finish .ensures) (known .before .words2 .given) (record { below = λ i. known .slice-known3 .given i .fits }))
+    (written (known .before .before .finish .ensures) (known .before .words2 .given)
+    (record { below = λ i. known .slice-known3 .given i .fits }))
 
 pub write-spec : {M : Type 1} → statement M
 write-spec =

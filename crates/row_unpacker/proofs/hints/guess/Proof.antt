@@ -1,4 +1,5 @@
--- `hints::guess` is safe, and nothing more is claimed. The invariant says nothing; the measure is the lengths that are left. Assumes nothing.
+-- `hints::guess` is safe, and nothing more is claimed. The invariant says nothing; the measure is the lengths that are left.
+-- Assumes nothing.
 use Prim.Native.Nat.{_-_}
 use borrow.Author.Needs.{needs}
 use Rattle.row_unpacker.proofs.hints.guess.Statement.{statement}

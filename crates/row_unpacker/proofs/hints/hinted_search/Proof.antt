@@ -1,4 +1,5 @@
--- `hints::hinted_search`: a codeword that begins the rest is the only one, and where the hint has none the whole table is searched. Assumes nothing.
+-- `hints::hinted_search`: a codeword that begins the rest is the only one, and where the hint has none the whole table is
+-- searched. Assumes nothing.
 use borrow.Author.Needs.{needs}
 use Rattle.row_unpacker.proofs.search.Laws.{finds-only}
 use Rattle.row_unpacker.proofs.hints.hinted_search.Statement.{statement}

@@ -1,4 +1,5 @@
--- `hints::spread` is safe, and nothing more is claimed. The invariant says nothing; the measure is the heads that are left. Assumes nothing.
+-- `hints::spread` is safe, and nothing more is claimed. The invariant says nothing; the measure is the heads that are left.
+-- Assumes nothing.
 use Prim.Native.Nat.{_-_}
 use native.Mathlib.Omega.{arith}
 use lib.Pow.{pow-pos, pow-mono}

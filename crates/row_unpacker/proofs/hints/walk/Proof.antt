@@ -1,4 +1,5 @@
--- `hints::walk` is safe, and nothing more is claimed. The invariant says nothing; the measure is the word, whose next is less. Assumes nothing.
+-- `hints::walk` is safe, and nothing more is claimed. The invariant says nothing; the measure is the word, whose next is
+-- less. Assumes nothing.
 use native.Mathlib.Omega.{arith}
 use borrow.Author.Needs.{needs}
 use Rattle.row_unpacker.proofs.search.Laws.{words-most}

@@ -12,7 +12,8 @@ item-found-requires c κs =
     let start = c .before .before .before .before .before in
     let args = start .args in
     let the-hit = c .before .hit in
-    (start .pre .0, found-within (args .table .now) (args .words .now) (args .at) (args .p) (args .v) (start .pre .1 .0) (args .hit) (start .pre .1 .1) (the-hit .given .0 .0) (the-hit .given .1))
+    let within = found-within (args .table .now) (args .words .now) (args .at) (args .p) (args .v) (start .pre .1 .0) (args .hit) in
+    (start .pre .0, within (start .pre .1 .1) (the-hit .given .0 .0) (the-hit .given .1))
 
 enum-told : tie.Need-enum-told
 enum-told c = search needs

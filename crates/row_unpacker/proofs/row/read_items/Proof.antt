@@ -58,17 +58,19 @@ loop-less c = search needs
 
 loop-again : tie.Need-loop-again Inv-loop μ-loop
 loop-again c =
-    let start = c .before .before .before .before .before .before .before .before .before .before .before .before .before .before .before in
-    let args = start .args in
-    let the-loop = c .before .before .before .before .before .before .before .before .before .before .loop in
-    let the-loop-test = c .before .before .before .before .before .before .before .before .before .loop-test in
-    let the-hinted-item = c .before .before .before .before .before .before .before .before .hinted-item in
-    let the-read = c .before .before .before .before .before .before .read in
-    let the-put-u16 = c .before .before .before .put-u16 in
     let the-after = c .after in
+    let at-put-u16 = c .before .before .before in
+    let the-put-u16 = at-put-u16 .put-u16 in
+    let at-read = at-put-u16 .before .before .before in
+    let the-read = at-read .read in
+    let turn = at-read .before .before .before in
+    let the-hinted-item = at-read .before .before .hinted-item in
+    let the-loop = turn .before .loop in
+    let start = turn .before .before .before .before .before .before in
+    let args = start .args in
     partly-more (readItem (wordsOf (args .table .now))) (readItem-most (wordsOf (args .table .now))) (args .n)
     (stream (args .words .now)) (length (args .row .now)) (start .pre .1 .1) (the-loop .row) (the-loop .at) (the-loop .p)
-    (the-loop .i) (the-loop .inv) (the-loop-test .taken) (the-hinted-item .result)
+    (the-loop .i) (the-loop .inv) (turn .loop-test .taken) (the-hinted-item .result)
     (the-hinted-item .ensures ∙ itemAt-answered (args .table .now) (args .words .now) (the-loop .at) (the-loop .p))
     (the-read .given .0 .0) (the-read .given .0 .1 .0) (the-read .given .0 .1 .1 .0) (the-after .result)
     (the-put-u16 .last .0) (the-read .given .1) (the-after .ensures) (the-put-u16 .ensures)
@@ -84,15 +86,15 @@ same-length c =
 returns : tie.Need-returns Inv-loop μ-loop
 unfolding readItems
 returns c =
-    let start = c .before .before .before .before .before .before .before .before .before .before in
-    let args = start .args in
-    let the-loop = c .before .before .before .before .before .loop in
-    let the-loop-test = c .before .before .before .before .loop-test in
-    let the-hinted-item = c .before .before .before .hinted-item in
     let the-read2 = c .before .read2 in
+    let the-hinted-item = c .before .before .before .hinted-item in
+    let turn = c .before .before .before .before in
+    let the-loop = turn .before .loop in
+    let start = turn .before .before .before .before .before .before in
+    let args = start .args in
     partly-stop (readItem (wordsOf (args .table .now))) (readItem-most (wordsOf (args .table .now))) (args .n)
     (stream (args .words .now)) (length (args .row .now)) (start .pre .1 .1) (the-loop .row) (the-loop .at) (the-loop .p)
-    (the-loop .i) (the-loop .inv) (the-loop-test .taken) (the-hinted-item .result)
+    (the-loop .i) (the-loop .inv) (turn .loop-test .taken) (the-hinted-item .result)
     (the-hinted-item .ensures ∙ itemAt-answered (args .table .now) (args .words .now) (the-loop .at) (the-loop .p))
     (the-read2 .given .0 .0) (the-read2 .given .0 .1 .0) (the-loop .row) (the-read2 .given .1)
 

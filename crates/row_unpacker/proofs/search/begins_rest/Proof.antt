@@ -1,4 +1,5 @@
--- `search::begins_rest`: a codeword longer than the rest does not begin it; any other does where its bits are the window's lowest. Assumes nothing.
+-- `search::begins_rest`: a codeword longer than the rest does not begin it; any other does where its bits are the window's
+-- lowest. Assumes nothing.
 use native.Mathlib.Omega.{arith}
 use borrow.Author.Needs.{needs}
 use Rattle.row_unpacker.proofs.search.Laws.{begun-short, begun-low}

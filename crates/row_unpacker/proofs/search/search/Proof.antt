@@ -1,4 +1,5 @@
--- `search::search`. The invariant: no codeword in the words before word i begins the rest. The measure is the words that are left. Assumes nothing.
+-- `search::search`. The invariant: no codeword in the words before word i begins the rest. The measure is the words that are
+-- left. Assumes nothing.
 use Prim.Native.Nat.{_-_, _/_}
 use native.Mathlib.Omega.{arith}
 use lib.ListN.{length}

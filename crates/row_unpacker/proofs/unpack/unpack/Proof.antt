@@ -31,22 +31,24 @@ returns-3 c =
 
 unpack-row-requires : tie.Need-unpack-row-requires
 unpack-row-requires c κs =
-    let args = c .before .before .before .before .before .before .before .before .args in
-    let the-check = c .before .before .before .before .check in
-    (accepted-table (args .table .now) (args .words .now) (args .n) (args .pixels .now) (the-check .result) (the-check .ensures) (c .before .before .before .if1 .left), (omega arith, omega arith))
+    let at-if1 = c .before .before .before in
+    let the-check = at-if1 .before .check in
+    let args = at-if1 .before .before .before .before .before .args in
+    let accepted = accepted-table (args .table .now) (args .words .now) (args .n) (args .pixels .now) (the-check .result) in
+    (accepted (the-check .ensures) (at-if1 .if1 .left), (omega arith, omega arith))
 
 same-length : tie.Need-same-length
 same-length c = search needs
 
 returns-4 : tie.Need-returns-4
 returns-4 c =
-    let args = c .before .before .before .before .before .before .before .before .before .before .before .args in
-    let the-check = c .before .before .before .before .before .before .before .check in
-    let the-if1 = c .before .before .before .before .before .before .if1 in
-    let the-if2 = c .before .before .before .before .before .if2 in
-    let the-if3 = c .before .before .before .before .if3 in
+    let at-if3 = c .before .before .before .before in
+    let at-if2 = at-if3 .before in
+    let at-if1 = at-if2 .before in
+    let the-check = at-if1 .before .check in
+    let args = at-if1 .before .before .before .before .before .args in
     unpacked-row (args .table .now) (args .words .now) (args .n) (args .pixels .now) (the-check .result) (the-check .ensures)
-    (the-if1 .left) (the-if2 .left) (the-if3 .left) _ (c .before .before .unpack-row .ensures)
+    (at-if1 .if1 .left) (at-if2 .if2 .left) (at-if3 .if3 .left) _ (c .before .before .unpack-row .ensures)
 
 pub unpack-spec : {M : Type 1} → statement M
 unpack-spec =

@@ -22,9 +22,10 @@ stray-bit-requires c κs = search needs
 
 returns : tie.Need-returns
 returns c =
-    let args = c .before .before .before .before .before .before .before .before .before .before .before .args in
-    let the-read-row = c .before .before .before .before .before .before .read-row in
     let the-read = c .before .before .before .read in
+    let at-read-row = c .before .before .before .before .before .before in
+    let the-read-row = at-read-row .read-row in
+    let args = at-read-row .before .before .before .before .before .args in
     row-stray (stream (args .words .now)) (args .n) (args .pixels .now) (the-read-row .last .1 .1 .1 .0)
     (the-read-row .result) (the-read .given .0 .0) (the-read .given .1)
     (readItems (wordsOf (args .table .now)) (args .n) (stream (args .words .now))) (the-read-row .ensures)
@@ -41,10 +42,12 @@ copy-requires c κs = search needs
 
 cast-t19 : tie.Need-cast-t19
 cast-t19 c =
-    let start = c .before .before .before .before .before .before .before .before .before .before .before .before .before .before .before .before in
+    let at-read = c .before .before .before .before .before .before .before .before in
+    let the-read = at-read .read in
+    let at-read-row = at-read .before .before .before in
+    let the-read-row = at-read-row .read-row in
+    let start = at-read-row .before .before .before .before .before in
     let args = start .args in
-    let the-read-row = c .before .before .before .before .before .before .before .before .before .before .before .read-row in
-    let the-read = c .before .before .before .before .before .before .before .before .read in
     let used = row-used (stream (args .words .now)) (args .n) (args .pixels .now) (the-read-row .last .1 .1 .1 .0)
     (the-read-row .result) (the-read .given .0 .0) (the-read .given .1) (wordsOf (args .table .now)) (the-read-row .ensures) in
     record { fits = omega (arith, used, start .pre .1 .0) }
@@ -57,21 +60,23 @@ same-length c = search needs
 
 returns-2 : tie.Need-returns-2
 returns-2 c =
-    let args = c .before .before .before .before .before .before .before .before .before .before .before .before .before .before .before .before .args in
-    let the-read-row = c .before .before .before .before .before .before .before .before .before .before .before .read-row in
-    let the-read = c .before .before .before .before .before .before .before .before .read in
-    let the-stray-bit = c .before .before .before .before .before .before .stray-bit in
-    let the-if1 = c .before .before .before .before .before .if1 in
     let the-copy = c .before .before .copy in
+    let at-if1 = c .before .before .before .before .before in
+    let at-read = at-if1 .before .before .before in
+    let the-read = at-read .read in
+    let at-read-row = at-read .before .before .before in
+    let the-read-row = at-read-row .read-row in
+    let args = at-read-row .before .before .before .before .before .args in
     row-done (stream (args .words .now)) (args .n) (args .pixels .now) (the-read-row .last .1 .1 .1 .0)
     (the-read-row .result) (the-read .given .0 .0) (the-read .given .1) (wordsOf (args .table .now)) (the-read-row .ensures)
-    (sym (the-if1 .left) ∙ the-stray-bit .ensures) (the-copy .last .1 .1 .0) (the-copy .ensures)
+    (sym (at-if1 .if1 .left) ∙ at-if1 .before .stray-bit .ensures) (the-copy .last .1 .1 .0) (the-copy .ensures)
 
 returns-3 : tie.Need-returns-3
 returns-3 c =
-    let args = c .before .before .before .before .before .before .before .before .before .args in
-    let the-read-row = c .before .before .before .before .read-row in
     let the-read2 = c .before .read2 in
+    let at-read-row = c .before .before .before .before in
+    let the-read-row = at-read-row .read-row in
+    let args = at-read-row .before .before .before .before .before .args in
     row-refused (stream (args .words .now)) (args .n) (args .pixels .now) (the-read-row .last .1 .1 .1 .0)
     (the-read-row .result) (the-read2 .given .0 .0) (the-read2 .given .0 .1 .0) (the-read2 .given .1)
     (readItems (wordsOf (args .table .now)) (args .n) (stream (args .words .now))) (the-read-row .ensures)

@@ -2,7 +2,7 @@
 use mathlib.Core.Path.{sym, ap, _∙_}
 use borrow.Author.Needs.{needs}
 use mir.Facts.{toZ-ofZ}
-use Rattle.tahliruz.specs.Items.{stepOf}
+use Rattle.tahliruz.specs.Items.{itemStep}
 use Rattle.tahliruz.proofs.item.step_of.Statement.{statement}
 use Rattle.tahliruz.proofs.item.step_of.Tie as tie
 
@@ -19,16 +19,16 @@ enum-told-3 : tie.Need-enum-told-3
 enum-told-3 c = search needs
 
 returns : tie.Need-returns
-returns c = toZ-ofZ (search needs) ∙ sym (ap stepOf (c .before .item .given .1))
+returns c = toZ-ofZ (search needs) ∙ sym (ap itemStep (c .before .item .given .1))
 
 returns-2 : tie.Need-returns-2
-returns-2 c = sym (ap stepOf (c .enum-told .given .1))
+returns-2 c = sym (ap itemStep (c .enum-told .given .1))
 
 returns-3 : tie.Need-returns-3
-returns-3 c = sym (ap stepOf (c .enum-told2 .given .1))
+returns-3 c = sym (ap itemStep (c .enum-told2 .given .1))
 
 returns-4 : tie.Need-returns-4
-returns-4 c = sym (ap stepOf (c .enum-told3 .given .1))
+returns-4 c = sym (ap itemStep (c .enum-told3 .given .1))
 
 pub step-of-spec : {M : Type 1} → statement M
 step-of-spec =

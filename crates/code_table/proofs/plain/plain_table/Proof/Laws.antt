@@ -5,11 +5,9 @@ use mathlib.Core.List.{List, _++_}
 use lib.ListN.{length, drop}
 use borrow.Author.Tests.{le-ltb, lt-ltb}
 use Rattle.answer.specs.Outcome.{answerOf, outcome}
-use Rattle.bitstream.specs.Bits.{flat}
-use Rattle.bitstream.specs.Bits.Laws.{length-cut}
 use Rattle.row_format.specs.Plain.{plainTable, plainBytes}
 use Rattle.code_table.specs.Plain.{wordBytes, plainLent}
-use Rattle.code_table.specs.Plain.Laws.{length-plainTable}
+use Rattle.code_table.specs.Plain.Laws.{length-plainTable, length-plainBytes}
 
 pub plain-refused : (m : List ℕ) → length m < 2072 → outcome (answerOf 5 0) m ≡ plainLent m
 unfolding plainLent
@@ -23,5 +21,4 @@ pub plain-lent : (m m′ : List ℕ) → 2072 ≤ length m → m′ ≡ wordByte
     → outcome (answerOf 0 2072) m′ ≡ plainLent m
 unfolding plainLent
 plain-lent m m′ h e =
-    let size : length plainBytes ≡ 2072 = unfold plainBytes in length-cut 8 2072 (flat 32 plainTable) in
-    rw (le-ltb (length m) 2072 h, e, plain-wordBytes, length-plainTable, size)
+    rw (le-ltb (length m) 2072 h, e, plain-wordBytes, length-plainTable, length-plainBytes)

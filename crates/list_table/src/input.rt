@@ -1,5 +1,4 @@
 // A table's bytes from a file.
-ghost use Prim.Native.Nat.{_≤_};
 ghost use lib.ListN.{length};
 ghost use Rattle.list_table.specs.Input.{InputWithin};
 

@@ -8,7 +8,7 @@ ghost use mathlib.Core.Bool.{true};
 ghost use Prim.Native.Nat.{_≤_};
 ghost use lib.ListN.{length, take, drop};
 ghost use Rattle.row_format.specs.Table.{tableNumber};
-ghost use Rattle.table_listing.specs.Listing.{lines, joined, listing};
+ghost use Rattle.table_listing.specs.Listing.{lines, joined, tableListing};
 
 // number   the table's, 0 where it is accepted
 // bytes    the bytes that were printed
@@ -21,7 +21,7 @@ pub struct Printed {
 
 pub fn print_listing(table: &[u8]) -> Printed
     ensures number { λ r. ⌜ r .number ≡ tableNumber (now (table .entry)) ⌝ }
-    ensures whole { λ r. ⌜ (r .whole ≡ true → r .bytes ≡ length (listing (now (table .entry)))) ⌝ }
+    ensures whole { λ r. ⌜ (r .whole ≡ true → r .bytes ≡ length (tableListing (now (table .entry)))) ⌝ }
 {
     let mut block = io::large_buffer();
     print_blocks(table, &mut block)
@@ -32,7 +32,7 @@ pub fn print_listing(table: &[u8]) -> Printed
 fn print_blocks(table: &[u8], block: &mut [u8]) -> Printed
     requires { ⌜ 128 ≤ length (now block) ⌝ }
     ensures number { λ r. ⌜ r .number ≡ tableNumber (now (table .entry)) ⌝ }
-    ensures whole { λ r. ⌜ (r .whole ≡ true → r .bytes ≡ length (listing (now (table .entry)))) ⌝ }
+    ensures whole { λ r. ⌜ (r .whole ≡ true → r .bytes ≡ length (tableListing (now (table .entry)))) ⌝ }
 {
     let mut first = 0;
     let mut printed = 0;
@@ -69,7 +69,7 @@ fn print_refusal(table: &[u8], number: u32) -> Printed
     requires { ⌜ number ≡ tableNumber (now table) ⌝ }
     requires { ⌜ (number ≡ 0 → ⊥) ⌝ }
     ensures number { λ r. ⌜ r .number ≡ tableNumber (now (table .entry)) ⌝ }
-    ensures whole { λ r. ⌜ (r .whole ≡ true → r .bytes ≡ length (listing (now (table .entry)))) ⌝ }
+    ensures whole { λ r. ⌜ (r .whole ≡ true → r .bytes ≡ length (tableListing (now (table .entry)))) ⌝ }
 {
     let mut text = [0u8; 128];
     let n = put_refused_line(&mut text, 0, number);

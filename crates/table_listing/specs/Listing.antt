@@ -41,8 +41,8 @@ joined [] = []
 joined (l ∷ ls) = l ++ joined ls
 
 -- the whole listing
-abbrev pub listing : List ℕ → List ℕ
-listing b = joined (lines b)
+abbrev pub tableListing : List ℕ → List ℕ
+tableListing b = joined (lines b)
 
 -- ---- the call: a block of lines at the front of the memory m lent for it
 -- how many lines, from the first on, fit whole into a room
@@ -58,13 +58,8 @@ nextNumber (l ∷ ls) room = roomNumber (lent room) (length l)
 abbrev pub listedOf : ℕ → ℕ → ℕ → Listed
 listedOf e n k = record { number = e; lines = n; bytes = k }
 
--- the number where the next line does not fit and n lines are put before it
-abbrev pub stopNumber : ℕ → ℕ
-stopNumber zero = 5
-stopNumber (suc n) = 0
-
-abbrev pub notListed : ℕ → Listed
-notListed e = listedOf e 0 0
+abbrev pub noLines : ℕ → Listed
+noLines e = listedOf e 0 0
 
 -- so many of some lines
 abbrev pub linesPut : ℕ → List (List ℕ) → List ℕ → Outcome Listed
@@ -72,7 +67,7 @@ linesPut n ls m = writes (listedOf 0 n (length (joined (take n ls)))) (joined (t
 
 -- as many as fit, unless a number refuses the call; no lines where none are left
 unfoldable pub blockOf : ℕ → List (List ℕ) → List ℕ → Outcome Listed
-blockOf e ls m = unless e (λ k. outcome (notListed k) m) (linesPut (fitting (length m) ls) ls m)
+blockOf e ls m = unless e (λ k. outcome (noLines k) m) (linesPut (fitting (length m) ls) ls m)
 
 -- the lines that a table has from the line `first` on
 abbrev pub linesFrom : List ℕ → ℕ → List (List ℕ)

@@ -18,7 +18,7 @@ use Rattle.table_listing.specs.Order.{places, occurs, before}
 use Rattle.table_listing.specs.Order.Laws.{order-perm}
 use Rattle.table_listing.specs.Order.Once.{length-order, order-once, getD-places, length-places}
 use Rattle.table_listing.specs.Order.Sorted.{order-before}
-use Rattle.table_listing.specs.Listing.{treeOrder, stringLines, lines, joined, listing, notListed, block}
+use Rattle.table_listing.specs.Listing.{treeOrder, stringLines, lines, joined, tableListing, noLines, block}
 use Rattle.table_listing.specs.Listing.Laws.{strings-count, codewordAt-bits, lines-accepted, lines-refused}
 use Rattle.table_listing.specs.Listing.Blocks
 use Rattle.table_listing.specs.Listing.Answers
@@ -63,7 +63,7 @@ pub listing-refused : (b : List ℕ) → (tableNumber b ≡ 0 → ⊥) → lines
 listing-refused = lines-refused
 
 -- whoever reads a table need not keep more than 32773 bytes of it
-pub listing-cut : (n : ℕ) (b : List ℕ) → 32772 < n → listing (take n b) ≡ listing b
+pub listing-cut : (n : ℕ) (b : List ℕ) → 32772 < n → tableListing (take n b) ≡ tableListing b
 listing-cut n b h = ap joined (lines-cut n b h)
 
 -- ---- the call that gives the lines, a block at a time
@@ -104,7 +104,7 @@ block-numbers b first m = Answers.block-in b first m (λ e. any (eqb e) (0 ∷ 1
 
 -- "A refused call gives its number, zero for every count and value, and leaves the lent memory as found"
 pub block-refused-keeps : (b : List ℕ) (first : ℕ) (m : List ℕ) → (block b first m .answer .number ≡ 0 → ⊥)
-    → Kept (notListed (block b first m .answer .number)) m (block b first m)
+    → Kept (noLines (block b first m .answer .number)) m (block b first m)
 block-refused-keeps = Answers.block-kept
 
 -- "A done call writes only the pixels, words or bytes that it counts"

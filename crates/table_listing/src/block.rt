@@ -11,8 +11,8 @@ ghost use Rattle.bitstream.specs.Bits.{wordsOf, Below};
 ghost use Rattle.row_format.specs.Table.{tableSize};
 ghost use Rattle.code_table.specs.Check.{WholeTable};
 ghost use Rattle.table_listing.specs.Line.{line};
-ghost use Rattle.table_listing.specs.Listing.{stopNumber, listedOf, nextNumber, blockOf};
-ghost use Rattle.table_listing.specs.Append.{Appended};
+ghost use Rattle.table_listing.specs.Listing.{listedOf, nextNumber, blockOf};
+ghost use Rattle.table_listing.specs.Append.{Appended, stopNumber};
 
 // The lines of the strings at some places, from the place numbered `first` on.
 pub fn list_lines(table: &[u8], list: &[u16], first: usize, out: &mut [u8]) -> Listed

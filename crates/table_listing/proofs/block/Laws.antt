@@ -16,11 +16,11 @@ use Rattle.text.specs.Put.{Put}
 use Rattle.text.specs.Put.Laws.{put-none, put-put, put-start}
 use Rattle.text.specs.Text.{ascii, digit}
 use Rattle.table_listing.specs.declared.Listed.{Listed}
-use Rattle.table_listing.specs.Listing.{joined, fitting, nextNumber, stopNumber, listedOf, blockOf}
+use Rattle.table_listing.specs.Listing.{joined, fitting, nextNumber, listedOf, blockOf}
 use Rattle.table_listing.specs.Listing.Answers.{next-fits, next-all, next-not, blockOf-refused, blockOf-done}
 use Rattle.table_listing.specs.Line.{line, name}
 use Rattle.table_listing.specs.Line.Laws.{getD-map}
-use Rattle.table_listing.specs.Append.{Appended}
+use Rattle.table_listing.specs.Append.{Appended, stopNumber}
 
 -- k of the lines ls stand in the memory, which was m; at is the place after them
 pub record Filling (ls : List (List ℕ)) (m : List ℕ) (k at : ℕ) (m′ : List ℕ) : Type 0 where

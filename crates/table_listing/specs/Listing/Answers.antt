@@ -1,7 +1,7 @@
 -- What the call that gives blocks of lines answers. Assumes nothing.
 use Prim.Native.Nat.{ℕ, zero, suc, _+_, _-_, _≤_, _<_}
 use native.Mathlib.Omega.{arith}
-use mathlib.Core.Path.{_≡_, refl, sym, ap, _∙_}
+use mathlib.Core.Path.{_≡_, refl, sym, _∙_}
 use mathlib.Core.Logic.{_↔_}
 use mathlib.Core.List.{List, [], _∷_}
 use lib.ListN.{length, take, drop, getD, length-drop}
@@ -34,7 +34,7 @@ use Rattle.table_listing.specs.Listing.{
   joined,
   fitting,
   nextNumber,
-  notListed,
+  noLines,
   linesPut,
   blockOf,
   linesFrom,
@@ -83,7 +83,7 @@ next-in P room [] p0 p5 = p0
 next-in P room (l ∷ ls) p0 p5 = roomNumber-in P (lent room) (length l) p0 p5
 
 -- ---- what a call comes to
-pub blockOf-refused : (e : ℕ) (ls : List (List ℕ)) (m : List ℕ) → blockOf (suc e) ls m ≡ outcome (notListed (suc e)) m
+pub blockOf-refused : (e : ℕ) (ls : List (List ℕ)) (m : List ℕ) → blockOf (suc e) ls m ≡ outcome (noLines (suc e)) m
 unfolding blockOf
 blockOf-refused e ls m = refl
 
@@ -93,10 +93,10 @@ blockOf-done ls m = refl
 
 -- by the table's number
 pub block-refused : (b : List ℕ) (first : ℕ) (m : List ℕ) → (tableNumber b ≡ 0 → ⊥)
-    → block b first m ≡ outcome (notListed (tableNumber b)) m
+    → block b first m ≡ outcome (noLines (tableNumber b)) m
 unfolding block blockOf
 block-refused b first m some =
-    unless-first (tableNumber b) (nextNumber (linesFrom b first) (length m)) (λ k. outcome (notListed k) m)
+    unless-first (tableNumber b) (nextNumber (linesFrom b first) (length m)) (λ k. outcome (noLines k) m)
     (linesPut (fitting (length m) (linesFrom b first)) (linesFrom b first) m) some
 
 pub block-accepted : (b : List ℕ) (first : ℕ) (m : List ℕ) → tableNumber b ≡ 0
@@ -118,7 +118,7 @@ module _ (b : List ℕ) (first : ℕ) (m : List ℕ) where
   pub block-number : block b first m .answer .number ≡ tableNumber b orElse next
   unfolding block blockOf
   block-number =
-      unless-number (λ (o : Outcome Listed). o .answer .number) (λ k. outcome (notListed k) m) done (λ k. refl) (tableNumber b orElse next)
+      unless-number (λ (o : Outcome Listed). o .answer .number) (λ k. outcome (noLines k) m) done (λ k. refl) (tableNumber b orElse next)
       refl
 
   pub block-in : (P : ℕ → Type 0) → P 0 → P 1 → P 2 → P 3 → P 5 → P (block b first m .answer .number)
@@ -126,23 +126,23 @@ module _ (b : List ℕ) (first : ℕ) (m : List ℕ) where
       rw block-number
       (orElse-in P (tableNumber b) next (tableNumber-in P b p0 p1 p2 p3) (next-in P (length m) (linesFrom b first) p0 p5))
 
-  pub block-kept : (block b first m .answer .number ≡ 0 → ⊥) → Kept (notListed (block b first m .answer .number)) m (block b first m)
+  pub block-kept : (block b first m .answer .number ≡ 0 → ⊥) → Kept (noLines (block b first m .answer .number)) m (block b first m)
   unfolding block blockOf
   block-kept =
-      unless-kept notListed m done (λ (a : Listed). a .number) (λ k. refl) (tableNumber b orElse next) (λ some. absurd (some refl))
+      unless-kept noLines m done (λ (a : Listed). a .number) (λ k. refl) (tableNumber b orElse next) (λ some. absurd (some refl))
 
   pub block-within : Within (block b first m .answer .bytes) m (block b first m)
   unfolding block blockOf
   block-within =
       let text = joined (take most (linesFrom b first)) in
-      unless-in (λ (o : Outcome Listed). Within (o .answer .bytes) m o) (tableNumber b orElse next) (λ k. outcome (notListed k) m) done
+      unless-in (λ (o : Outcome Listed). Within (o .answer .bytes) m o) (tableNumber b orElse next) (λ k. outcome (noLines k) m) done
       (λ k e. record { size = refl; rest = refl })
       (λ e. writes-within (done .answer) (length text) text m refl (fitting-room (length m) (linesFrom b first)))
 
   pub block-bytes : block b first m .answer .bytes ≤ length m
   unfolding block blockOf
   block-bytes =
-      unless-in (λ (o : Outcome Listed). o .answer .bytes ≤ length m) (tableNumber b orElse next) (λ k. outcome (notListed k) m) done
+      unless-in (λ (o : Outcome Listed). o .answer .bytes ≤ length m) (tableNumber b orElse next) (λ k. outcome (noLines k) m) done
       (λ k e. omega arith) (λ e. fitting-room (length m) (linesFrom b first))
 
   pub block-text : take (block b first m .answer .bytes) (block b first m .memory)
@@ -151,7 +151,7 @@ module _ (b : List ℕ) (first : ℕ) (m : List ℕ) where
   block-text =
       let text = joined (take most (linesFrom b first)) in
       unless-in (λ (o : Outcome Listed). take (o .answer .bytes) (o .memory) ≡ joined (take (o .answer .lines) (drop first (lines b))))
-      (tableNumber b orElse next) (λ k. outcome (notListed k) m) done
+      (tableNumber b orElse next) (λ k. outcome (noLines k) m) done
       (λ k e. refl)
       (λ e. rw (lines-accepted b (orElse-zero-left (tableNumber b) next e)) (take-append-seam text (drop (length text) m)))
 

@@ -2,13 +2,13 @@
 use native.Mathlib.Omega.{arith}
 use mathlib.Core.Path.{_≡_, sym, ap, _∙_}
 use mathlib.Core.Bool.{false≢true}
-use mathlib.Core.List.{List, [], _∷_}
+use mathlib.Core.List.{[], _∷_}
 use lib.ListN.{length}
 use lib.Seq.{length-take-le}
 use borrow.Author.Needs.{needs}
 use Rattle.text.specs.Lines.{refusedLine}
 use Rattle.text.specs.Put.Laws.{put-front, put-start}
-use Rattle.table_listing.specs.Listing.{lines, joined, listing}
+use Rattle.table_listing.specs.Listing.{lines, joined, tableListing}
 use Rattle.table_listing.specs.Listing.Laws.{lines-refused, joined-one}
 use Rattle.list_table.proofs.print.print_refusal.Statement.{statement}
 use Rattle.list_table.proofs.print.print_refusal.Tie as tie
@@ -17,7 +17,7 @@ use Rattle.list_table.proofs.print.print_refusal.Tie as tie
 line-is : (c : tie.Start) → lines (c .args .table .now) ≡ refusedLine (c .args .number) ∷ []
 line-is c = rw (c .pre .0) (lines-refused (c .args .table .now) (λ e. c .pre .1 (c .pre .0 ∙ e)))
 
-listing-is : (c : tie.Start) → listing (c .args .table .now) ≡ refusedLine (c .args .number)
+listing-is : (c : tie.Start) → tableListing (c .args .table .now) ≡ refusedLine (c .args .number)
 listing-is c = ap joined (line-is c) ∙ joined-one (refusedLine (c .args .number))
 
 slice-aggregate-put-refused-line : tie.Need-slice-aggregate-put-refused-line

@@ -1,6 +1,6 @@
 -- `table_listing::block::list_lines`: before each turn the lines from the first on up to i stand in the memory; the measure
 -- is what is left of the places. Assumes nothing.
-use Prim.Native.Nat.{ℕ, _+_, _-_, _≤_, _<_}
+use Prim.Native.Nat.{ℕ, _+_, _-_, _≤_}
 use native.Mathlib.Omega.{arith}
 use mathlib.Core.Path.{_≡_}
 use mathlib.Core.List.{List, map}

@@ -18,8 +18,9 @@ returns : tie.Need-returns
 returns c =
     let judged = c .before .before in
     let args = judged .before .before .before .args in
+    let number = judged .next-number in
     c .refused .ensures
-    ∙ next-first (args .table .now) (args .words .now) (args .place) (judged .next-number .result) (judged .next-number .ensures) (c .before .if1 .taken)
+    ∙ next-first (args .table .now) (args .words .now) (args .place) (number .result) (number .ensures) (c .before .if1 .taken)
 
 place-of-requires : tie.Need-place-of-requires
 place-of-requires c κs = search needs

@@ -14,7 +14,11 @@ same-length : tie.Need-same-length
 same-length c = search needs
 
 returns : tie.Need-returns
-returns c = c .before .before .write-signed .ensures ∙ ap (λ (v : ℤ). signedWritten v (c .before .before .before .before .before .args .out .now)) (toZ-ofZ (c .before .before .before .before .before .fits .value))
+returns c =
+    let wrote = c .before .before in
+    let start = wrote .before .before .before in
+    let same = toZ-ofZ (start .fits .value) in
+    wrote .write-signed .ensures ∙ ap (λ (v : ℤ). signedWritten v (start .args .out .now)) same
 
 pub tahliruz-write-signed-spec : {M : Type 1} → statement M
 tahliruz-write-signed-spec = tie.close (tie.spec write-signed-requires same-length returns)

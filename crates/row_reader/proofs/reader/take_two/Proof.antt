@@ -90,7 +90,8 @@ module _ {M : Type 1} (𝓤 : URA M) (H : Heap 𝓤) (A : Atoms 𝓤) (at-mem : 
   abbrev Next : Contract 𝓤
   Next = tripleOf 𝓤 H A next.signature (next.spec 𝓤 H A at-mem run)
 
-module _ {M : Type 1} (𝓤 : URA M) (H : Heap 𝓤) (A : Atoms 𝓤) (W : Given 𝓤 H A) (at-mem : Memory → SProp 𝓤) (run : Routine → Fun 𝓤) (κ : Lft) (q : Share) where
+module _ {M : Type 1} (𝓤 : URA M) (H : Heap 𝓤) (A : Atoms 𝓤) (W : Given 𝓤 H A) (at-mem : Memory → SProp 𝓤) (run : Routine → Fun 𝓤)
+    (κ : Lft) (q : Share) where
   -- the lifetime's token in three parts: of the table, of the words, and of the lifetime that is made for a call
   abbrev qt : Share
   qt = PosShare·left q
@@ -206,14 +207,16 @@ module _ {M : Type 1} (𝓤 : URA M) (H : Heap 𝓤) (A : Atoms 𝓤) (W : Given
         → (x ≡ found h → Seq (Go {0}) W (‵ (cell (moved h x) l) ∷ ‵ (Own (moved h x)) ∷ ‵ (flft κ qc) ∷ tokens ∷ ‵ ftrue ∷ Γ) G)
         → Seq (Go {0}) W (raw (Said h l ν δ x) ∷ passed ν ∷ raw (Rest 𝓤 H A W ν qc) ∷ ‵ (Lent l ν δ) ∷ Γ) G
     comes ν δ x k =
-        use1 W (some (λ (ws : Reader × Unit {0}). ‵ (lasts next.ended (κs ν) (ref h l δ, tt) ws) ⊛ (raw (fact 𝓤 (x ≡ found h)) ⊛ raw (fact 𝓤 (ws .0 ≡ moved h x))))) (id⊢ 𝓤 _) $ pick ! (λ ws.
+        use1 W (some (λ (ws : Reader × Unit {0}). ‵ (lasts next.ended (κs ν) (ref h l δ, tt) ws) ⊛
+        (raw (fact 𝓤 (x ≡ found h)) ⊛ raw (fact 𝓤 (ws .0 ≡ moved h x))))) (id⊢ 𝓤 _) $ pick ! (λ ws.
         split ! $ move ! (1 ∷ []) $ split ! $ heard ! (x ≡ found h) (λ e. heard ! (ws .0 ≡ moved h x) (λ e′. fsplit ! $
         rewrite ! 0 (λ (r : Reader). ‵ (fres δ (R .coded .code r))) e′ refl $
         -- [the last value; true; the tokens; the rest of ν's; the lender's part]
         move ! (2 ∷ []) $ split ! $ move ! (0 ∷ 4 ∷ []) $
         use2 W (later (‵ (fdead (ν ∷ κ)) ⊛ ‵ (flft κ qc))) (within-end 𝓤 H A W ν κ qc) $ await ! z $ split ! $
         -- [dead; κ's token; the tokens; the last value; true; the lender's part]
-        move ! (0 ∷ 5 ∷ 3 ∷ []) $ use3 W (later (‵ (mem R .lies (moved h x) l 0))) (ref-back 𝓤 H A W R (ν ∷ κ) δ (moved h x) l 0) $ await ! z $
+        move ! (0 ∷ 5 ∷ 3 ∷ []) $ use3 W (later (‵ (mem R .lies (moved h x) l 0))) (ref-back 𝓤 H A W R (ν ∷ κ) δ (moved h x) l 0) $
+        await ! z $
         use1 W (‵ (cell (moved h x) l) ⊛ ‵ (Own (moved h x))) (lies-out (moved h x) l) $ split ! $ k e)))
 
   -- ---- the walk, of the slices s and t
@@ -256,16 +259,19 @@ module _ {M : Type 1} (𝓤 : URA M) (H : Heap 𝓤) (A : Atoms 𝓤) (W : Given
         move ! (1 ∷ []) $ fsplit ! $ use1 W (‵ OwnS ⊛ ‵ OwnS) (shr-slice-copy 𝓤 H A W (named 0) κ u8 .twice s (v ∷ [])) $ split ! $
         move ! (2 ∷ []) $ fsplit ! $ use1 W (‵ OwnT ⊛ ‵ OwnT) (shr-slice-copy 𝓤 H A W (named 0) κ u8 .twice t (w ∷ [])) $ split ! $
         -- [what the words own, twice; true; what the table owns, twice; the token]
-        move ! (0 ∷ 2 ∷ []) $ fjoin ! $ move ! (2 ∷ 0 ∷ []) $ fjoin ! $ nothing ! $ move ! (2 ∷ 0 ∷ []) $ fjoin ! $ move ! (2 ∷ 0 ∷ []) $ fjoin ! $
+        move ! (0 ∷ 2 ∷ []) $ fjoin ! $ move ! (2 ∷ 0 ∷ []) $ fjoin ! $ nothing ! $ move ! (2 ∷ 0 ∷ []) $ fjoin ! $ move ! (2 ∷ 0 ∷ []) $
+        fjoin ! $
         -- [what both own, twice; the token], which is split
         move ! (2 ∷ []) $ split ! $ use1 W (‵ (flft κ qt) ⊛ ‵ (flft κ (PosShare·right q))) (W .lfts .lft-split κ q) $ split ! $
         move ! (1 ∷ []) $ use1 W (‵ (flft κ qw) ⊛ ‵ (flft κ qc)) (W .lfts .lft-split κ (PosShare·right q)) $ split ! $
         -- [qw; qc; qt; true; both, twice]
         nothing ! $ move ! (1 ∷ 0 ∷ []) $ join ! $ move ! (2 ∷ 0 ∷ []) $ join ! $
         -- [the tokens; qc; true; both, twice]
-        move ! (0 ∷ 3 ∷ []) $ use2 W (raw (Open 𝓤 H A at-mem run .pre to-open)) (qed W (tokens ∷ ‵ Both ∷ []) ∵ join ! $ frame ! $ done !) $ frame ! $ done !
+        move ! (0 ∷ 3 ∷ []) $ use2 W (raw (Open 𝓤 H A at-mem run .pre to-open)) (qed W (tokens ∷ ‵ Both ∷ []) ∵ join ! $ frame ! $
+        done !) $ frame ! $ done !
 
-    open-said : (r : Reader) → ent 𝓤 (ensured 𝓤 H A opens.ended (opens.clauses 𝓤 H A at-mem run) (κ, (κ, tt)) (s, (t, tt)) tt r) (fact 𝓤 (r ≡ made))
+    open-said : (r : Reader)
+        → ent 𝓤 (ensured 𝓤 H A opens.ended (opens.clauses 𝓤 H A at-mem run) (κ, (κ, tt)) (s, (t, tt)) tt r) (fact 𝓤 (r ≡ made))
     open-said r = exE 𝓤 _ (λ ws. snd∗ 𝓤 (sem 𝓤 H A (lasts opens.ended (κ, (κ, tt)) (s, (t, tt)) ws)) (fact 𝓤 (r ≡ made)))
 
     -- the two answers, by what is known of the reader and of each call
@@ -294,66 +300,97 @@ module _ {M : Type 1} (𝓤 : URA M) (H : Heap 𝓤) (A : Atoms 𝓤) (W : Given
         move ! (2 ∷ []) $ split ! $ move ! (1 ∷ []) $ split ! $
         move ! (0 ∷ 4 ∷ []) $ use2 W (‵ (flft κ (PosShare·right q))) (W .lfts .lft-join κ (PosShare·right q)) $
         move ! (2 ∷ 0 ∷ []) $ use2 W (‵ (flft κ q)) (W .lfts .lft-join κ q) $ join ! $
-        suffices ! _ (ends-at 𝓤 H A take-two.ended stayed (take-two.clauses 𝓤 H A at-mem run) W (((κ, tt), (q, tt), tt, (s, (t, tt)), at), tt) (result z) z (tt, (tt, tt)) (tt, (tt, tt))) $ says ! e $
+        suffices ! _ (ends-at 𝓤 H A take-two.ended stayed (take-two.clauses 𝓤 H A at-mem run) W
+        (((κ, tt), (q, tt), tt, (s, (t, tt)), at), tt) (result z) z (tt, (tt, tt)) (tt, (tt, tt))) $ says ! e $
         frame ! $ move ! (1 ∷ []) $ frame ! $ done !
 
-    module _ (C : Calls 𝓤 H) (Λ : Loops 𝓤 H) (fm : FmC 𝓤 H (W .laws) C) (known-open : Triple 𝓤 (C #open) (Open 𝓤 H A at-mem run)) (known-next : Triple 𝓤 (C #next) (Next 𝓤 H A at-mem run)) where
+    module _ (C : Calls 𝓤 H) (Λ : Loops 𝓤 H) (fm : FmC 𝓤 H (W .laws) C) (known-open : Triple 𝓤 (C #open) (Open 𝓤 H A at-mem run))
+        (known-next : Triple 𝓤 (C #next) (Next 𝓤 H A at-mem run)) where
       walk : Is (ShrSlice (named 0) κ u8) s (v ∷ []) → Is (ShrSlice (named 0) κ u8) t (w ∷ [])
           → ent 𝓤 (onEntry 𝓤 H A take-two.signature (κ, tt) (q, tt) (s, (t, tt)) at) (WpFn 𝓤 H C Λ code.function (v ∷ w ∷ []) Post)
       walk p p′ =
           qed W (raw (onEntry 𝓤 H A take-two.signature (κ, tt) (q, tt) (s, (t, tt)) at) ∷ []) ∵ enter ! C Λ code.function (v ∷ w ∷ []) _ $
-          alloc1 ! (λ l₀. alloc1 ! (λ l₁. alloc1 ! (λ l₂. alloc1 ! (λ l₃. alloc1 ! (λ l₄. alloc1 ! (λ l₅. alloc1 ! (λ l₆. alloc1 ! (λ l₇. alloc1 ! (λ l₈. alloc0 ! $ params1 ! $
-          pass1 ! (init ! 14 refl (shr-slice-lawful 𝓤 H A W (named 0) κ u8 .typed s (v ∷ []) p .0)) $ pass1 ! (init ! 12 refl (shr-slice-lawful 𝓤 H A W (named 0) κ u8 .typed t (w ∷ []) p′ .0)) $ pass0 ! $
+          alloc1 ! (λ l₀. alloc1 ! (λ l₁. alloc1 ! (λ l₂. alloc1 ! (λ l₃. alloc1 ! (λ l₄. alloc1 ! (λ l₅. alloc1 ! (λ l₆. alloc1 !
+          (λ l₇. alloc1 ! (λ l₈. alloc0 ! $ params1 ! $
+          pass1 ! (init ! 14 refl (shr-slice-lawful 𝓤 H A W (named 0) κ u8 .typed s (v ∷ []) p .0)) $
+          pass1 ! (init ! 12 refl (shr-slice-lawful 𝓤 H A W (named 0) κ u8 .typed t (w ∷ []) p′ .0)) $ pass0 ! $
           -- [room for _8; …; room for _3; …; _2; …; _1; …; room for _0; …; on entry]
           move ! (18 ∷ []) $ use1 W (raw (Open 𝓤 H A at-mem run .pre to-open) ⊛ (‵ (flft κ qc) ⊛ ‵ ftrue ⊛ ‵ Both)) goes-open $ split ! $
-          calls-at ! fm (Open 𝓤 H A at-mem run) known-open to-open (and-then ! (load ! (from ! (stop !)) (look ! 16 refl)) (and-then ! (load ! (from ! (stop !)) (look ! 14 refl)) (no-more !))) (λ u.
-          use1 W (later (some (λ (r : Reader). (tokens ⊛ ‵ (R .own r (u ∷ []))) ⊛ raw (ensured 𝓤 H A opens.ended (opens.clauses 𝓤 H A at-mem run) (κ, (κ, tt)) (s, (t, tt)) tt r)))) (id⊢ 𝓤 _) $ await ! tt $ pick ! (λ r.
+          calls-at ! fm (Open 𝓤 H A at-mem run) known-open to-open
+          (and-then ! (load ! (from ! (stop !)) (look ! 16 refl)) (and-then ! (load ! (from ! (stop !)) (look ! 14 refl)) (no-more !)))
+          (λ u.
+          use1 W (later (some (λ (r : Reader). (tokens ⊛ ‵ (R .own r (u ∷ []))) ⊛ raw
+          (ensured 𝓤 H A opens.ended (opens.clauses 𝓤 H A at-mem run) (κ, (κ, tt)) (s, (t, tt)) tt r)))) (id⊢ 𝓤 _) $ await ! tt $
+          pick ! (λ r.
           split ! $ move ! (1 ∷ []) $ use1 W (raw (fact 𝓤 (r ≡ made))) (open-said r) $ heard ! (r ≡ made) (λ e. split ! $ move ! (1 ∷ []) $
           -- [what the reader owns; the tokens; what is kept; room for _8; …]
           peeks ! R (Is R) (shows 𝓤 H A R) r (u ∷ []) (λ is.
           land ! (from ! (stop !)) (init ! 7 refl (LL.lawful (T.the-type αᵉ βᵉ) (T′.the-laws αᵉ βᵉ) 𝓤 H A W .typed r _ is .0)) $
-          rewrite ! 7 (λ (x : Val). ‵ (fat fullShare (T′.mir erased erased) l₆ 0 x)) (ap only (spelled r u is)) refl $ rewrite ! 0 (λ (vs : List Val). ‵ (R .own r vs)) (spelled r u is) refl $
-          assigns ! (of-opd ! (load ! (from ! (stop !)) (look ! 7 refl))) (from ! (stop !)) (init ! 13 refl (LL.lawful (T.the-type αᵉ βᵉ) (T′.the-laws αᵉ βᵉ) 𝓤 H A W .typed r _ (known r u is) .0)) $
+          rewrite ! 7 (λ (x : Val). ‵ (fat fullShare (T′.mir erased erased) l₆ 0 x)) (ap only (spelled r u is)) refl $
+          rewrite ! 0 (λ (vs : List Val). ‵ (R .own r vs)) (spelled r u is) refl $
+          assigns ! (of-opd ! (load ! (from ! (stop !)) (look ! 7 refl))) (from ! (stop !))
+          (init ! 13 refl (LL.lawful (T.the-type αᵉ βᵉ) (T′.the-laws αᵉ βᵉ) 𝓤 H A W .typed r _ (known r u is) .0)) $
           assigns ! (addr ! (from ! (stop !))) (from ! (stop !)) (init ! 5 refl (tt, tt)) $
           move ! (2 ∷ []) $ split ! $ move ! (1 ∷ []) $ split ! $ move ! (15 ∷ 3 ∷ 2 ∷ 4 ∷ 0 ∷ []) $
           -- [_3; what it owns; κ's token; the tokens; true; what both own; room for _8; …]
           lends tt r l₃ (λ ν δ.
-          calls-at ! fm (Next 𝓤 H A at-mem run) known-next (to-next r l₃ ν δ) (and-then ! (load ! (from ! (stop !)) (look ! 6 refl)) (no-more !)) (λ u₁.
-          use1 W (later (some (λ (x : ItemRead). (passed ν ⊛ ‵ (I.the-row .own x (u₁ ∷ []))) ⊛ raw (Said r l₃ ν δ x)))) (id⊢ 𝓤 _) $ await ! tt $ pick ! (λ x.
+          calls-at ! fm (Next 𝓤 H A at-mem run) known-next (to-next r l₃ ν δ)
+          (and-then ! (load ! (from ! (stop !)) (look ! 6 refl)) (no-more !)) (λ u₁.
+          use1 W (later (some (λ (x : ItemRead). (passed ν ⊛ ‵ (I.the-row .own x (u₁ ∷ []))) ⊛ raw (Said r l₃ ν δ x)))) (id⊢ 𝓤 _) $
+          await ! tt $ pick ! (λ x.
           split ! $ split ! $ move ! (1 ∷ []) $ peeks ! I.the-row (Is I.the-row) (shows 𝓤 H A I.the-row) x (u₁ ∷ []) (λ is₁.
           land ! (from ! (stop !)) (init ! 14 refl (LL.lawful I.the-type I′.the-laws 𝓤 H A W .typed x _ is₁ .0)) $
-          rewrite ! 14 (λ (y : Val). ‵ (fat fullShare I′.mir l₄ 0 y)) (ap only (spelledI x u₁ is₁)) refl $ rewrite ! 0 (λ (vs : List Val). ‵ (I.the-row .own x vs)) (spelledI x u₁ is₁) refl $
+          rewrite ! 14 (λ (y : Val). ‵ (fat fullShare I′.mir l₄ 0 y)) (ap only (spelledI x u₁ is₁)) refl $
+          rewrite ! 0 (λ (vs : List Val). ‵ (I.the-row .own x vs)) (spelledI x u₁ is₁) refl $
           move ! (2 ∷ 1 ∷ 3 ∷ 4 ∷ []) $ comes tt r l₃ ν δ x (λ e₁.
           -- [_3; what it owns; κ's token; the tokens; true; the first answer; what both own; room for _8; …]
           assigns ! (addr ! (from ! (stop !))) (from ! (stop !)) (init ! 7 refl (tt, tt)) $
           lends tt (moved r x) l₃ (λ ν′ δ′.
-          calls-at ! fm (Next 𝓤 H A at-mem run) known-next (to-next (moved r x) l₃ ν′ δ′) (and-then ! (load ! (from ! (stop !)) (look ! 5 refl)) (no-more !)) (λ u₂.
-          use1 W (later (some (λ (y : ItemRead). (passed ν′ ⊛ ‵ (I.the-row .own y (u₂ ∷ []))) ⊛ raw (Said (moved r x) l₃ ν′ δ′ y)))) (id⊢ 𝓤 _) $ await ! tt $ pick ! (λ y.
+          calls-at ! fm (Next 𝓤 H A at-mem run) known-next (to-next (moved r x) l₃ ν′ δ′)
+          (and-then ! (load ! (from ! (stop !)) (look ! 5 refl)) (no-more !)) (λ u₂.
+          use1 W (later (some (λ (y : ItemRead). (passed ν′ ⊛ ‵ (I.the-row .own y (u₂ ∷ []))) ⊛ raw (Said (moved r x) l₃ ν′ δ′ y))))
+          (id⊢ 𝓤 _) $ await ! tt $ pick ! (λ y.
           split ! $ split ! $ move ! (1 ∷ []) $ peeks ! I.the-row (Is I.the-row) (shows 𝓤 H A I.the-row) y (u₂ ∷ []) (λ is₂.
           land ! (from ! (stop !)) (init ! 13 refl (LL.lawful I.the-type I′.the-laws 𝓤 H A W .typed y _ is₂ .0)) $
-          rewrite ! 13 (λ (x : Val). ‵ (fat fullShare I′.mir l₅ 0 x)) (ap only (spelledI y u₂ is₂)) refl $ rewrite ! 0 (λ (vs : List Val). ‵ (I.the-row .own y vs)) (spelledI y u₂ is₂) refl $
+          rewrite ! 13 (λ (x : Val). ‵ (fat fullShare I′.mir l₅ 0 x)) (ap only (spelledI y u₂ is₂)) refl $
+          rewrite ! 0 (λ (vs : List Val). ‵ (I.the-row .own y vs)) (spelledI y u₂ is₂) refl $
           move ! (2 ∷ 1 ∷ 3 ∷ 4 ∷ []) $ comes tt (moved r x) l₃ ν′ δ′ y (λ e₂.
           -- [_3; what it owns; κ's token; the tokens; true; the second answer; the first; what both own; _8; …]
-          move ! (5 ∷ 4 ∷ []) $ fjoin ! $ move ! (5 ∷ 0 ∷ []) $ fjoin ! $ use1 W (‵ (OwnK (both x y))) (own-shut 𝓤 H A W K.the-type K′.the-laws (x, (y, tt))) $
+          move ! (5 ∷ 4 ∷ []) $ fjoin ! $ move ! (5 ∷ 0 ∷ []) $ fjoin ! $
+          use1 W (‵ (OwnK (both x y))) (own-shut 𝓤 H A W K.the-type K′.the-laws (x, (y, tt))) $
           -- [the result; _3; what it owns; κ's token; the tokens; what both own; _8; …; _4; …; …; _2; …; _1; …; room for _0; …]
           peeks ! K.the-row (Is K.the-row) (shows 𝓤 H A K.the-row) (both x y) (result (both x y) ∷ []) (λ is₃.
-          assigns ! (agg ! (and-then ! (load ! (from ! (stop !)) (look ! 14 refl)) (and-then ! (load ! (from ! (stop !)) (look ! 12 refl)) (no-more !)))) (from ! (stop !)) (init ! 21 refl (LL.lawful K.the-type K′.the-laws 𝓤 H A W .typed (both x y) _ is₃ .0)) $
-          returns ! (look ! 21 refl) $ forget ! 1 refl $ forget ! 6 refl $ forget ! 8 refl $ forget ! 10 refl $ forget ! 12 refl $ forget ! 14 refl $ forget ! 17 refl $ forget ! 19 refl $ forget ! 21 refl $
-          move ! (21 ∷ 22 ∷ []) $ free1 ! $ move ! (19 ∷ 20 ∷ []) $ free1 ! $ move ! (17 ∷ 18 ∷ []) $ free1 ! $ move ! (1 ∷ 16 ∷ []) $ free1 ! $
-          move ! (13 ∷ 14 ∷ []) $ free1 ! $ move ! (11 ∷ 12 ∷ []) $ free1 ! $ move ! (9 ∷ 10 ∷ []) $ free1 ! $ move ! (7 ∷ 8 ∷ []) $ free1 ! $ move ! (5 ∷ 6 ∷ []) $ free1 ! $ free0 ! $
+          assigns ! (agg ! (and-then ! (load ! (from ! (stop !)) (look ! 14 refl))
+          (and-then ! (load ! (from ! (stop !)) (look ! 12 refl)) (no-more !)))) (from ! (stop !))
+          (init ! 21 refl (LL.lawful K.the-type K′.the-laws 𝓤 H A W .typed (both x y) _ is₃ .0)) $
+          returns ! (look ! 21 refl) $ forget ! 1 refl $ forget ! 6 refl $ forget ! 8 refl $ forget ! 10 refl $ forget ! 12 refl $
+          forget ! 14 refl $ forget ! 17 refl $ forget ! 19 refl $ forget ! 21 refl $
+          move ! (21 ∷ 22 ∷ []) $ free1 ! $ move ! (19 ∷ 20 ∷ []) $ free1 ! $ move ! (17 ∷ 18 ∷ []) $ free1 ! $ move ! (1 ∷ 16 ∷ []) $
+          free1 ! $
+          move ! (13 ∷ 14 ∷ []) $ free1 ! $ move ! (11 ∷ 12 ∷ []) $ free1 ! $ move ! (9 ∷ 10 ∷ []) $ free1 ! $ move ! (7 ∷ 8 ∷ []) $
+          free1 ! $ move ! (5 ∷ 6 ∷ []) $ free1 ! $ free0 ! $
           move ! (1 ∷ []) $ drop ! $ by ! (exits (both x y) (taken-is r x y e e₁ e₂))))))))))))))))))))))))))
 
 module _ {M : Type 1} (𝓤 : URA M) (H : Heap 𝓤) (A : Atoms 𝓤) (W : Given 𝓤 H A) (mem : Memory → SProp 𝓤) (run : Routine → Fun 𝓤) where
-  take-two-walks : (C : Calls 𝓤 H) (Λ : Loops 𝓤 H) → FmC 𝓤 H (W .laws) C → Triple 𝓤 (C #open) (Open 𝓤 H A mem run) → Triple 𝓤 (C #next) (Next 𝓤 H A mem run)
+  take-two-walks : (C : Calls 𝓤 H) (Λ : Loops 𝓤 H) → FmC 𝓤 H (W .laws) C → Triple 𝓤 (C #open) (Open 𝓤 H A mem run)
+      → Triple 𝓤 (C #next) (Next 𝓤 H A mem run)
       → Walks 𝓤 H A take-two.ended stayed (WpFn 𝓤 H C Λ code.function) (take-two.clauses 𝓤 H A mem run)
-  take-two-walks C Λ fm known-open known-next = walked 𝓤 H A take-two.ended stayed (take-two.clauses 𝓤 H A mem run) (WpFn 𝓤 H C Λ code.function) (λ κs. (slice-vals, (slice-vals, tt))) (λ κs. (shr-slice-tells (named 0) (κs .0) u8, (shr-slice-tells (named 0) (κs .0) u8, tt)))
-      (λ κs qs bounds a g are. via 𝓤 _ (fst∗ 𝓤 _ (emp 𝓤)) (walk 𝓤 H A W mem run (κs .0) (qs .0) (a .0) (a .1 .0) C Λ fm known-open known-next (are .0) (are .1 .0)))
+  take-two-walks C Λ fm known-open known-next =
+      walked 𝓤 H A take-two.ended stayed (take-two.clauses 𝓤 H A mem run) (WpFn 𝓤 H C Λ code.function)
+      (λ κs. (slice-vals, (slice-vals, tt))) (λ κs. (shr-slice-tells (named 0) (κs .0) u8, (shr-slice-tells (named 0) (κs .0) u8, tt)))
+      (λ κs qs bounds a g are. via 𝓤 _ (fst∗ 𝓤 _ (emp 𝓤))
+      (walk 𝓤 H A W mem run (κs .0) (qs .0) (a .0) (a .1 .0) C Λ fm known-open known-next (are .0) (are .1 .0)))
 
-take-two-meets : {M : Type 1} (𝓤 : URA M) (H : Heap 𝓤) (A : Atoms 𝓤) (W : Given 𝓤 H A) (mem : Memory → SProp 𝓤) (run : Routine → Fun 𝓤) (𝓣 : Tables 𝓤 H)
+take-two-meets : {M : Type 1} (𝓤 : URA M) (H : Heap 𝓤) (A : Atoms 𝓤) (W : Given 𝓤 H A) (mem : Memory → SProp 𝓤) (run : Routine → Fun 𝓤)
+    (𝓣 : Tables 𝓤 H)
     → Triple 𝓤 (𝓣 .C #open) (Open 𝓤 H A mem run) → Triple 𝓤 (𝓣 .C #next) (Next 𝓤 H A mem run)
     → Meets 𝓤 H A take-two.signature (WpFn 𝓤 H (𝓣 .C) (𝓣 .Λ) code.function) (take-two.spec 𝓤 H A mem run)
 take-two-meets 𝓤 H A W mem run 𝓣 known-open known-next =
-    walk-meets 𝓤 H A take-two.ended stayed W (goes-none-slice 𝓤 H A W 1 (0 ∷ []) tt (plain (λ _. u8)) yes, (goes-none-slice 𝓤 H A W 1 (0 ∷ []) tt (plain (λ _. u8)) yes, tt)) (take-two.clauses 𝓤 H A mem run) (WpFn 𝓤 H (𝓣 .C) (𝓣 .Λ) code.function) (WpFn-mono 𝓤 H (W .laws) 𝓣 code.function)
+    walk-meets 𝓤 H A take-two.ended stayed W (
+      goes-none-slice 𝓤 H A W 1 (0 ∷ []) tt (plain (λ _. u8)) yes,
+      (goes-none-slice 𝓤 H A W 1 (0 ∷ []) tt (plain (λ _. u8)) yes, tt),
+    ) (take-two.clauses 𝓤 H A mem run)
+    (WpFn 𝓤 H (𝓣 .C) (𝓣 .Λ) code.function) (WpFn-mono 𝓤 H (W .laws) 𝓣 code.function)
     (take-two-walks 𝓤 H A W mem run (𝓣 .C) (𝓣 .Λ) (fmOf 𝓤 H (W .laws) 𝓣) known-open known-next)
 
 pub take-two-spec : {M : Type 1} → stated.statement M
@@ -362,5 +399,7 @@ take-two-spec 𝓤 H 𝓜 𝓖 𝓡 =
     entered 𝓤 H (tripleOf 𝓤 H (𝓖 .A) take-two.signature (take-two.spec 𝓤 H (𝓖 .A) (𝓜 .mem) (𝓡 .run)))
     (tables 𝓤 H 𝓜 𝓡 code.env .C) (tables 𝓤 H 𝓜 𝓡 code.env .Λ) #take-two code.function (code.unfolded 𝓤 H 𝓜 𝓡)
     (take-two-meets 𝓤 H (𝓖 .A) (givenOf 𝓤 H 𝓜 𝓖) (𝓜 .mem) (𝓡 .run) (tablesOf 𝓤 H 𝓜 (tables 𝓤 H 𝓜 𝓡 code.env))
-    (cited 𝓤 H (Open 𝓤 H (𝓖 .A) (𝓜 .mem) (𝓡 .run)) 𝓜 𝓡 code.env #open open-def.routine code.calls-row-reader·reader·open (open-thm.met 𝓤 H 𝓜 𝓖 𝓡))
-    (cited 𝓤 H (Next 𝓤 H (𝓖 .A) (𝓜 .mem) (𝓡 .run)) 𝓜 𝓡 code.env #next next-def.routine code.calls-row-reader·reader·next (next-thm.met 𝓤 H 𝓜 𝓖 𝓡)))
+    (cited 𝓤 H (Open 𝓤 H (𝓖 .A) (𝓜 .mem) (𝓡 .run)) 𝓜 𝓡 code.env #open open-def.routine code.calls-row-reader·reader·open
+    (open-thm.met 𝓤 H 𝓜 𝓖 𝓡))
+    (cited 𝓤 H (Next 𝓤 H (𝓖 .A) (𝓜 .mem) (𝓡 .run)) 𝓜 𝓡 code.env #next next-def.routine code.calls-row-reader·reader·next
+    (next-thm.met 𝓤 H 𝓜 𝓖 𝓡)))

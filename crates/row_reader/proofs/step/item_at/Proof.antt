@@ -17,9 +17,10 @@ refused-requires c κs = search needs
 returns : tie.Need-returns
 returns c =
     let judged = c .before .before in
-    let start = judged .before .before .before in
+    let args = judged .before .before .before .args in
+    let number = judged .place-number in
     c .refused .ensures
-    ∙ step-refused (start .args .table .now) (start .args .words .now) (start .args .place) (judged .place-number .result) (judged .place-number .ensures) (c .before .if1 .taken)
+    ∙ step-refused (args .table .now) (args .words .now) (args .place) (number .result) (number .ensures) (c .before .if1 .taken)
 
 -- the place is a possible one
 read-item-requires : tie.Need-read-item-requires

@@ -1,6 +1,7 @@
 // What the programs share: a command line's options and files, and what is said on standard error. No contract can say what
 // an argument's bytes are, nor what is read or written; what an argument is, by its bytes, is in specs/Argument.antt.
 pub mod argument;
+pub mod input;
 pub mod say;
 
 use argument::Argument;

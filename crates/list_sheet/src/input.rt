@@ -1,59 +1,46 @@
-// A record from standard input.
+// A record's bytes from a descriptor.
+use crate::PROGRAM;
 use bitstream::number::read_u32;
-use libc::STDIN_FILENO;
+use command::input::Filled;
+use command::input::fill;
 use sheet_format::MAX_RECORD_BYTES;
-ghost use Prim.Native.Nat.{_≤_};
-ghost use lib.ListN.{length};
-
-// count    how many bytes came, 0 at the end of the sheet
-// failed   whether reading failed, which is said on standard error
-pub struct Filled {
-    pub count: usize,
-    pub failed: bool,
-}
+ghost use mathlib.Core.Path.{_≡_};
+ghost use mathlib.Core.List.{List};
+ghost use Prim.Native.Nat.{ℕ, _≤_};
+ghost use lib.ListN.{length, take};
+ghost use Rattle.sheet_format.specs.Record.{lengthField, recordSpan};
+ghost use Rattle.sheet_listing.specs.Turns.{heldOf};
 
 // Four bytes, and as many more as they say where a record may have that length: enough to judge it, whatever stands there
-// (sheet_format, `record-span`). So the rules of a record stand in its reader alone.
-pub fn fill(bytes: &mut [u8]) -> Filled
+// (sheet_format, `record-span`), and no more. Fewer come only at the input's end; none come at the sheet's.
+pub fn fill_record(file: i32, name: &[u8], bytes: &mut [u8]) -> Filled
     requires { ⌜ 32778 ≤ length (now bytes) ⌝ }
-    ensures { λ r. ⌜ r .count ≤ 32778 ⌝ }
+    ensures within { λ r. ⌜ r .count ≤ 32778 ⌝ }
+    ensures held { λ r. ⌜ take (r .count) (now (bytes .exit)) ≡ heldOf (take (r .count) (now (bytes .exit))) ⌝ }
 {
-    let front = io::read_full(STDIN_FILENO, &mut bytes[..4]);
-    if front < 4 {
-        return short(front);
+    let front = fill(&PROGRAM, name, file, &mut bytes[..4]);
+    if front.count < 4 {
+        return front;
     }
-    let length = read_u32(bytes, 0) as usize;
-    if MAX_RECORD_BYTES - 4 < length {
-        return Filled {
-            count: 4,
-            failed: false,
-        };
-    }
-    let end = 4 + length;
-    let rest = io::read_full(STDIN_FILENO, &mut bytes[4..end]);
-    if rest < length {
-        return short(4 + rest);
-    }
+    let end = span(read_u32(bytes, 0));
+    let rest = fill(&PROGRAM, name, file, &mut bytes[4..end]);
     Filled {
-        count: end,
-        failed: false,
+        count: 4 + rest.count,
+        failed: rest.failed,
     }
 }
 
-// Fewer bytes came than were asked for: the input has ended, or reading it failed. Only one more read tells which.
-fn short(count: usize) -> Filled
-    ensures { λ r. ⌜ r .count ≤ count ⌝ }
+// The bytes to hold of a record that says it has such a length.
+fn span(length: u32) -> usize
+    ensures spans { λ r. ⌜ ((b : List ℕ) → lengthField b ≡ length → recordSpan b ≡ r) ⌝ }
+    ensures within { λ r. ⌜ (4 ≤ r) × (r ≤ 32778) ⌝ }
 {
-    let mut one = [0u8; 1];
-    if libc::read(STDIN_FILENO, &mut one) < 0 {
-        os::fail(b"standard input");
-        return Filled {
-            count,
-            failed: true,
-        };
+    let length = length as usize;
+    if length < 2 {
+        return 4;
     }
-    Filled {
-        count,
-        failed: false,
+    if MAX_RECORD_BYTES - 4 < length {
+        return 4;
     }
+    4 + length
 }

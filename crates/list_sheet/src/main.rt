@@ -1,40 +1,58 @@
-// Lists the sheet on standard input: a line for each record, then `done rows N` or `refused N at record K`. The sheet may
-// have any length: one record is held at a time, and the output goes out in blocks.
+// Lists sheets: of each a line for each record, then `done rows N` or `refused N at record K`. A sheet may have any length:
+// one record is held at a time, and its line goes out as soon as it is known.
+mod files;
 mod input;
-mod output;
+mod list;
 mod turn;
 
-use output::finish;
-use turn::begin;
-use turn::take_turn;
-ghost use Prim.Native.Nat.{_≤_};
-ghost use lib.ListN.{length};
+use command::Request;
+use command::read_request;
+use command::say::complain;
+use command::say::print_version;
+use command::say::refuse_option;
+use files::list_files;
+use libc::STDERR_FILENO;
+use libc::STDOUT_FILENO;
+
+pub const PROGRAM: [u8; 10] = *b"list_sheet";
 
 fn main() {
-    let mut bytes = [0u8; 32778];
-    let mut table = [0u8; 32772];
-    let mut block = [0u8; 65536];
-    list_sheet(&mut bytes, &mut table, &mut block);
+    match read_request() {
+        Request::Help => print_help(),
+        Request::Version => print_program(),
+        Request::Unknown(i) => refuse(i),
+        Request::Files(files) => list_files(files),
+    }
 }
 
-// bytes    the record that is listed
-// table    the sheet's table, from its first record on
-// block    the lines that are not written yet
-// index    the records listed so far: a number that no run uses up, so that the loop ends
-fn list_sheet(bytes: &mut [u8], table: &mut [u8], block: &mut [u8])
-    requires { ⌜ 32778 ≤ length (now bytes) ⌝ }
-    requires { ⌜ 32772 ≤ length (now table) ⌝ }
-    requires { ⌜ 128 ≤ length (now block) ⌝ }
-{
-    let mut at = begin();
-    let mut index: u64 = 0;
-    while index < u64::MAX {
-        let turn = take_turn(bytes, table, block, at, index);
-        if turn.ended {
-            finish(turn, index, block);
-            return;
-        }
-        at = turn.next;
-        index += 1;
+fn print_help() {
+    if help(STDOUT_FILENO) {
+        return;
     }
+    complain(&PROGRAM, b"standard output");
+}
+
+fn print_program() {
+    print_version(&PROGRAM);
+}
+
+fn refuse(i: usize) {
+    refuse_option(&PROGRAM, i);
+    help(STDERR_FILENO);
+}
+
+fn help(file: i32) -> bool {
+    io::write_all(
+        file,
+        b"usage: list_sheet [FILE ...]
+
+Lists the records of each sheet, a line each, and says at the end how many rows
+there are, or at which record and by which rule it is refused. With no FILE, and
+where FILE is -, it reads standard input.
+
+  --help     prints this
+  --version  prints the version
+  --         ends the options
+",
+    )
 }

@@ -1,50 +1,51 @@
-// One turn: a record is read, judged and listed.
-use crate::input::fill;
-use crate::output::make_room;
+// One turn: a record is read and judged, and its line, or the last one, put into lent memory.
+use crate::input::fill_record;
 use sheet_format::RecordRead;
 use sheet_format::SheetState;
 use sheet_format::kind::is_row;
 use sheet_format::kind::is_table;
-use sheet_listing::Listed;
+use sheet_listing::list_end;
 use sheet_listing::list_record;
 use text::put::put_bytes;
 ghost use mathlib.Core.Path.{_≡_};
-ghost use mathlib.Core.Bool.{true, cond};
+ghost use mathlib.Core.Bool.{true, false};
 ghost use Prim.Native.Nat.{_+_, _-_, _≤_, _<_};
 ghost use lib.ListN.{length, take, drop};
-ghost use lib.Dec.{eqb};
 ghost use Rattle.sheet_format.specs.Context.{newSheet, stateOf};
 ghost use Rattle.sheet_format.specs.Kind.{tableKept};
 ghost use Rattle.sheet_format.specs.Kinds.{kindOf};
+ghost use Rattle.sheet_listing.specs.Line.{lastLine};
 ghost use Rattle.sheet_listing.specs.Listing.{rowsOf};
-ghost use Rattle.list_sheet.specs.Sound.{Sound};
-ghost use Rattle.list_sheet.specs.Step.{Put, Turned};
+ghost use Rattle.sheet_listing.specs.Turns.{endNumber, turnOf};
+ghost use Rattle.list_sheet.specs.Step.{carriedBy, turnedBy, Fits, TurnMade};
 
 // What is carried from record to record.
 // state    what the sheet holds so far
 // kept     the bytes of its table
-// filled   the bytes of the block that are not written yet
-// rows     the rows listed so far
+// index    the records listed so far
+// rows     the rows among them
 pub struct Progress {
     pub state: SheetState,
     pub kept: usize,
-    pub filled: usize,
+    pub index: u64,
     pub rows: u64,
 }
 
-// ended    whether the sheet has ended here
-// failed   whether reading or writing failed, so that there is no last line
-// number   the last line's number, 0 where the sheet is accepted
+// failed   whether reading failed, so that there is no line
+// last     whether the sheet has ended here
+// taken    the bytes that were read, none at the sheet's end
+// count    the bytes of the line
 // next     what is carried on
 pub struct Turn {
-    pub ended: bool,
     pub failed: bool,
-    pub number: u32,
+    pub last: bool,
+    pub taken: usize,
+    pub count: usize,
     pub next: Progress,
 }
 
 pub fn begin() -> Progress
-    ensures { λ r. ⌜ r ≡ record { state = stateOf newSheet; kept = 0; filled = 0; rows = 0 } ⌝ }
+    ensures { λ r. ⌜ r ≡ record { state = stateOf newSheet; kept = 0; index = 0; rows = 0 } ⌝ }
 {
     Progress {
         state: SheetState {
@@ -52,108 +53,114 @@ pub fn begin() -> Progress
             least_row: 0,
         },
         kept: 0,
-        filled: 0,
+        index: 0,
         rows: 0,
     }
 }
 
+// What is read moves to the front of `bytes`: only that they are the input's bytes is left to tests.
 pub fn take_turn(
+    file: i32,
+    name: &[u8],
     bytes: &mut [u8],
     table: &mut [u8],
-    block: &mut [u8],
+    line: &mut [u8],
     at: Progress,
-    index: u64,
 ) -> Turn
     requires { ⌜ 32778 ≤ length (now bytes) ⌝ }
     requires { ⌜ 32772 ≤ length (now table) ⌝ }
-    requires { ⌜ index < 18446744073709551615 ⌝ }
-    requires { ⌜ 128 ≤ length (now block) ⌝ }
-    requires { ⌜ Sound at index (now table) (now block) ⌝ }
-    ensures sound { λ r. ⌜ Sound (r .next) (index + 1) (now (table .exit)) (now (block .exit)) ⌝ }
-    ensures room { λ r. ⌜ (r .ended ≡ true → r .next .filled + 128 ≤ length (now (block .exit))) ⌝ }
+    requires { ⌜ 128 ≤ length (now line) ⌝ }
+    requires { ⌜ at .index < 18446744073709551615 ⌝ }
+    requires { ⌜ Fits at (now table) ⌝ }
+    ensures taken { λ r. ⌜ r .taken ≤ 32778 ⌝ }
+    ensures line { λ r. ⌜ r .count ≤ length (now (line .exit)) ⌝ }
+    ensures fits { λ r. ⌜ Fits (r .next) (now (table .exit)) ⌝ }
+    ensures made { λ r. ⌜ (r .failed ≡ false → TurnMade (take (r .taken) (now (bytes .exit))) at (now (table .entry)) r (now (table .exit)) (now (line .exit))) ⌝ }
 {
-    let room = make_room(block, at.filled);
-    let state = at.state;
-    let start = Progress {
-        state,
-        kept: at.kept,
-        filled: room.filled,
-        rows: at.rows,
-    };
-    if room.failed {
-        return last(0, true, start);
-    }
-    let got = fill(bytes);
-    if got.failed {
-        return last(0, true, start);
-    }
+    let got = fill_record(file, name, bytes);
     let count = got.count;
-    if count == 0 {
-        return last(number_at_end(index), false, start);
+    if got.failed {
+        return unread(at);
     }
-    list_one(&bytes[..count], table, block, start)
+    if count == 0 {
+        return end(0, number_at_end(at.index), at, line);
+    }
+    list_one(&bytes[..count], table, line, at)
 }
 
 // "A sheet with no records is refused 16".
 fn number_at_end(index: u64) -> u32
-    ensures { λ r. ⌜ r ≡ cond (eqb index 0) 16 0 ⌝ }
+    ensures { λ r. ⌜ r ≡ endNumber index ⌝ }
 {
     if index == 0 { 16 } else { 0 }
 }
 
-fn last(number: u32, failed: bool, at: Progress) -> Turn
-    ensures { λ r. ⌜ r ≡ record { ended = true; failed = failed; number = number; next = at } ⌝ }
+// Reading failed.
+pub fn unread(at: Progress) -> Turn
+    ensures { λ r. ⌜ r ≡ record { failed = true; last = true; taken = 0; count = 0; next = at } ⌝ }
 {
     Turn {
-        ended: true,
-        failed,
-        number,
+        failed: true,
+        last: true,
+        taken: 0,
+        count: 0,
         next: at,
     }
 }
 
-// The record's line goes to the block, and a table to `table`.
-fn list_one(bytes: &[u8], table: &mut [u8], block: &mut [u8], at: Progress) -> Turn
-    requires { ⌜ 32772 ≤ length (now table) ⌝ }
-    requires { ⌜ at .rows < 18446744073709551615 ⌝ }
-    requires { ⌜ at .kept ≤ length (now table) ⌝ }
-    requires { ⌜ at .filled + 128 ≤ length (now block) ⌝ }
-    ensures sound { λ r. ⌜ Sound (r .next) (at .rows + 1) (now (table .exit)) (now (block .exit)) ⌝ }
-    ensures stays { λ r. ⌜ (r .ended ≡ true → r .next ≡ at) ⌝ }
-    ensures turned { λ r. ⌜ Turned (now (bytes .entry)) at (now (table .entry)) (now (block .entry)) r (now (table .exit)) (now (block .exit)) ⌝ }
+// The last line.
+fn end(taken: usize, number: u32, at: Progress, line: &mut [u8]) -> Turn
+    requires { ⌜ 128 ≤ length (now line) ⌝ }
+    ensures turn { λ r. ⌜ r ≡ record { failed = false; last = true; taken = taken; count = length (lastLine number (at .index) (at .rows)); next = at } ⌝ }
+    ensures within { λ r. ⌜ r .count ≤ length (now (line .exit)) ⌝ }
+    ensures line { λ r. ⌜ take (r .count) (now (line .exit)) ≡ lastLine number (at .index) (at .rows) ⌝ }
 {
-    let listed = put_line(bytes, table, block, at);
-    let read = listed.read;
-    let number = read.number;
-    if number != 0 {
-        return last(number, false, at);
-    }
-    let kept = keep_table(read, bytes, table, at.kept);
-    let filled = at.filled + listed.count as usize;
-    let rows = rows_after(read.kind, at.rows);
-    let state = read.state;
+    let last = list_end(number, at.index, at.rows, line);
     Turn {
-        ended: false,
         failed: false,
-        number: 0,
-        next: Progress {
-            state,
-            kept,
-            filled,
-            rows,
-        },
+        last: true,
+        taken,
+        count: last.count as usize,
+        next: at,
     }
 }
 
-fn put_line(bytes: &[u8], table: &[u8], block: &mut [u8], at: Progress) -> Listed
-    requires { ⌜ at .kept ≤ length (now table) ⌝ }
-    requires { ⌜ at .filled + 128 ≤ length (now block) ⌝ }
-    ensures { λ r. ⌜ Put (now (bytes .entry)) at (now (table .entry)) (now (block .entry)) r (now (block .exit)) ⌝ }
+// The record's line goes to `line`, and a table to `table`.
+fn list_one(bytes: &[u8], table: &mut [u8], line: &mut [u8], at: Progress) -> Turn
+    requires { ⌜ 0 < length (now bytes) ⌝ }
+    requires { ⌜ 32772 ≤ length (now table) ⌝ }
+    requires { ⌜ 128 ≤ length (now line) ⌝ }
+    requires { ⌜ at .index < 18446744073709551615 ⌝ }
+    requires { ⌜ Fits at (now table) ⌝ }
+    ensures taken { λ r. ⌜ r .taken ≡ length (now (bytes .entry)) ⌝ }
+    ensures line { λ r. ⌜ r .count ≤ length (now (line .exit)) ⌝ }
+    ensures fits { λ r. ⌜ Fits (r .next) (now (table .exit)) ⌝ }
+    ensures made { λ r. ⌜ turnedBy r (now (table .exit)) (now (line .exit)) ≡ turnOf (carriedBy at (now (table .entry))) (now (bytes .entry)) ⌝ }
 {
     let kept = at.kept;
-    let filled = at.filled;
     let state = at.state;
-    list_record(&table[..kept], bytes, state, &mut block[filled..])
+    let listed = list_record(&table[..kept], bytes, state, line);
+    let read = listed.read;
+    let number = read.number;
+    if number != 0 {
+        return end(bytes.len(), number, at, line);
+    }
+    let count = listed.count as usize;
+    let kept = keep_table(read, bytes, table, at.kept);
+    let rows = rows_after(read.kind, at.rows);
+    let state = read.state;
+    Turn {
+        failed: false,
+        last: false,
+        taken: bytes.len(),
+        count,
+        next: Progress {
+            state,
+            kept,
+            index: at.index + 1,
+            rows,
+        },
+    }
 }
 
 // A table is kept for the rows that follow. The answer is its bytes, or those kept before.

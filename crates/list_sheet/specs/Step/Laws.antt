@@ -1,92 +1,217 @@
--- The laws of a turn: the line that is put, the table that is kept, the rows that are counted. Assumes nothing.
-use Prim.Native.Nat.{ℕ, _+_, _-_, _≤_}
+-- The laws of a turn: the bytes that are held, the line, the table that is kept, the rows that are counted. Assumes nothing.
+use Prim.Native.Nat.{ℕ, _+_, _-_, _≤_, _<_}
 use native.Mathlib.Omega.{arith}
 use mathlib.Core.Path.{_≡_, refl, sym, ap, _∙_}
 use mathlib.Core.Bool.{true, false}
-use mathlib.Core.List.{List, _++_, append-assoc}
-use lib.ListN.{length, take, drop, length-append, length-drop}
-use lib.Seq.{take-at, length-take-le}
+use mathlib.Core.List.{List, [], _++_}
+use lib.ListN.{length, take, drop, length-append, length-take}
+use lib.Seq.{take-at, take-all, take-take, length-take-le}
 use lib.Dec.{eqb}
-use borrow.Author.Tests.{eqb-true, eqb-false, le-ltb}
-use borrow.Rule.Slice.PartMut.{put-same}
-use Rattle.bitstream.specs.Memory.Part.{partFrom, withPart, part-is, part-back}
+use borrow.Author.Tests.{eqb-true, eqb-false, le-ltb, lt-ltb}
+use borrow.Rule.Slice.PartMut.{putMid}
+use Rattle.bitstream.specs.Bits.{numberOf}
 use Rattle.answer.specs.declared.Answer.{Answer}
 use Rattle.answer.specs.Outcome.{Outcome, outcome, wrote}
 use Rattle.row_format.specs.Lists.Laws.{by-test, true-false}
 use Rattle.sheet_format.specs.declared.RecordRead.{RecordRead}
+use Rattle.sheet_format.specs.Context.{newSheet, stateOf}
 use Rattle.sheet_format.specs.Kind.{Payload, aTable, aRow, aLine, noPayload, isTable, isRow, tableKept}
+use Rattle.sheet_format.specs.Record.{lengthField, recordSpan}
+use Rattle.sheet_format.specs.Reading.{recordJudged}
 use Rattle.sheet_format.specs.Reading.Laws.{judged-body}
+use Rattle.sheet_format.specs.Sheet.{recordHere}
 use Rattle.sheet_format.specs.Theorems.{record-length}
 use Rattle.sheet_listing.specs.declared.Listed.{Listed}
+use Rattle.sheet_listing.specs.Line.{recordLine, lastLine}
 use Rattle.sheet_listing.specs.Listed.{lineGiven, recordListed}
 use Rattle.sheet_listing.specs.Listed.Laws.{listed-refused, recordListed-fits}
 use Rattle.sheet_listing.specs.Listing.{rowsOf}
-use Rattle.sheet_listing.specs.Turns.{holdsOf}
+use Rattle.sheet_listing.specs.Turns.{heldOf, holdsOf, Carried, heldBy, carriedNext, Turned, lastTurn, endNumber, turnOf, NextLine, EndLine}
+use Rattle.sheet_listing.specs.Turns.Laws.{span-least, turnOf-refused, turnOf-accepted, turnOf-goes-on}
+use Rattle.sheet_listing.specs.Turns.Taken.{carries-none, carries-more, end-line}
 use Rattle.list_sheet.specs.declared.turn.Progress.{Progress}
 use Rattle.list_sheet.specs.declared.turn.Turn.{Turn}
-use Rattle.list_sheet.specs.Step.{keptTable, pending, heldBy, judgedAt, lineAt, Put, Turned}
+use Rattle.list_sheet.specs.Step.{carriedBy, turnedBy, TurnMade, Underway}
+
+-- ---- the bytes of a record
+-- four bytes or fewer are held whole
+pub held-short : (b : List ℕ) → length b ≤ 4 → b ≡ heldOf b
+held-short b h = sym (take-all (recordSpan b) b (omega (arith, span-least b)))
+
+-- and so are as many as the length says, or fewer
+pub held-span : (b : List ℕ) {n : ℕ} → recordSpan b ≡ n → length b ≤ n → b ≡ heldOf b
+held-span b span h = sym (take-all (recordSpan b) b (omega arith))
+
+-- by the length
+module _ (b : List ℕ) where
+  pub span-small : lengthField b < 2 → recordSpan b ≡ 4
+  unfolding recordSpan
+  span-small h = rw (lt-ltb (lengthField b) 2 h)
+
+  module _ (least : 2 ≤ lengthField b) where
+    pub span-large : 32774 < lengthField b → recordSpan b ≡ 4
+    unfolding recordSpan
+    span-large h = rw (le-ltb (lengthField b) 2 least, lt-ltb 32774 (lengthField b) h)
+
+    pub span-right : lengthField b ≤ 32774 → recordSpan b ≡ 4 + lengthField b
+    unfolding recordSpan
+    span-right h = rw (le-ltb (lengthField b) 2 least, le-ltb 32774 (lengthField b) h)
+
+-- the front of some memory, where it is short
+pub held-front : (k : ℕ) (m : List ℕ) → k ≤ 4 → take k m ≡ heldOf (take k m)
+held-front k m h = held-short (take k m) (rw (length-take k m) (omega arith))
+
+-- four bytes stand at the front of m, and y came behind them, as many as the span of the length that they say
+module _ (m y : List ℕ) (e k : ℕ) (four : 4 ≤ length m) (least : 4 ≤ e) (most : k ≤ e - 4)
+    (spans : (b : List ℕ) → lengthField b ≡ numberOf (take 4 m) → recordSpan b ≡ e) where
+  x : List ℕ
+  x = putMid 4 (e - 4) m y
+
+  front : take 4 (take (4 + k) x) ≡ take 4 m
+  unfolding x
+  front = take-take 4 (4 + k) (putMid 4 (e - 4) m y) (omega arith) ∙ take-at (take 4 m) _ 4 (length-take-le 4 m four)
+
+  pub held-record : take (4 + k) (putMid 4 (e - 4) m y) ≡ heldOf (take (4 + k) (putMid 4 (e - 4) m y))
+  unfolding x
+  held-record =
+      held-span (take (4 + k) (putMid 4 (e - 4) m y)) (spans (take (4 + k) (putMid 4 (e - 4) m y)) (ap numberOf front))
+      (rw (length-take (4 + k) (putMid 4 (e - 4) m y)) (omega arith))
 
 -- ---- the line
--- b put at a place, behind what stands there
-behind : (at : ℕ) (m b rest : List ℕ) → at ≤ length m → take (at + length b) (take at m ++ (b ++ rest)) ≡ take at m ++ b
-behind at m b rest h =
-    let size : length (take at m ++ b) ≡ at + length b = length-append (take at m) b ∙ ap (_+ length b) (length-take-le at m h) in
-    ap (take (at + length b)) (sym (append-assoc (take at m) b rest))
-    ∙ take-at (take at m ++ b) rest (at + length b) size
+-- l was given to memory with room for it
+module _ (l m : List ℕ) (room : 128 ≤ length m) {a : Answer} {y : List ℕ} (given : outcome a y ≡ lineGiven l m)
+    (most : length l ≤ 128) where
+  fits : outcome a y ≡ wrote (length l) l m
+  unfolding lineGiven
+  fits = rw (le-ltb (length m) (length l) (omega arith)) at given
 
--- y came back for the rest of the block
-module _ (r : List ℕ) (p : Progress) (table block : List ℕ) (room : p .filled + 128 ≤ length block)
-    {x : Listed} {y : List ℕ} (listed : outcome x y ≡ recordListed (heldBy p table) r (partFrom (p .filled) block))
-    (most : judgedAt p table r .number ≡ 0 → length (lineAt p table r) ≤ 128) where
-  m : List ℕ
-  m = partFrom (p .filled) block
+  pub given-count : a .count ≡ length l
+  given-count = ap (λ (o : Outcome Answer). o .answer .count) fits
 
-  length-m : length m ≡ length block - p .filled
-  unfolding m
-  length-m = ap length (part-is (p .filled) block) ∙ length-drop (p .filled) block
+  memory : y ≡ l ++ drop (length l) m
+  memory = ap (λ (o : Outcome Answer). o .memory) fits
 
-  as-fits : judgedAt p table r .number ≡ 0
-      → outcome x y ≡ outcome (record { read = judgedAt p table r; count = length (lineAt p table r) }) (lineAt p table r ++ drop (length (lineAt p table r)) m)
-  unfolding m
-  as-fits ok = listed ∙ recordListed-fits (keptTable p table) r (p .state) m ok (omega (arith, most ok, length-m))
+  pub given-line : take (a .count) y ≡ l
+  given-line = rw (given-count, memory) (take-at l (drop (length l) m) (length l) refl)
 
-  as-refused : (judgedAt p table r .number ≡ 0 → ⊥) → outcome x y ≡ outcome (record { read = judgedAt p table r; count = 0 }) m
-  unfolding m
-  as-refused wrong = listed ∙ sym (listed-refused (keptTable p table) r (p .state) m (judgedAt p table r) refl wrong)
+  pub given-within : a .count ≤ length y
+  given-within = rw (given-count, memory, length-append l (drop (length l) m)) (omega arith)
 
-  -- what the block is then
-  pub put-line : Put r p table block x (withPart (p .filled) block y)
-  unfolding m
-  put-line =
-      let number = judgedAt p table r .number in
-      let line = lineAt p table r in
+-- the record r was listed in such memory
+module _ (p : Carried) (r m : List ℕ) (room : 128 ≤ length m) {x : Listed} {y : List ℕ}
+    (listed : outcome x y ≡ recordListed (heldBy p) r m)
+    (most : recordJudged (heldBy p) r .number ≡ 0 → length (recordLine (recordHere (heldBy p) r)) ≤ 128) where
+  line : List ℕ
+  line = recordLine (recordHere (heldBy p) r)
+
+  as-fits : recordJudged (heldBy p) r .number ≡ 0
+      → outcome x y ≡ outcome (record { read = recordJudged (heldBy p) r; count = length line }) (line ++ drop (length line) m)
+  unfolding line
+  as-fits ok = listed ∙ recordListed-fits (heldBy p) r m ok (omega (arith, most ok))
+
+  as-refused : (recordJudged (heldBy p) r .number ≡ 0 → ⊥)
+      → outcome x y ≡ outcome (record { read = recordJudged (heldBy p) r; count = 0 }) m
+  as-refused wrong = listed ∙ sym (listed-refused (p .table) r (p .state) m (recordJudged (heldBy p) r) refl wrong)
+
+  pub read-is : x .read ≡ recordJudged (heldBy p) r
+  read-is =
+      let number = recordJudged (heldBy p) r .number in
+      by-test (eqb number 0)
+      (λ e. ap (λ (o : Outcome Listed). o .answer .read) (as-fits (eqb-true number 0 e)))
+      (λ e. ap (λ (o : Outcome Listed). o .answer .read) (as-refused (eqb-false number 0 e)))
+
+  same-number : x .read .number ≡ recordJudged (heldBy p) r .number
+  same-number = ap (λ (a : RecordRead). a .number) read-is
+
+  -- it is refused: the last line follows
+  pub turn-refused : 0 < length r → (x .read .number ≡ 0 → ⊥) → turnOf p r ≡ lastTurn p (x .read .number)
+  turn-refused some wrong =
+      turnOf-refused p r some (λ e. wrong (same-number ∙ e)) ∙ ap (lastTurn p) (sym same-number)
+
+  module _ (ok : x .read .number ≡ 0) where
+    fine : recordJudged (heldBy p) r .number ≡ 0
+    fine = sym same-number ∙ ok
+
+    pub read-length : (6 ≤ x .read .length) × (x .read .length ≤ 32778) × (x .read .length ≤ length r)
+    read-length = rw read-is (record-length (heldBy p) r fine)
+
+    count-is : x .count ≡ length line
+    count-is = ap (λ (o : Outcome Listed). o .answer .count) (as-fits fine)
+
+    memory-is : y ≡ line ++ drop (length line) m
+    memory-is = ap (λ (o : Outcome Listed). o .memory) (as-fits fine)
+
+    line-is : take (x .count) y ≡ recordLine (recordHere (heldBy p) r)
+    unfolding line
+    line-is = rw (count-is, memory-is) (take-at (recordLine (recordHere (heldBy p) r)) _ _ refl)
+
+    pub line-within : x .count ≤ length y
+    line-within = omega (arith, count-is, ap length memory-is, length-append line (drop (length line) m))
+
+    -- it is accepted: what is carried on is what comes after it
+    pub turn-accepted : {table : List ℕ} {rows : ℕ}
+        → table ≡ tableKept (holdsOf (x .read)) (p .table) (take (x .read .length - 6) (drop 6 r))
+        → rows ≡ p .rows + rowsOf (holdsOf (x .read))
+        → (let next : Carried = record { table = table; state = x .read .state; index = p .index + 1; rows = rows } in
+        record { line = take (x .count) y; last = false; next = next })
+        ≡ turnOf p r
+    turn-accepted is-table is-rows =
+        rw (line-is, is-table, is-rows, read-is, judged-body (heldBy p) r fine) (sym (turnOf-accepted p r fine))
+
+-- nothing is left to read: the last line follows
+pub turn-ended : (p : Carried) → turnOf p [] ≡ lastTurn p (endNumber (p .index))
+unfolding turnOf
+turn-ended p = refl
+
+pub end-made : {t : Turn} {number : ℕ} {line : List ℕ} (at : Progress) (table bytes : List ℕ) → number ≡ endNumber (at .index)
+    → t ≡ record { failed = false; last = true; taken = 0; count = length (lastLine number (at .index) (at .rows)); next = at }
+    → take (t .count) line ≡ lastLine number (at .index) (at .rows)
+    → TurnMade (take (t .taken) bytes) at table t table line
+end-made {t} at table bytes is-number is-turn is-line =
+    let none : t .taken ≡ 0 = ap (λ (t : Turn). t .taken) is-turn in
+    let last : t .last ≡ true = ap (λ (t : Turn). t .last) is-turn in
+    let next : t .next ≡ at = ap (λ (t : Turn). t .next) is-turn in
+    record {
+      held = rw none (held-short [] (omega arith));
+      made = rw (is-line, none, last, next, is-number) (sym (turn-ended (carriedBy at table)));
+    }
+
+-- ---- from turn to turn
+module _ {b : List ℕ} {p : Progress} {table : List ℕ} {t : Turn} {table′ line′ : List ℕ} (at : Underway (carriedBy p table))
+    (turn : TurnMade b p table t table′ line′) where
+  -- what is printed is the next line
+  pub line-next : NextLine (take (t .count) line′)
+  line-next =
       record {
-        read =
-            by-test (eqb number 0)
-            (λ e. ap (λ (o : Outcome Listed). o .answer .read) (as-fits (eqb-true number 0 e)))
-            (λ e. ap (λ (o : Outcome Listed). o .answer .read) (as-refused (eqb-false number 0 e)));
-        line = λ ok.
-            let count : x .count ≡ length line = ap (λ (o : Outcome Listed). o .answer .count) (as-fits ok) in
-            let memory : y ≡ line ++ drop (length line) m = ap (λ (o : Outcome Listed). o .memory) (as-fits ok) in (
-              omega (arith, most ok),
-              rw (part-back (p .filled) block y, memory, count) (behind (p .filled) block line (drop (length line) m) (omega arith)),
-            );
-        nothing = λ wrong. ap (withPart (p .filled) block) (ap (λ (o : Outcome Listed). o .memory) (as-refused wrong)) ∙ put-same (p .filled) (length block - p .filled) block;
+        taken = at .taken;
+        carried = carriedBy p table;
+        bytes = b;
+        carries = at .carries;
+        held = turn .held;
+        line = ap (λ (x : Turned). x .line) (turn .made);
       }
 
--- ---- the last line
--- l was given to the rest of the block, and y came back for it
-pub put-last : (p : Progress) (block l : List ℕ) → p .filled + 128 ≤ length block → {a : Answer} {y : List ℕ}
-    → outcome a y ≡ lineGiven l (partFrom (p .filled) block) → length l ≤ 128
-    → (p .filled + a .count ≤ length block) × (take (p .filled + a .count) (withPart (p .filled) block y) ≡ pending p block ++ l)
-unfolding lineGiven
-put-last p block l room {a} {y} given most =
-    let m = partFrom (p .filled) block in
-    let size : length m ≡ length block - p .filled = ap length (part-is (p .filled) block) ∙ length-drop (p .filled) block in
-    let fits : outcome a y ≡ wrote (length l) l m = rw (le-ltb (length m) (length l) (omega (arith, size))) at given in
-    let count : a .count ≡ length l = ap (λ (o : Outcome Answer). o .answer .count) fits in
-    let memory : y ≡ l ++ drop (length l) m = ap (λ (o : Outcome Answer). o .memory) fits in
-    (omega arith, rw (part-back (p .filled) block y, memory, count) (behind (p .filled) block l (drop (length l) m) (omega arith)))
+  -- and after the last turn the last
+  pub line-last : t .last ≡ true → EndLine (take (t .count) line′)
+  line-last last =
+      end-line (at .carries) b (turn .held) (ap (λ (x : Turned). x .line) (turn .made))
+      (sym (ap (λ (x : Turned). x .last) (turn .made)) ∙ last)
+
+  module _ (on : t .last ≡ false) where
+    accepted : recordJudged (heldBy (carriedBy p table)) b .number ≡ 0
+    accepted = turnOf-goes-on (carriedBy p table) b (sym (ap (λ (x : Turned). x .last) (turn .made)) ∙ on)
+
+    next-is : carriedBy (t .next) table′ ≡ carriedNext (carriedBy p table) b (recordJudged (heldBy (carriedBy p table)) b)
+    next-is = ap (λ (x : Turned). x .next) (turn .made ∙ turnOf-accepted (carriedBy p table) b accepted)
+
+    pub next-index : t .next .index ≡ p .index + 1
+    next-index = ap (λ (x : Carried). x .index) next-is
+
+    pub underway-next : Underway (carriedBy (t .next) table′)
+    underway-next = record { taken = at .taken ++ b; carries = rw next-is (carries-more (at .carries) b (turn .held) accepted) }
+
+pub underway-first : (table : List ℕ) → Underway (carriedBy (record { state = stateOf newSheet; kept = 0; index = 0; rows = 0 }) table)
+underway-first table = record { taken = []; carries = carries-none }
 
 -- ---- the table and the rows, by what the record holds
 pub table-kept : (s : Payload) (tb b : List ℕ) → isTable s ≡ false → tableKept s tb b ≡ tb
@@ -118,47 +243,3 @@ rowsOf-most aTable = omega arith
 rowsOf-most aRow = omega arith
 rowsOf-most aLine = omega arith
 rowsOf-most noPayload = omega arith
-
--- ---- the whole turn
-module _ {r : List ℕ} {p : Progress} {table block : List ℕ} {x : Listed} {block′ : List ℕ} (put : Put r p table block x block′) where
-  same-number : x .read .number ≡ judgedAt p table r .number
-  same-number = ap (λ (a : RecordRead). a .number) (put .read)
-
-  pub turned-refused : (x .read .number ≡ 0 → ⊥) → {t : Turn} → t ≡ record { ended = true; failed = false; number = x .read .number; next = p }
-      → {table′ : List ℕ} → Turned r p table block t table′ block′
-  turned-refused wrong is =
-      let still : judgedAt p table r .number ≡ 0 → ⊥ = λ e. wrong (same-number ∙ e) in
-      record {
-        accepted = λ ok. absurd (still ok);
-        refused = λ e. rw is (refl, record { last = refl; number = same-number; next = refl; text = ap (pending p) (put .nothing still) });
-      }
-
-  module _ (ok : x .read .number ≡ 0) where
-    fine : judgedAt p table r .number ≡ 0
-    fine = sym same-number ∙ ok
-
-    pub read-length : (6 ≤ x .read .length) × (x .read .length ≤ 32778) × (x .read .length ≤ length r)
-    read-length = rw (put .read) (record-length (heldBy p table) r fine)
-
-    pub line-within : p .filled + x .count ≤ length block
-    line-within = put .line fine .0
-
-    pub turned-accepted : {kept rows : ℕ} {table′ : List ℕ}
-        → take kept table′ ≡ tableKept (holdsOf (x .read)) (keptTable p table) (take (x .read .length - 6) (drop 6 r))
-        → rows ≡ p .rows + rowsOf (holdsOf (x .read))
-        → Turned r p table block
-        (record { ended = false; failed = false; number = 0; next = record { state = x .read .state; kept = kept; filled = p .filled + x .count; rows = rows } })
-        table′ block′
-    turned-accepted {kept} {rows} {table′} is-kept is-rows =
-        record {
-          accepted = λ e. (
-            refl,
-            record {
-              state = ap (λ (a : RecordRead). a .state) (put .read);
-              kept = (rw (put .read, judged-body (heldBy p table) r fine) at is-kept);
-              text = put .line fine .1;
-              rows = (rw (put .read) at is-rows);
-            },
-          );
-          refused = λ wrong. absurd (wrong fine);
-        }

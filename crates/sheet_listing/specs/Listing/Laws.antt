@@ -1,6 +1,6 @@
 -- The laws of a sheet's listing: what the lister prints, record by record. Assumes nothing.
 use Prim.Native.Nat.{ℕ, _+_}
-use native.Mathlib.Nat.{add-zero}
+use native.Mathlib.Nat.{zero-add, add-zero}
 use native.Mathlib.Omega.{arith}
 use mathlib.Core.Path.{_≡_, refl, ap, _∙_}
 use mathlib.Core.List.{List, [], _∷_, _++_, append-assoc, map}
@@ -8,18 +8,28 @@ use lib.ListN.{length, length-map}
 use Rattle.sheet_format.specs.Context.{Context, newSheet}
 use Rattle.sheet_format.specs.Kind.{Payload, aTable, aRow, aLine, noPayload}
 use Rattle.sheet_format.specs.Reading.{contextAfter, recordJudged}
-use Rattle.sheet_format.specs.Sheet.{SheetRecord, SheetRead, endsWith, putFirst, recordHere, restNext, records, sheetRead, recordHolds, StoredRow, rowOf, withRow, storedRows, rowNumbers}
+use Rattle.sheet_format.specs.Sheet.{SheetRecord, SheetRead, endsWith, putFirst, recordHere, restNext, records, sheetRead}
+use Rattle.sheet_format.specs.Sheet.{recordHolds, StoredRow, rowOf, withRow, storedRows, rowNumbers}
 use Rattle.sheet_format.specs.Theorems.{sheet-end, sheet-refused, sheet-more}
 use Rattle.sheet_listing.specs.Line.{recordLine, lastLine}
-use Rattle.sheet_listing.specs.Listing.{recordLines, listingFrom, listing, rowsOf}
+use Rattle.sheet_listing.specs.Listing.{recordLines, lastOf, listing, rowsOf}
 
-length-withRow : (s : Payload) (y : StoredRow) (ys : List StoredRow) → length (withRow s y ys) ≡ rowsOf s + length ys
+-- a listing from a record on, after so many records and rows
+abbrev pub listingFrom : ℕ → ℕ → SheetRead → List ℕ
+listingFrom index rows s =
+    recordLines (s .records)
+    ++ lastLine (s .number) (index + length (s .records)) (rows + length (rowNumbers (s .records)))
+
+pub listing-from : (s : SheetRead) → recordLines (s .records) ++ lastOf s ≡ listingFrom 0 0 s
+listing-from s = rw (zero-add (length (s .records)), zero-add (length (rowNumbers (s .records))))
+
+pub length-withRow : (s : Payload) (y : StoredRow) (ys : List StoredRow) → length (withRow s y ys) ≡ rowsOf s + length ys
 length-withRow aTable y ys = omega arith
 length-withRow aRow y ys = omega arith
 length-withRow aLine y ys = omega arith
 length-withRow noPayload y ys = omega arith
 
-length-rowNumbers : (xs : List SheetRecord) → length (rowNumbers xs) ≡ length (storedRows xs)
+pub length-rowNumbers : (xs : List SheetRecord) → length (rowNumbers xs) ≡ length (storedRows xs)
 length-rowNumbers xs = length-map (storedRows xs) _
 
 module _ (index rows : ℕ) where
@@ -50,7 +60,8 @@ module _ (index rows : ℕ) where
     pub listing-more : (x : ℕ) (r : List ℕ) → recordJudged c (x ∷ r) .number ≡ 0
         → listingFrom index rows (records c (x ∷ r))
         ≡ recordLine (recordHere c (x ∷ r))
-        ++ listingFrom (index + 1) (rows + rowsOf (recordHolds (recordHere c (x ∷ r)))) (records (contextAfter c (x ∷ r)) (restNext c (x ∷ r)))
+        ++ listingFrom (index + 1) (rows + rowsOf (recordHolds (recordHere c (x ∷ r))))
+        (records (contextAfter c (x ∷ r)) (restNext c (x ∷ r)))
     listing-more x r h =
         ap (listingFrom index rows) (sheet-more c x r h)
         ∙ first-line (recordHere c (x ∷ r)) (records (contextAfter c (x ∷ r)) (restNext c (x ∷ r)))
@@ -59,8 +70,8 @@ module _ (index rows : ℕ) where
 -- "A sheet with no records is refused 16"
 pub listing-nothing : listing [] ≡ lastLine 16 0 0
 unfolding listing sheetRead
-listing-nothing = last-alone 0 0 16
+listing-nothing = listing-from (endsWith 16) ∙ last-alone 0 0 16
 
 pub listing-some : (x : ℕ) (r : List ℕ) → listing (x ∷ r) ≡ listingFrom 0 0 (records newSheet (x ∷ r))
 unfolding listing sheetRead
-listing-some x r = refl
+listing-some x r = listing-from (records newSheet (x ∷ r))

@@ -1,65 +1,132 @@
 -- The turns print the listing. Assumes nothing.
-use Prim.Native.Nat.{ℕ, zero, suc, _+_, _<_}
+use Prim.Native.Nat.{ℕ, zero, suc, _+_, _≤_, _<_}
+use native.Mathlib.Decide.{decLt}
 use native.Mathlib.Omega.{arith}
 use mathlib.Core.Path.{_≡_, refl, sym, ap, _∙_}
-use mathlib.Core.Bool.{cond}
+use mathlib.Core.Logic.{by-cases}
+use mathlib.Core.Bool.{true, false, cond}
 use mathlib.Core.List.{List, [], _∷_, _++_}
-use lib.ListN.{length, take, drop, length-drop}
-use lib.Seq.{take-take}
+use lib.ListN.{length, take, drop, length-take, length-drop}
+use lib.Seq.{take-nil, take-take, length-take-le, take-all}
 use lib.Dec.{eqb}
-use borrow.Author.Tests.{eqb-true, eqb-false, ne-eqb}
-use Rattle.row_format.specs.Lists.Laws.{by-test}
-use Rattle.sheet_format.specs.declared.SheetState.{SheetState}
+use borrow.Author.Tests.{eqb-true, eqb-false, ne-eqb, lt-ltb, le-ltb}
+use Rattle.row_format.specs.Lists.Laws.{by-test, true-false}
+use Rattle.answer.specs.Outcome.Laws.{unless-refused}
 use Rattle.sheet_format.specs.declared.RecordRead.{RecordRead}
 use Rattle.sheet_format.specs.Context.{Context, newSheet, stateOf, contextOf}
-use Rattle.sheet_format.specs.Kind.{Payload, tableKept}
+use Rattle.sheet_format.specs.Kind.{tableKept}
 use Rattle.sheet_format.specs.Kinds.{kindOf}
-use Rattle.sheet_format.specs.Record.{bodyOf, recordSpan}
-use Rattle.sheet_format.specs.Reading.{recordJudged}
+use Rattle.sheet_format.specs.Record.{lengthField, bodyOf, recordSpan}
+use Rattle.sheet_format.specs.Reading.{contextAfter, recordJudged}
 use Rattle.sheet_format.specs.Reading.Laws.{judged-kind, judged-length}
 use Rattle.sheet_format.specs.Sheet.{recordHere, records}
 use Rattle.sheet_format.specs.Theorems.{state-kept, record-span}
 use Rattle.sheet_format.specs.Theorems.Locality.{span-whole, span-body}
 use Rattle.sheet_listing.specs.Line.{recordLine, lastLine}
-use Rattle.sheet_listing.specs.Listing.{listingFrom, listing, rowsOf}
-use Rattle.sheet_listing.specs.Listing.Laws.{listing-end, listing-refused, listing-more, listing-nothing, listing-some}
-use Rattle.sheet_listing.specs.Turns.{heldOf, holdsOf, turns}
+use Rattle.sheet_listing.specs.Listing.{listing, rowsOf}
+use Rattle.sheet_listing.specs.Listing.Laws.{listingFrom, listing-end, listing-refused, listing-more, listing-nothing, listing-some}
+use Rattle.sheet_listing.specs.Turns.{heldOf, Carried, carriedFirst, heldBy, carriedNext, Turned, lastTurn, recordTurn}
+use Rattle.sheet_listing.specs.Turns.{turnOf, turns}
 
--- the bytes that are held have all of the record
+-- ---- one turn
+module _ (p : Carried) (b : List ℕ) where
+  turnOf-record : 0 < length b → turnOf p b ≡ recordTurn p b (recordJudged (heldBy p) b)
+  unfolding turnOf
+  turnOf-record = go b
+    where
+      go : (b : List ℕ) → 0 < length b → turnOf p b ≡ recordTurn p b (recordJudged (heldBy p) b)
+      go [] h = absurd (omega arith)
+      go (x ∷ b) h = refl
+
+  pub turnOf-refused : 0 < length b → (recordJudged (heldBy p) b .number ≡ 0 → ⊥)
+      → turnOf p b ≡ lastTurn p (recordJudged (heldBy p) b .number)
+  turnOf-refused some wrong = turnOf-record some ∙ unless-refused (recordJudged (heldBy p) b .number) (lastTurn p) _ wrong
+
+  pub turnOf-accepted : recordJudged (heldBy p) b .number ≡ 0
+      → turnOf p b
+      ≡ record { line = recordLine (recordHere (heldBy p) b); last = false; next = carriedNext p b (recordJudged (heldBy p) b) }
+  turnOf-accepted ok = turnOf-record (omega (arith, judged-length (heldBy p) b ok)) ∙ rw ok
+
+-- a turn that is not the last has an accepted record
+pub turnOf-goes-on : (p : Carried) (b : List ℕ) → turnOf p b .last ≡ false → recordJudged (heldBy p) b .number ≡ 0
+unfolding turnOf
+turnOf-goes-on p [] on = true-false refl on
+turnOf-goes-on p (x ∷ b) on =
+    let number = recordJudged (heldBy p) (x ∷ b) .number in
+    by-test (eqb number 0) (λ e. eqb-true number 0 e)
+    (λ e. true-false (ap (λ (t : Turned). t .last) (turnOf-refused p (x ∷ b) (omega arith) (eqb-false number 0 e))) on)
+
+-- ---- the bytes that are held
+pub span-least : (r : List ℕ) → 4 ≤ recordSpan r
+unfolding recordSpan
+span-least r =
+    by-cases (decLt (lengthField r) 2) (λ small. rw (lt-ltb (lengthField r) 2 small) (omega arith))
+    (λ least. by-cases (decLt 32774 (lengthField r))
+    (λ large. rw (le-ltb (lengthField r) 2 (omega arith), lt-ltb 32774 (lengthField r) large) (omega arith))
+    (λ most. rw (le-ltb (lengthField r) 2 (omega arith), le-ltb 32774 (lengthField r) (omega arith)) (omega arith)))
+
+held-some : (x : ℕ) (r : List ℕ) → 0 < length (heldOf (x ∷ r))
+held-some x r = rw (length-take (recordSpan (x ∷ r)) (x ∷ r)) (omega (arith, span-least (x ∷ r)))
+
+-- they have all of an accepted record
 bytes-held : (c : Context) (r : List ℕ) → recordJudged c r .number ≡ 0
     → take (recordJudged c r .length) (heldOf r) ≡ take (recordJudged c r .length) r
 bytes-held c r ok = take-take (recordJudged c r .length) (recordSpan r) r (omega (arith, span-whole r c ok))
 
-turns-from : (n : ℕ) (tb : List ℕ) (st : SheetState) (index rows : ℕ) (r : List ℕ) → length r < n → (r ≡ [] → index ≡ 0 → ⊥)
-    → turns n tb st index rows r ≡ listingFrom index rows (records (contextOf tb st) r)
-unfolding turns
-turns-from zero tb st index rows r h begun = absurd (omega arith)
-turns-from (suc n) tb st index rows [] h begun =
-    rw (ne-eqb index 0 (begun refl)) (sym (listing-end index rows (contextOf tb st)))
-turns-from (suc n) tb st index rows (x ∷ r) h begun =
+-- so that the turn is that of all the bytes that are left
+module _ (p : Carried) (r : List ℕ) where
+  same-judged : recordJudged (heldBy p) (heldOf r) ≡ recordJudged (heldBy p) r
+  same-judged = record-span (heldBy p) r .0
+
+  held-refused : 0 < length (heldOf r) → (recordJudged (heldBy p) r .number ≡ 0 → ⊥)
+      → turnOf p (heldOf r) ≡ lastTurn p (recordJudged (heldBy p) r .number)
+  held-refused some wrong =
+      turnOf-refused p (heldOf r) some (λ e. wrong (rw same-judged at e)) ∙ ap (λ (a : RecordRead). lastTurn p (a .number)) same-judged
+
+  held-accepted : recordJudged (heldBy p) r .number ≡ 0
+      → turnOf p (heldOf r)
+      ≡ record { line = recordLine (recordHere (heldBy p) r); last = false; next = carriedNext p r (recordJudged (heldBy p) r) }
+  held-accepted ok =
+      turnOf-accepted p (heldOf r) (rw same-judged ok)
+      ∙ rw (same-judged, span-body r (heldBy p) ok, bytes-held (heldBy p) r ok)
+
+-- what is carried on says what the sheet holds
+pub held-next : (p : Carried) (b : List ℕ) → recordJudged (heldBy p) b .number ≡ 0
+    → contextAfter (heldBy p) b ≡ heldBy (carriedNext p b (recordJudged (heldBy p) b))
+held-next p b ok =
+    let a = recordJudged (heldBy p) b in
+    state-kept (p .table) b (p .state) ok
+    ∙ ap (λ (k : ℕ). contextOf (tableKept (kindOf k .holds) (p .table) (bodyOf b)) (a .state)) (sym (judged-kind (heldBy p) b ok))
+
+-- ---- all turns
+pub turns-from : (n : ℕ) (p : Carried) (r : List ℕ) → length r < n → (r ≡ [] → p .index ≡ 0 → ⊥)
+    → turns n p r ≡ listingFrom (p .index) (p .rows) (records (heldBy p) r)
+unfolding turns turnOf
+turns-from zero p r h begun = absurd (omega arith)
+turns-from (suc n) p [] h begun =
+    rw (take-nil {A = ℕ} (recordSpan []), ne-eqb (p .index) 0 (begun refl)) (sym (listing-end (p .index) (p .rows) (heldBy p)))
+turns-from (suc n) p (x ∷ r) h begun =
     let s = x ∷ r in
-    let c = contextOf tb st in
+    let c = heldBy p in
     let a = recordJudged c s in
-    let number = a .number in
-    rw (record-span c s .0)
-    (by-test (eqb number 0)
+    by-test (eqb (a .number) 0)
     (λ e.
-    let ok = eqb-true number 0 e in
+    let ok = eqb-true (a .number) 0 e in
     let size = judged-length c s ok in
-    let kept = ap (λ (k : ℕ). contextOf (tableKept (kindOf k .holds) tb (bodyOf s)) (a .state)) (judged-kind c s ok) in
-    let next = state-kept tb s st ok ∙ sym kept in
-    let more = turns-from n (tableKept (holdsOf a) tb (bodyOf s)) (a .state) (index + 1) (rows + rowsOf (holdsOf a)) (drop (a .length) s)
-    (omega (arith, length-drop (a .length) s, size .0)) (λ z w. omega arith) in
-    rw (e, span-body s c ok, bytes-held c s ok)
-    (ap (recordLine (recordHere c s) ++_)
-    (more ∙ ap (λ d. listingFrom (index + 1) (rows + rowsOf (holdsOf a)) (records d (drop (a .length) s))) (sym next))
-    ∙ sym (listing-more index rows c x r ok)))
-    (λ e. rw e (sym (listing-refused index rows c x r (eqb-false number 0 e)))))
+    let whole = span-whole s c ok in
+    let next = carriedNext p s a in
+    let more = turns-from n next (drop (a .length) s) (omega (arith, length-drop (a .length) s, size .0)) (λ z w. omega arith) in
+    let on : Context → List ℕ = λ d. listingFrom (next .index) (next .rows) (records d (drop (a .length) s)) in
+    rw (held-accepted p s ok, whole)
+    (ap (recordLine (recordHere c s) ++_) (more ∙ ap on (sym (held-next p s ok)))
+    ∙ sym (listing-more (p .index) (p .rows) c x r ok)))
+    (λ e.
+    let wrong = eqb-false (a .number) 0 e in
+    rw (held-refused p s (held-some x r) wrong) (sym (listing-refused (p .index) (p .rows) c x r wrong)))
 
 -- the turns print the listing, whatever the sheet's bytes are
-pub turns-listing : (s : List ℕ) → turns (length s + 1) [] (stateOf newSheet) 0 0 s ≡ listing s
-unfolding turns
-turns-listing [] = sym listing-nothing
+pub turns-listing : (s : List ℕ) → turns (length s + 1) carriedFirst s ≡ listing s
+unfolding turns turnOf
+turns-listing [] = rw (take-nil {A = ℕ} (recordSpan [])) (sym listing-nothing)
 turns-listing (x ∷ r) =
-    turns-from (length (x ∷ r) + 1) [] (stateOf newSheet) 0 0 (x ∷ r) (omega arith) (λ e z. omega (arith, ap length e))
-    ∙ sym (listing-some x r)
+    turns-from (length (x ∷ r) + 1) carriedFirst (x ∷ r) (omega arith) (λ e z. omega (arith, ap length e)) ∙ sym (listing-some x r)

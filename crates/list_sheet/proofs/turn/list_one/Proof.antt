@@ -1,19 +1,29 @@
--- `list_sheet::turn::list_one` meets its contract: the record is refused, or its line is put, its table kept and its row
--- counted. Assumes nothing.
+-- `list_sheet::turn::list_one` meets its contract: the record is refused, and the last line put; or its line is put, its table
+-- kept and its row counted. Assumes nothing.
+use Rattle.list_sheet.specs.declared.turn.Turn.{Turn}
 use native.Mathlib.Omega.{arith}
-use mathlib.Core.Path.{refl}
+use mathlib.Core.Path.{_≡_, refl, sym, ap, _∙_}
+use lib.Seq.{length-take-le}
+use Rattle.sheet_listing.specs.Turns.{holdsOf, turnOf}
+use Rattle.list_sheet.specs.Step.{carriedBy}
+use Rattle.list_sheet.specs.Step.Laws.{rowsOf-most, turn-refused, read-length, line-within, turn-accepted}
 use borrow.Author.Needs.{needs}
-use Rattle.row_format.specs.Lists.Laws.{true-false}
-use Rattle.sheet_listing.specs.Turns.{holdsOf}
-use Rattle.list_sheet.specs.Step.Laws.{rowsOf-most, turned-refused, read-length, line-within, turned-accepted}
 use Rattle.list_sheet.proofs.turn.list_one.Statement.{statement}
 use Rattle.list_sheet.proofs.turn.list_one.Tie as tie
 
-put-line-requires : tie.Need-put-line-requires
-put-line-requires c κs = search needs
+slice-reshare-prefix-list-record : tie.Need-slice-reshare-prefix-list-record
+slice-reshare-prefix-list-record c = search needs
 
-last-requires : tie.Need-last-requires
-last-requires c κs = search needs
+slice-aggregate-list-record : tie.Need-slice-aggregate-list-record
+slice-aggregate-list-record c =
+    let start = c .before .before .before .before .before in
+    sym (length-take-le (start .args .at .kept) (start .args .table .now) (start .pre .1 .1 .1 .1 .kept))
+
+list-record-requires : tie.Need-list-record-requires
+list-record-requires c κs = search needs
+
+end-requires : tie.Need-end-requires
+end-requires c κs = search needs
 
 same-length : tie.Need-same-length
 same-length c = search needs
@@ -21,34 +31,47 @@ same-length c = search needs
 same-length-2 : tie.Need-same-length-2
 same-length-2 c = search needs
 
--- the record is refused
 returns : tie.Need-returns
 returns c =
-    let line = c .before .before .before .before .before in
-    let start = line .before .before .before .before .before .before in
-    let wrong = c .before .if1 .taken in (
-      rw (c .last .ensures) (record { kept = start .pre .1 .1 .0; filled = omega (arith, start .pre .1 .1 .1, line .put-line .kept .1 .1 .0); rows = omega arith }),
-      ((λ e. rw (c .last .ensures)), turned-refused (line .put-line .ensures) wrong (c .last .ensures)),
+    let ended = c .before .before in
+    let listed = ended .before .before .before .before .before .before in
+    let start = listed .before .before .before .before .before .before .before in
+    let args = start .args in
+    let listing = listed .list-record .ensures in
+    let at = carriedBy (args .at) (args .table .now) in
+    let wrong = ended .before .before .if1 .taken in
+    let turn = turn-refused at (args .bytes .now) (args .line .now) (start .pre .1 .1 .0) (listing .0) (listing .1) (start .pre .0) wrong in
+    let last = ended .end .ensures in (
+      ap (λ (t : Turn). t .taken) (last .0),
+      (last .1 .0, (rw (last .0) (start .pre .1 .1 .1 .1), rw (last .1 .1, last .0) (sym turn))),
     )
+
+cast-count : tie.Need-cast-count
+cast-count c = search needs
 
 keep-table-requires : tie.Need-keep-table-requires
 keep-table-requires c κs =
-    let line = c .before .before .before .before .before in
-    let start = line .before .before .before .before .before .before in
-    (start .pre .0, (start .pre .1 .1 .0, read-length (line .put-line .ensures) (c .before .if1 .left)))
-
-cast-filled : tie.Need-cast-filled
-cast-filled c = search needs
-
-add-filled : tie.Need-add-filled
-add-filled c =
-    let accepted = c .before .before .before .before .before .before in
-    let line = accepted .before .before .before .before in
-    let start = line .before .before .before .before .before .before in
-    omega (arith, line-within (line .put-line .ensures) (accepted .if1 .left), start .good)
+    let listed = c .before .before .before .before .before .before in
+    let start = listed .before .before .before .before .before .before .before in
+    let args = start .args in
+    let listing = listed .list-record .ensures in
+    let at = carriedBy (args .at) (args .table .now) in
+    let ok = c .before .before .if1 .left in
+    let size = read-length at (args .bytes .now) (args .line .now) (start .pre .1 .1 .0) (listing .0) (listing .1) ok in
+    (start .pre .1 .0, (start .pre .1 .1 .1 .1 .kept, size))
 
 rows-after-requires : tie.Need-rows-after-requires
-rows-after-requires c κs = search needs
+rows-after-requires c κs =
+    let listed = c .before .before .before .before .before .before .before .before in
+    let start = listed .before .before .before .before .before .before .before .before in
+    omega (arith, start .pre .1 .1 .1 .0, start .pre .1 .1 .1 .1 .rows)
+
+add-t25 : tie.Need-add-t25
+add-t25 c =
+    let kept = c .before .before .before .before .before in
+    let listed = kept .before .before .before .before .before .before .before in
+    let start = listed .before .before .before .before .before .before .before in
+    omega (arith, start .pre .1 .1 .1 .0)
 
 same-length-3 : tie.Need-same-length-3
 same-length-3 c = search needs
@@ -56,37 +79,51 @@ same-length-3 c = search needs
 same-length-4 : tie.Need-same-length-4
 same-length-4 c = search needs
 
--- the record is listed
 returns-2 : tie.Need-returns-2
 returns-2 c =
-    let counted = c .before in
-    let kept = counted .before .before .before .before .before in
-    let accepted = kept .before .before in
-    let line = accepted .before .before .before .before in
-    let put = line .put-line .ensures in
+    let counted = c .before .before in
+    let kept = counted .before .before .before in
+    let accepted = kept .before .before .before in
+    let listed = accepted .before .before .before .before in
+    let start = listed .before .before .before .before .before .before .before in
+    let args = start .args in
+    let at = carriedBy (args .at) (args .table .now) in
+    let listing = listed .list-record .ensures in
+    let room = start .pre .1 .1 .0 in
     let ok = accepted .if1 .left in
-    let rows = counted .rows-after .ensures in (
-      record {
-        kept = omega (arith, kept .keep-table .ensures .0, kept .keep-table .kept);
-        filled = omega (arith, line-within put ok, line .put-line .kept .1 .1 .0);
-        rows = omega (arith, rows, rowsOf-most (holdsOf (line .put-line .result .read)));
-      },
-      ((λ e. true-false e refl), turned-accepted put ok (kept .keep-table .ensures .1) rows),
+    let rows = counted .rows-after .ensures in
+    let bytes = args .bytes .now in
+    let line = args .line .now in
+    let within = line-within at bytes line room (listing .0) (listing .1) ok in
+    let turn = turn-accepted at bytes line room (listing .0) (listing .1) ok (kept .keep-table .ensures .1) rows in (
+      refl,
+      (
+        within,
+        (
+          record {
+            kept = omega (arith, kept .keep-table .ensures .0, kept .keep-table .kept);
+            rows = omega (arith, rows, rowsOf-most (holdsOf (listed .list-record .result .read)), start .pre .1 .1 .1 .1 .rows);
+          },
+          turn,
+        ),
+      ),
     )
 
 pub list-one-spec : {M : Type 1} → statement M
 list-one-spec =
     tie.close
     (tie.spec
-    put-line-requires
-    last-requires
+    slice-reshare-prefix-list-record
+    slice-aggregate-list-record
+    list-record-requires
+    end-requires
     same-length
     same-length-2
     returns
+    cast-count
     keep-table-requires
-    cast-filled
-    add-filled
     rows-after-requires
+    add-t25
     same-length-3
     same-length-4
     returns-2)

@@ -1,35 +1,43 @@
--- `list_sheet::turn::take_turn`: what is carried on is within the memory. Assumes nothing.
+-- `list_sheet::turn::take_turn` meets its contract: reading failed, the sheet has ended, or there is a record. Assumes nothing.
 use native.Mathlib.Omega.{arith}
-use mathlib.Core.Path.{sym}
+use mathlib.Core.Path.{_≡_, sym, ap, _∙_}
 use lib.Seq.{length-take-le}
+use Rattle.row_format.specs.Lists.Laws.{true-false}
+use Rattle.list_sheet.specs.declared.turn.Turn.{Turn}
+use Rattle.list_sheet.specs.Step.Laws.{end-made}
 use borrow.Author.Needs.{needs}
 use Rattle.list_sheet.proofs.turn.take_turn.Statement.{statement}
 use Rattle.list_sheet.proofs.turn.take_turn.Tie as tie
 
-make-room-requires : tie.Need-make-room-requires
-make-room-requires c κs = search needs
+fill-record-requires : tie.Need-fill-record-requires
+fill-record-requires c κs = search needs
 
-last-requires : tie.Need-last-requires
-last-requires c κs = search needs
+unread-requires : tie.Need-unread-requires
+unread-requires c κs = search needs
 
 same-length : tie.Need-same-length
 same-length c = search needs
 
 returns : tie.Need-returns
 returns c =
-    let at-make-room = c .before .before .before in
-    let at-start = at-make-room .before .before .before .before .before in
-    let room = at-make-room .make-room .ensures in
-    let sound = at-start .pre .1 .1 .1 .1 in (
-      rw (c .last .ensures) (record { kept = sound .kept; filled = omega (arith, room); rows = omega (arith, sound .rows) }),
-      λ e. rw (c .last .ensures) room,
+    let filled = c .before .before .before .before in
+    let start = filled .before .before .before .before .before .before in
+    let unread = c .unread .ensures in (
+      rw unread (omega arith),
+      (
+        rw unread (omega arith),
+        (
+          rw unread (start .pre .1 .1 .1 .1),
+          λ e. true-false (ap (λ (t : Turn). t .failed) unread) e,
+        ),
+      ),
     )
 
-fill-requires : tie.Need-fill-requires
-fill-requires c κs = search needs
+number-at-end-requires : tie.Need-number-at-end-requires
+number-at-end-requires c κs = search needs
 
-last-requires-2 : tie.Need-last-requires-2
-last-requires-2 c κs = search needs
+end-requires : tie.Need-end-requires
+end-requires c κs = search needs
 
 same-length-2 : tie.Need-same-length-2
 same-length-2 c = search needs
@@ -39,34 +47,19 @@ same-length-3 c = search needs
 
 returns-2 : tie.Need-returns-2
 returns-2 c =
-    let at-make-room = c .before .before .before .before .before .before .before .before in
-    let at-start = at-make-room .before .before .before .before .before in
-    let room = at-make-room .make-room .ensures in
-    let sound = at-start .pre .1 .1 .1 .1 in (
-      rw (c .last2 .ensures) (record { kept = sound .kept; filled = omega (arith, room); rows = omega (arith, sound .rows) }),
-      λ e. rw (c .last2 .ensures) room,
-    )
-
-number-at-end-requires : tie.Need-number-at-end-requires
-number-at-end-requires c κs = search needs
-
-last-requires-3 : tie.Need-last-requires-3
-last-requires-3 c κs = search needs
-
-same-length-4 : tie.Need-same-length-4
-same-length-4 c = search needs
-
-same-length-5 : tie.Need-same-length-5
-same-length-5 c = search needs
-
-returns-3 : tie.Need-returns-3
-returns-3 c =
-    let at-make-room = c .before .before .before .before .before .before .before .before .before .before in
-    let at-start = at-make-room .before .before .before .before .before in
-    let room = at-make-room .make-room .ensures in
-    let sound = at-start .pre .1 .1 .1 .1 in (
-      rw (c .last3 .ensures) (record { kept = sound .kept; filled = omega (arith, room); rows = omega (arith, sound .rows) }),
-      λ e. rw (c .last3 .ensures) room,
+    let ended = c .before .before in
+    let filled = ended .before .before .before .before .before .before .before in
+    let start = filled .before .before .before .before .before .before in
+    let last = ended .end .ensures in
+    let number = ended .before .before .number-at-end .ensures in (
+      rw (last .0) (omega arith),
+      (
+        last .1 .0,
+        (
+          rw (last .0) (start .pre .1 .1 .1 .1),
+          λ e. end-made (start .args .at) (start .args .table .now) (filled .fill-record .last .1 .1 .0) number (last .0) (last .1 .1),
+        ),
+      ),
     )
 
 slice-reshare-prefix-list-one : tie.Need-slice-reshare-prefix-list-one
@@ -74,57 +67,66 @@ slice-reshare-prefix-list-one c = search needs
 
 slice-aggregate-list-one : tie.Need-slice-aggregate-list-one
 slice-aggregate-list-one c =
-    let at-fill = c .before .before .before .before .before in
-    let at-start = at-fill .before .before .before .before .before .before .before .before .before in
-    sym
-    (length-take-le (at-fill .fill .result .count) (at-fill .fill .last .0)
-    (omega (arith, at-fill .fill .ensures, at-fill .fill .kept .0, at-start .pre .0)))
+    let filled = c .before .before .before .before .before in
+    let start = filled .before .before .before .before .before .before in
+    sym (length-take-le (filled .fill-record .result .count) (filled .fill-record .last .1 .1 .0)
+    (omega (arith, filled .fill-record .ensures .0, filled .fill-record .kept, start .pre .0)))
 
 list-one-requires : tie.Need-list-one-requires
-list-one-requires c κs = search needs
+list-one-requires c κs =
+    let some = c .before .before .before in
+    let filled = some .before .before .before .before in
+    let start = filled .before .before .before .before .before .before in
+    let size = length-take-le (filled .fill-record .result .count) (filled .fill-record .last .1 .1 .0)
+    (omega (arith, filled .fill-record .ensures .0, filled .fill-record .kept, start .pre .0)) in
+    (omega (arith, size, some .if2 .left), start .pre .1)
+
+same-length-4 : tie.Need-same-length-4
+same-length-4 c = search needs
+
+same-length-5 : tie.Need-same-length-5
+same-length-5 c = search needs
 
 same-length-6 : tie.Need-same-length-6
 same-length-6 c = search needs
 
-same-length-7 : tie.Need-same-length-7
-same-length-7 c = search needs
-
-same-length-8 : tie.Need-same-length-8
-same-length-8 c = search needs
-
-returns-4 : tie.Need-returns-4
-returns-4 c =
-    let at-list-one = c .before .before .before .before in
-    let at-make-room = at-list-one .before .before .before .before .before .before .before .before .before .before .before .before in
-    let at-start = at-make-room .before .before .before .before .before in
-    let listed = at-list-one .list-one .ensures in
-    let sound = at-start .pre .1 .1 .1 .1 in (
-      record { kept = listed .0 .kept; filled = listed .0 .filled; rows = omega (arith, listed .0 .rows, sound .rows) },
-      λ e. rw (listed .1 .0 e) (omega (arith, at-make-room .make-room .ensures, at-list-one .list-one .kept)),
+returns-3 : tie.Need-returns-3
+returns-3 c =
+    let listed = c .before .before .before .before in
+    let filled = listed .before .before .before .before .before .before .before .before in
+    let start = filled .before .before .before .before .before .before in
+    let count = filled .fill-record .result .count in
+    let size = length-take-le count (filled .fill-record .last .1 .1 .0)
+    (omega (arith, filled .fill-record .ensures .0, filled .fill-record .kept, start .pre .0)) in
+    let made = listed .list-one .ensures in
+    let taken : listed .list-one .result .taken ≡ count = made .0 ∙ size in (
+      omega (arith, taken, filled .fill-record .ensures .0),
+      (
+        made .1 .0,
+        (
+          made .1 .1 .0,
+          λ e. rw taken (record { held = filled .fill-record .ensures .1; made = made .1 .1 .1 }),
+        ),
+      ),
     )
 
 pub take-turn-spec : {M : Type 1} → statement M
 take-turn-spec =
     tie.close
     (tie.spec
-    make-room-requires
-    last-requires
+    fill-record-requires
+    unread-requires
     same-length
     returns
-    fill-requires
-    last-requires-2
+    number-at-end-requires
+    end-requires
     same-length-2
     same-length-3
     returns-2
-    number-at-end-requires
-    last-requires-3
-    same-length-4
-    same-length-5
-    returns-3
     slice-reshare-prefix-list-one
     slice-aggregate-list-one
     list-one-requires
+    same-length-4
+    same-length-5
     same-length-6
-    same-length-7
-    same-length-8
-    returns-4)
+    returns-3)

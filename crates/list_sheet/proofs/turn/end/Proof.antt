@@ -1,0 +1,31 @@
+-- `list_sheet::turn::end` meets its contract: the last line stands at the front of the memory. Assumes nothing.
+use mathlib.Core.Path.{ap}
+use Rattle.sheet_listing.specs.Line.{lastLine}
+use Rattle.list_sheet.specs.Step.Laws.{given-count, given-line, given-within}
+use borrow.Author.Needs.{needs}
+use Rattle.list_sheet.proofs.turn.end.Statement.{statement}
+use Rattle.list_sheet.proofs.turn.end.Tie as tie
+
+list-end-requires : tie.Need-list-end-requires
+list-end-requires c κs = search needs
+
+cast-t8 : tie.Need-cast-t8
+cast-t8 c = search needs
+
+same-length : tie.Need-same-length
+same-length c = search needs
+
+returns : tie.Need-returns
+returns c =
+    let ended = c .before .before .before in
+    let start = ended .before .before .before in
+    let args = start .args in
+    let last = lastLine (args .number) (args .at .index) (args .at .rows) in
+    let given = ended .list-end .ensures in
+    let line = args .line .now in (
+      rw (given-count last line (start .pre) (given .0) (given .1)),
+      (given-within last line (start .pre) (given .0) (given .1), given-line last line (start .pre) (given .0) (given .1)),
+    )
+
+pub end-spec : {M : Type 1} → statement M
+end-spec = tie.close (tie.spec list-end-requires cast-t8 same-length returns)

@@ -17,7 +17,7 @@ use Rattle.list_table.proofs.print.print_blocks.Tie as tie
 
 abbrev Inv-loop : tie.InvT-loop
 Inv-loop table block₀ first₀ printed₀ block first printed =
-    (first ≤ length (lines table)) × (printed ≡ length (joined (take first (lines table)))) × (length block ≡ length block₀)
+    (printed ≡ length (joined (take first (lines table)))) × (first ≤ length (lines table)) × (length block ≡ length block₀)
 
 abbrev μ-loop : tie.MeasureT-loop
 μ-loop table block₀ first₀ printed₀ block first printed = length (lines table) - first
@@ -58,7 +58,7 @@ module _ (c : tie.After-list-table Inv-loop μ-loop) where
       let count = c .list-table .result .lines in
       let more = ap length text-is in
       rw (joined-more first count ls, length-append (joined (take first ls)) (joined (take count (drop first ls))))
-      (omega (arith, turn c .loop .inv .1, more, length-take-le (c .list-table .result .bytes) (c .list-table .last .1 .1 .0) within))
+      (omega (arith, turn c .loop .inv .0, more, length-take-le (c .list-table .result .bytes) (c .list-table .last .1 .1 .0) within))
 
   bytes-few : turn c .loop .printed + c .list-table .result .bytes ≤ 1048320
   bytes-few =
@@ -69,7 +69,7 @@ module _ (c : tie.After-list-table Inv-loop μ-loop) where
     inside : turn c .loop .first + c .list-table .result .lines ≤ length (lines (entry (turn c) .args .table .now))
     inside =
         told-lines (entry (turn c) .args .table .now) (turn c .loop .first) (turn c .loop .block) (c .list-table .ensures) (room (turn c))
-        none (turn c .loop .inv .0)
+        none (turn c .loop .inv .1)
 
     ended : c .list-table .result .lines ≡ 0 → length (lines (entry (turn c) .args .table .now)) ≤ turn c .loop .first
     ended =
@@ -101,7 +101,7 @@ returns-2 c =
     let at-call = c .before .before .before .before in
     let ls = lines (entry (turn at-call) .args .table .now) in
     let all = take-all (turn at-call .loop .first) ls (ended at-call (c .before .if1 .left) (c .if2 .taken)) in
-    (number-is at-call, λ e. turn at-call .loop .inv .1 ∙ ap (λ (ks : List (List ℕ)). length (joined ks)) all)
+    (number-is at-call, λ e. turn at-call .loop .inv .0 ∙ ap (λ (ks : List (List ℕ)). length (joined ks)) all)
 
 slice-reshare-prefix-print-lines : tie.Need-slice-reshare-prefix-print-lines Inv-loop μ-loop
 slice-reshare-prefix-print-lines c = within (c .before .before .before .before)
@@ -133,7 +133,7 @@ loop-again : tie.Need-loop-again Inv-loop μ-loop
 loop-again c =
     let at-if1 = c .before .before .before .before in
     let at-call = at-if1 .before .before .before in
-    (inside at-call (at-if1 .if1 .left), bytes-is at-call, search needs)
+    (bytes-is at-call, inside at-call (at-if1 .if1 .left), search needs)
 
 same-length-3 : tie.Need-same-length-3 Inv-loop μ-loop
 same-length-3 c = search needs

@@ -26,32 +26,32 @@ pub fn list_files(files: Files) {
     }
 }
 
-// Whether all that came to be written was.
+// Whether all that came to be written was. Of several files each has its name in front of what is printed of it.
 fn list_argument(files: Files, i: usize) -> bool {
     if is_file(files, i) {
         let mut word = io::buffer();
         let n = word_at(i, &mut word);
-        return list_file(&word[..n], 1 < count_files(files));
+        if 1 < count_files(files) {
+            return list_one_of_several(&word[..n]);
+        }
+        return list_file(&word[..n]);
     }
     true
 }
 
-fn list_file(name: &[u8], several: bool) -> bool {
+fn list_one_of_several(name: &[u8]) -> bool {
+    if print_file(&PROGRAM, name) {
+        return list_file(name);
+    }
+    false
+}
+
+fn list_file(name: &[u8]) -> bool {
     let file = open(&PROGRAM, name);
     if file < 0 {
         return true;
     }
-    let written = list_opened(file, name, several);
+    let written = list_input(file, name);
     close(file);
     written
-}
-
-fn list_opened(file: i32, name: &[u8], several: bool) -> bool {
-    if several {
-        if print_file(&PROGRAM, name) {
-            return list_input(file, name);
-        }
-        return false;
-    }
-    list_input(file, name)
 }

@@ -44,16 +44,15 @@ fn refuse(i: usize) {
 fn help(file: i32) -> bool {
     io::write_all(
         file,
-        b"usage: list_sheet [FILE]...
+        b"usage: list_sheet [FILE ...]
 
-Lists the records of each sheet, a line each, and then `done rows N` or
-`refused N at record K`. With no FILE, and where FILE is -, it reads standard
-input. With several, a line `file NAME` comes before each listing.
+Lists the records of each sheet, a line each, and says at the end how many rows
+there are, or at which record and by which rule it is refused. With no FILE, and
+where FILE is -, it reads standard input.
 
-  --help     print this text
-  --version  print the version
-
-example: list_sheet morning.sheet
+  --help     prints this
+  --version  prints the version
+  --         ends the options
 ",
     )
 }

@@ -79,7 +79,8 @@ module _ (m y : List ℕ) (e k : ℕ) (four : 4 ≤ length m) (least : 4 ≤ e) 
 
 -- ---- the line
 -- l was given to memory with room for it
-module _ (l m : List ℕ) (room : 128 ≤ length m) {a : Answer} {y : List ℕ} (given : outcome a y ≡ lineGiven l m) (most : length l ≤ 128) where
+module _ (l m : List ℕ) (room : 128 ≤ length m) {a : Answer} {y : List ℕ} (given : outcome a y ≡ lineGiven l m)
+    (most : length l ≤ 128) where
   fits : outcome a y ≡ wrote (length l) l m
   unfolding lineGiven
   fits = rw (le-ltb (length m) (length l) (omega arith)) at given
@@ -106,9 +107,10 @@ module _ (p : Carried) (r m : List ℕ) (room : 128 ≤ length m) {x : Listed} {
   as-fits : recordJudged (heldBy p) r .number ≡ 0
       → outcome x y ≡ outcome (record { read = recordJudged (heldBy p) r; count = length line }) (line ++ drop (length line) m)
   unfolding line
-  as-fits ok = listed ∙ recordListed-fits (p .table) r (p .state) m ok (omega (arith, most ok))
+  as-fits ok = listed ∙ recordListed-fits (heldBy p) r m ok (omega (arith, most ok))
 
-  as-refused : (recordJudged (heldBy p) r .number ≡ 0 → ⊥) → outcome x y ≡ outcome (record { read = recordJudged (heldBy p) r; count = 0 }) m
+  as-refused : (recordJudged (heldBy p) r .number ≡ 0 → ⊥)
+      → outcome x y ≡ outcome (record { read = recordJudged (heldBy p) r; count = 0 }) m
   as-refused wrong = listed ∙ sym (listed-refused (p .table) r (p .state) m (recordJudged (heldBy p) r) refl wrong)
 
   pub read-is : x .read ≡ recordJudged (heldBy p) r
@@ -150,7 +152,8 @@ module _ (p : Carried) (r m : List ℕ) (room : 128 ≤ length m) {x : Listed} {
     pub turn-accepted : {table : List ℕ} {rows : ℕ}
         → table ≡ tableKept (holdsOf (x .read)) (p .table) (take (x .read .length - 6) (drop 6 r))
         → rows ≡ p .rows + rowsOf (holdsOf (x .read))
-        → record { line = take (x .count) y; last = false; next = record { table = table; state = x .read .state; index = p .index + 1; rows = rows } }
+        → (let next : Carried = record { table = table; state = x .read .state; index = p .index + 1; rows = rows } in
+        record { line = take (x .count) y; last = false; next = next })
         ≡ turnOf p r
     turn-accepted is-table is-rows =
         rw (line-is, is-table, is-rows, read-is, judged-body (heldBy p) r fine) (sym (turnOf-accepted p r fine))

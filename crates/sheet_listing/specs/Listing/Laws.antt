@@ -8,7 +8,8 @@ use lib.ListN.{length, length-map}
 use Rattle.sheet_format.specs.Context.{Context, newSheet}
 use Rattle.sheet_format.specs.Kind.{Payload, aTable, aRow, aLine, noPayload}
 use Rattle.sheet_format.specs.Reading.{contextAfter, recordJudged}
-use Rattle.sheet_format.specs.Sheet.{SheetRecord, SheetRead, endsWith, putFirst, recordHere, restNext, records, sheetRead, recordHolds, StoredRow, rowOf, withRow, storedRows, rowNumbers}
+use Rattle.sheet_format.specs.Sheet.{SheetRecord, SheetRead, endsWith, putFirst, recordHere, restNext, records, sheetRead}
+use Rattle.sheet_format.specs.Sheet.{recordHolds, StoredRow, rowOf, withRow, storedRows, rowNumbers}
 use Rattle.sheet_format.specs.Theorems.{sheet-end, sheet-refused, sheet-more}
 use Rattle.sheet_listing.specs.Line.{recordLine, lastLine}
 use Rattle.sheet_listing.specs.Listing.{recordLines, lastOf, listing, rowsOf}
@@ -59,7 +60,8 @@ module _ (index rows : ℕ) where
     pub listing-more : (x : ℕ) (r : List ℕ) → recordJudged c (x ∷ r) .number ≡ 0
         → listingFrom index rows (records c (x ∷ r))
         ≡ recordLine (recordHere c (x ∷ r))
-        ++ listingFrom (index + 1) (rows + rowsOf (recordHolds (recordHere c (x ∷ r)))) (records (contextAfter c (x ∷ r)) (restNext c (x ∷ r)))
+        ++ listingFrom (index + 1) (rows + rowsOf (recordHolds (recordHere c (x ∷ r))))
+        (records (contextAfter c (x ∷ r)) (restNext c (x ∷ r)))
     listing-more x r h =
         ap (listingFrom index rows) (sheet-more c x r h)
         ∙ first-line (recordHere c (x ∷ r)) (records (contextAfter c (x ∷ r)) (restNext c (x ∷ r)))

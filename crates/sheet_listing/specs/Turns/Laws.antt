@@ -25,7 +25,8 @@ use Rattle.sheet_format.specs.Theorems.Locality.{span-whole, span-body}
 use Rattle.sheet_listing.specs.Line.{recordLine, lastLine}
 use Rattle.sheet_listing.specs.Listing.{listing, rowsOf}
 use Rattle.sheet_listing.specs.Listing.Laws.{listingFrom, listing-end, listing-refused, listing-more, listing-nothing, listing-some}
-use Rattle.sheet_listing.specs.Turns.{heldOf, holdsOf, Carried, carriedFirst, heldBy, carriedNext, Turned, lastTurn, recordTurn, turnOf, turns}
+use Rattle.sheet_listing.specs.Turns.{heldOf, Carried, carriedFirst, heldBy, carriedNext, Turned, lastTurn, recordTurn}
+use Rattle.sheet_listing.specs.Turns.{turnOf, turns}
 
 -- ---- one turn
 module _ (p : Carried) (b : List ℕ) where

@@ -15,13 +15,15 @@ use Rattle.sheet_format.specs.Context.{Context, newSheet}
 use Rattle.sheet_format.specs.Record.{lengthField, recordSpan}
 use Rattle.sheet_format.specs.Reading.{contextAfter, recordJudged}
 use Rattle.sheet_format.specs.Reading.Laws.{judged-length, judged-read}
-use Rattle.sheet_format.specs.Sheet.{SheetRecord, SheetRead, Reaches, there, onward, endsWith, putFirst, recordHere, restNext, records, sheetRead, recordHolds, storedRows, rowOf, rowNumbers}
+use Rattle.sheet_format.specs.Sheet.{SheetRecord, SheetRead, Reaches, there, onward, endsWith, putFirst, recordHere, restNext}
+use Rattle.sheet_format.specs.Sheet.{records, sheetRead, recordHolds, storedRows, rowOf, rowNumbers}
 use Rattle.sheet_format.specs.Theorems.{sheet-end, sheet-refused, sheet-more}
 use Rattle.sheet_format.specs.Theorems.Locality.{Alike, alike, recordJudged-alike, recordContent-alike, contextAfter-alike, span-whole}
 use Rattle.sheet_listing.specs.Line.{recordLine, lastLine}
 use Rattle.sheet_listing.specs.Listing.{recordLines, lastOf, listing, rowsOf}
 use Rattle.sheet_listing.specs.Listing.Laws.{listingFrom, length-withRow, length-rowNumbers, listing-nothing, listing-some}
-use Rattle.sheet_listing.specs.Turns.{heldOf, Carried, carriedFirst, heldBy, carriedNext, Turned, turnOf, turns, Carries, NextLine, EndLine}
+use Rattle.sheet_listing.specs.Turns.{heldOf, Carried, carriedFirst, heldBy, carriedNext, Turned, turnOf, turns}
+use Rattle.sheet_listing.specs.Turns.{Carries, NextLine, EndLine}
 use Rattle.sheet_listing.specs.Turns.Laws.{turnOf-refused, turnOf-accepted, held-next, turns-from}
 
 -- ---- an accepted record, with more bytes behind it
@@ -44,7 +46,8 @@ module _ (c : Context) (s t : List ℕ) (ok : recordJudged c s .number ≡ 0) wh
 
   here-append : recordHere c (s ++ t) ≡ recordHere c s
   here-append =
-      rw (judged-append, recordContent-alike s (s ++ t) same-fields c, take-append-le (recordJudged c s .length) s t (judged-length c s ok .2))
+      let content = recordContent-alike s (s ++ t) same-fields c in
+      rw (judged-append, content, take-append-le (recordJudged c s .length) s t (judged-length c s ok .2))
 
 -- ---- reading on
 reaches-append : {d c : Context} {p s : List ℕ} → Reaches d p c s → (t : List ℕ) → Reaches d (p ++ t) c (s ++ t)
@@ -195,7 +198,8 @@ pub next-line : {l : List ℕ} (x : NextLine l) (t : List ℕ) → heldOf t ≡ 
 next-line {l} x t same =
     let front = recordLines (records newSheet (x .taken) .records) in
     let line : l ≡ turnOf (x .carried) (heldOf t) .line = x .line ∙ rw same in
-    rw (carries-listing (x .taken) (x .carries) t, length-append front l, take-append-add front (turns (length t + 1) (x .carried) t) (length l), line, add-one (length t))
+    let rest = turns (length t + 1) (x .carried) t in
+    rw (carries-listing (x .taken) (x .carries) t, length-append front l, take-append-add front rest (length l), line, add-one (length t))
     (ap (front ++_) (turns-line (length t) (x .carried) t))
 
 -- ---- the last line

@@ -31,7 +31,8 @@ returns : tie.Need-returns
 returns c =
     let filled = c .before .before .before .before in
     let start = filled .before .before .before .before .before in
-    (omega arith, held-front (filled .fill .result .count) (filled .fill .last .1 .1 .1 .0 ++ drop 4 (start .args .bytes .now)) (omega arith))
+    let bytes = filled .fill .last .1 .1 .1 .0 ++ drop 4 (start .args .bytes .now) in
+    (omega arith, held-front (filled .fill .result .count) bytes (omega arith))
 
 read-u32-requires : tie.Need-read-u32-requires
 read-u32-requires c κs = search needs
@@ -67,9 +68,10 @@ returns-2 c =
     let filled = spanned .before .before .before .before .before .before .before in
     let start = filled .before .before .before .before .before in
     let bytes = start .args .bytes .now in
-    let m = filled .fill .last .1 .1 .1 .0 ++ drop 4 bytes in
+    let front = filled .fill .last .1 .1 .1 .0 in
+    let m = front ++ drop 4 bytes in
     let e = spanned .span .result in
-    let size : 4 ≤ length m = omega (arith, length-append (filled .fill .last .1 .1 .1 .0) (drop 4 bytes), length-drop 4 bytes, filled .fill .kept) in
+    let size : 4 ≤ length m = omega (arith, length-append front (drop 4 bytes), length-drop 4 bytes, filled .fill .kept) in
     let part = length-take (e - 4) (drop 4 m) in
     let few : more .fill2 .result .count ≤ e - 4 = omega (arith, more .fill2 .ensures, part) in
     let spans = spanned .span .ensures in (

@@ -42,7 +42,8 @@ slice-reshare-prefix-check c = search needs
 slice-aggregate-check : tie.Need-slice-aggregate-check
 slice-aggregate-check c =
     let filled = c .before .before .before .before in
-    let start = filled .before .before .before .before .before .before .before .before .before in
+    let known = filled .before .before .before .before .before .before in
+    let start = known .before .before .before in
     let bytes = start .args .bytes .now in
     let taken = start .args .turn .taken in
     let part = length-take (32776 - taken) (drop taken bytes) in

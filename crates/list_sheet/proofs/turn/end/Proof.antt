@@ -21,9 +21,10 @@ returns c =
     let start = ended .before .before .before in
     let args = start .args in
     let last = lastLine (args .number) (args .at .index) (args .at .rows) in
-    let given = ended .list-end .ensures in (
-      rw (given-count last (args .line .now) (start .pre) (given .0) (given .1)),
-      (given-within last (args .line .now) (start .pre) (given .0) (given .1), given-line last (args .line .now) (start .pre) (given .0) (given .1)),
+    let given = ended .list-end .ensures in
+    let line = args .line .now in (
+      rw (given-count last line (start .pre) (given .0) (given .1)),
+      (given-within last line (start .pre) (given .0) (given .1), given-line last line (start .pre) (given .0) (given .1)),
     )
 
 pub end-spec : {M : Type 1} → statement M

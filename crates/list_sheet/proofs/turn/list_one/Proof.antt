@@ -56,7 +56,8 @@ keep-table-requires c κs =
     let args = start .args in
     let listing = listed .list-record .ensures in
     let at = carriedBy (args .at) (args .table .now) in
-    let size = read-length at (args .bytes .now) (args .line .now) (start .pre .1 .1 .0) (listing .0) (listing .1) (c .before .before .if1 .left) in
+    let ok = c .before .before .if1 .left in
+    let size = read-length at (args .bytes .now) (args .line .now) (start .pre .1 .1 .0) (listing .0) (listing .1) ok in
     (start .pre .1 .0, (start .pre .1 .1 .1 .1 .kept, size))
 
 rows-after-requires : tie.Need-rows-after-requires
@@ -91,8 +92,10 @@ returns-2 c =
     let room = start .pre .1 .1 .0 in
     let ok = accepted .if1 .left in
     let rows = counted .rows-after .ensures in
-    let within = line-within at (args .bytes .now) (args .line .now) room (listing .0) (listing .1) ok in
-    let turn = turn-accepted at (args .bytes .now) (args .line .now) room (listing .0) (listing .1) ok (kept .keep-table .ensures .1) rows in (
+    let bytes = args .bytes .now in
+    let line = args .line .now in
+    let within = line-within at bytes line room (listing .0) (listing .1) ok in
+    let turn = turn-accepted at bytes line room (listing .0) (listing .1) ok (kept .keep-table .ensures .1) rows in (
       refl,
       (
         within,

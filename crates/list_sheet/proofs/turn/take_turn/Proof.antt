@@ -20,7 +20,8 @@ same-length c = search needs
 
 returns : tie.Need-returns
 returns c =
-    let start = c .before .before .before .before .before .before .before .before .before .before in
+    let filled = c .before .before .before .before in
+    let start = filled .before .before .before .before .before .before in
     let unread = c .unread .ensures in (
       rw unread (omega arith),
       (

@@ -14,8 +14,9 @@ returns : tie.Need-returns
 returns c =
     let at-put-refused-at-line = c .before .before in
     let at-if1 = at-put-refused-at-line .before .before in
-    let at-start = at-if1 .before .before in
-    (rw (last-refused (at-start .args .number) (at-start .args .index) (at-start .args .rows) (at-if1 .if1 .taken)) at (at-put-refused-at-line .put-refused-at-line .ensures .0), search needs)
+    let args = at-if1 .before .before .args in
+    let line = last-refused (args .number) (args .index) (args .rows) (at-if1 .if1 .taken) in
+    (rw line at (at-put-refused-at-line .put-refused-at-line .ensures .0), search needs)
 
 put-done-line-requires : tie.Need-put-done-line-requires
 put-done-line-requires c κs = search needs
@@ -27,8 +28,9 @@ returns-2 : tie.Need-returns-2
 returns-2 c =
     let at-put-done-line = c .before .before in
     let at-if1 = at-put-done-line .before .before in
-    let at-start = at-if1 .before .before in
-    (rw (at-if1 .if1 .left) (rw (last-done (at-start .args .index) (at-start .args .rows)) at (at-put-done-line .put-done-line .ensures .0)), search needs)
+    let args = at-if1 .before .before .args in
+    let line = last-done (args .index) (args .rows) in
+    (rw (at-if1 .if1 .left) (rw line at (at-put-done-line .put-done-line .ensures .0)), search needs)
 
 pub put-last-line-spec : {M : Type 1} → statement M
 put-last-line-spec =

@@ -24,8 +24,9 @@ returns : tie.Need-returns
 returns c =
     let at-put-table = c .before .before in
     let at-match = at-put-table .before .before in
-    let at-start = at-match .before .before .before in
-    (rw (line-table (at-start .args .read) (at-start .args .body .now) (at-match .match .keys1)) at (at-put-table .put-table .ensures .0), search needs)
+    let args = at-match .before .before .before .args in
+    let line = line-table (args .read) (args .body .now) (at-match .match .keys1) in
+    (rw line at (at-put-table .put-table .ensures .0), search needs)
 
 same-length-2 : tie.Need-same-length-2
 same-length-2 c = search needs
@@ -34,8 +35,9 @@ returns-2 : tie.Need-returns-2
 returns-2 c =
     let at-put-packed-line = c .before .before in
     let at-match = at-put-packed-line .before .before in
-    let at-start = at-match .before .before .before in
-    (rw (line-packed (at-start .args .read) (at-start .args .body .now) (at-match .match .keys2)) at (at-put-packed-line .put-packed-line .ensures .0), search needs)
+    let args = at-match .before .before .before .args in
+    let line = line-packed (args .read) (args .body .now) (at-match .match .keys2) in
+    (rw line at (at-put-packed-line .put-packed-line .ensures .0), search needs)
 
 same-length-3 : tie.Need-same-length-3
 same-length-3 c = search needs
@@ -44,8 +46,9 @@ returns-3 : tie.Need-returns-3
 returns-3 c =
     let at-put-plain-line = c .before .before in
     let at-match = at-put-plain-line .before .before in
-    let at-start = at-match .before .before .before in
-    (rw (line-plain (at-start .args .read) (at-start .args .body .now) (at-match .match .keys3)) at (at-put-plain-line .put-plain-line .ensures .0), search needs)
+    let args = at-match .before .before .before .args in
+    let line = line-plain (args .read) (args .body .now) (at-match .match .keys3) in
+    (rw line at (at-put-plain-line .put-plain-line .ensures .0), search needs)
 
 same-length-4 : tie.Need-same-length-4
 same-length-4 c = search needs
@@ -54,13 +57,16 @@ returns-4 : tie.Need-returns-4
 returns-4 c =
     let at-put-contour-line = c .before .before in
     let at-match = at-put-contour-line .before .before in
-    let at-start = at-match .before .before .before in
-    (rw (line-contour (at-start .args .read) (at-start .args .body .now) (at-match .match .keys4)) at (at-put-contour-line .put-contour-line .ensures .0), search needs)
+    let args = at-match .before .before .before .args in
+    let line = line-contour (args .read) (args .body .now) (at-match .match .keys4) in
+    (rw line at (at-put-contour-line .put-contour-line .ensures .0), search needs)
 
 returns-5 : tie.Need-returns-5
 returns-5 c =
-    let at-start = c .before .before .before in
-    (rw (← line-other (at-start .args .read) (at-start .args .body .now) (c .match .rest .0 .0 .0 .1) (c .match .rest .0 .0 .1) (c .match .rest .0 .1) (c .match .rest .1)) (put-none (at-start .args .out .now) 0), search needs)
+    let args = c .before .before .before .args in
+    let other = c .match .rest in
+    let line = line-other (args .read) (args .body .now) (other .0 .0 .0 .1) (other .0 .0 .1) (other .0 .1) (other .1) in
+    (rw (← line) (put-none (args .out .now) 0), search needs)
 
 pub put-record-line-spec : {M : Type 1} → statement M
 put-record-line-spec =

@@ -37,7 +37,11 @@ returns c =
     let at-word-at = at-low-limit .before in
     let at-check = at-word-at .before in
     let at-start = at-check .before .before .before in
-    (rw (at-check .check .ensures, checked-most (at-start .args .table .now) (at-start .pre .1), at-word-at .word-at .ensures, at-low-limit .low-limit .ensures, at-table-size .table-size .ensures) at (at-put-table-line .put-table-line .ensures .0), search needs)
+    let worst = checked-most (at-start .args .table .now) (at-start .pre .1) in
+    let id = at-word-at .word-at .ensures in
+    let low = at-low-limit .low-limit .ensures in
+    let size = at-table-size .table-size .ensures in
+    (rw (at-check .check .ensures, worst, id, low, size) at (at-put-table-line .put-table-line .ensures .0), search needs)
 
 pub put-table-spec : {M : Type 1} → statement M
 put-table-spec =

@@ -24,7 +24,6 @@ use Rattle.row_format.specs.Reading.{Reading, item, fault, bitsOfReading, Run, 
 use Rattle.row_format.specs.Reading.Laws.{firstNumber-readable, lent-room, room-lent}
 use Rattle.row_format.specs.Calls.{unpacked, rowOutcome, Accepts}
 use Rattle.row_format.specs.Theorems.Bounds.{readItem-uses}
-use Rattle.row_format.specs.Theorems.Done.{unpacked-accepts}
 use Rattle.row_format.specs.Theorems.Items.{after-height}
 use Rattle.row_format.specs.Theorems.Numbers.{FaultIn, readItem-in}
 use Rattle.row_format.specs.Theorems.Standing as standing

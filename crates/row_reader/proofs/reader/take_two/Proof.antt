@@ -2,7 +2,7 @@
 -- to `next` for a lifetime that is made for the call and lies within the slices', and comes back at its next place; then once more.
 -- All that the proof knows of `open` and of `next` is that each meets its contract.
 -- Assumes nothing.
-use mathlib.Core.Path.{_≡_, refl, sym, ap, _∙_, subst}
+use mathlib.Core.Path.{_≡_, refl, ap, _∙_, subst}
 use Prim.Native.Nat.{ℕ}
 use mathlib.Core.List.{List, [], _∷_}
 use lib.ListN.{length}
@@ -33,7 +33,7 @@ use denote.Lend.{lends-ref, ref-back}
 use denote.Memory.{mem, cellAt, partOf}
 use denote.Builtin.{u8}
 use denote.Ref.{RefT, NamedLft, MutRef, now}
-use denote.Signature.{plain, namedLft}
+use denote.Signature.{plain}
 use denote.Slice.{sliceVal, ShrSlice, slice-vals, shr-slice-tells, shr-slice-lawful, shr-slice-copy}
 use denote.Steps.{only, peeks, heard, nothing}
 use denote.Struct.Declared.{Declared}

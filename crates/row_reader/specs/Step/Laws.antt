@@ -9,7 +9,8 @@ use lib.Dec.{ltb}
 use borrow.Author.Tests.{lt-ltb, le-ltb, ltb-false}
 use Rattle.bitstream.specs.Bits.{wordsOf, stream}
 use Rattle.answer.specs.Outcome.{refuseIf}
-use Rattle.answer.specs.Outcome.Laws.{orElse-zero-left, orElse-zero-right, refuseIf-zero, given-first, given-next, lessNumber-zero, unless-refused, unless-in, orElse-in, refuseIf-in}
+use Rattle.answer.specs.Outcome.Laws.{orElse-zero-left, orElse-zero-right, refuseIf-zero, given-first, given-next, lessNumber-zero}
+use Rattle.answer.specs.Outcome.Laws.{unless-refused, unless-in, orElse-in, refuseIf-in}
 use Rattle.row_format.specs.Lists.Laws.{by-test, or-false-left, or-false-right}
 use Rattle.row_format.specs.Row as row
 use Rattle.row_format.specs.Reading.{Reading, item, fault}

@@ -2,7 +2,6 @@
 use mathlib.Core.List.{List}
 use Prim.Native.Nat.{ℕ}
 use Rattle.row_reader.specs.declared.step.Place.{Place}
-use Rattle.row_reader.specs.declared.step.ItemRead.{ItemRead}
 use Rattle.row_reader.specs.declared.reader.Taken.{Taken}
 use Rattle.row_reader.specs.Step.{itemRead}
 

@@ -3,7 +3,7 @@
 -- nothing.
 use Prim.Native.Nat.{ℕ, _+_, _/_, _≤_, _<_}
 use native.Mathlib.Omega.{arith}
-use mathlib.Core.Path.{_≡_, refl, sym, _∙_}
+use mathlib.Core.Path.{_≡_, refl}
 use mathlib.Core.Bool.{true, false}
 use mathlib.Core.Logic.{_⊎_}
 use mathlib.Core.List.{List, [], _∷_}
@@ -15,13 +15,13 @@ use Rattle.row_item.specs.Coded.{stateOf}
 use Rattle.row_format.specs.Lists.{any}
 use Rattle.row_format.specs.Table.{tableNumber, maxItemBits}
 use Rattle.row_format.specs.Row.{pixelBytes}
-use Rattle.row_format.specs.Reading.{bitsOfReading, readItem}
+use Rattle.row_format.specs.Reading.{bitsOfReading}
 use Rattle.row_format.specs.Calls.{unpacked}
 use Rattle.row_format.specs.Theorems.Bounds.{readItem-uses}
 use Rattle.row_format.specs.Theorems.Done.{unpacked-accepts}
 use Rattle.row_format.specs.Theorems.Numbers.{tableNumber-in}
 use Rattle.row_reader.specs.declared.step.Place.{Place}
-use Rattle.row_reader.specs.Step.{startPlace, impossible, placeNumber, readingAt, itemRead}
+use Rattle.row_reader.specs.Step.{startPlace, impossible, readingAt, itemRead}
 use Rattle.row_reader.specs.Step.Laws.{placeNumber-unopened, placeNumber-impossible, placeNumber-given, itemRead-number, itemRead-in}
 use Rattle.row_reader.specs.Walk.{gave, ended, walk, Handed}
 use Rattle.row_reader.specs.Walk.Laws as laws

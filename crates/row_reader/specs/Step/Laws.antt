@@ -9,7 +9,8 @@ use lib.Dec.{ltb}
 use borrow.Author.Tests.{lt-ltb, le-ltb, ltb-false}
 use Rattle.bitstream.specs.Bits.{wordsOf, stream}
 use Rattle.answer.specs.Outcome.{refuseIf}
-use Rattle.answer.specs.Outcome.Laws.{orElse-zero-left, orElse-zero-right, refuseIf-zero, given-first, given-next, lessNumber-zero, unless-refused, unless-in, orElse-in, refuseIf-in}
+use Rattle.answer.specs.Outcome.Laws.{orElse-zero-left, orElse-zero-right, refuseIf-zero, given-first, given-next, lessNumber-zero}
+use Rattle.answer.specs.Outcome.Laws.{unless-refused, unless-in, orElse-in, refuseIf-in}
 use Rattle.row_format.specs.Lists.Laws.{by-test, or-false-left, or-false-right}
 use Rattle.row_format.specs.Row as row
 use Rattle.row_format.specs.Reading.{Reading, item, fault}
@@ -17,13 +18,12 @@ use Rattle.row_format.specs.Theorems.Numbers.{FaultIn, readItem-in}
 use Rattle.row_item.specs.declared.Item.{Item}
 use Rattle.row_item.specs.declared.Progress.{Progress}
 use Rattle.row_item.specs.Coded.{coded, progress, Followed, stateOf}
-use Rattle.row_item.specs.Coded.Laws.{stateOf-progress}
 use Rattle.row_unpacker.specs.declared.item.Read.{Read}
 use Rattle.row_unpacker.specs.declared.item.Read.the-variants.{Got, Refused}
 use Rattle.row_unpacker.specs.Item.{answered, itemAt}
 use Rattle.row_reader.specs.declared.step.Place.{Place}
 use Rattle.row_reader.specs.declared.step.ItemRead.{ItemRead}
-use Rattle.row_reader.specs.Step.{impossible, openingNumber, placeNumber, refusedAt, placeAfter, given, readingAt, itemRead}
+use Rattle.row_reader.specs.Step.{impossible, openingNumber, placeNumber, refusedAt, given, readingAt, itemRead}
 
 -- ---- a place that a reading can have
 pub record Possible (pl : Place) : Type 0 where

@@ -20,11 +20,11 @@ use Rattle.row_format.specs.Table.{tableNumber, maxItemBits, Accepted}
 use Rattle.row_format.specs.Table.Laws.{accepted, tableNumber-verdict, maxItemBits-most}
 use Rattle.row_format.specs.Row as row
 use Rattle.row_format.specs.Row.{pixelsOf, pixelBytes}
-use Rattle.row_format.specs.Reading.{Reading, item, fault, bitsOfReading, Run, done, stop, prepend, readItem, readBy, readItems, stray, withoutStray, rowReading, Readable}
+use Rattle.row_format.specs.Reading.{Reading, item, fault, bitsOfReading, Run, done, stop, prepend, readItem, readBy, readItems, stray}
+use Rattle.row_format.specs.Reading.{withoutStray, rowReading, Readable}
 use Rattle.row_format.specs.Reading.Laws.{firstNumber-readable, lent-room, room-lent}
 use Rattle.row_format.specs.Calls.{unpacked, rowOutcome, Accepts}
 use Rattle.row_format.specs.Theorems.Bounds.{readItem-uses}
-use Rattle.row_format.specs.Theorems.Done.{unpacked-accepts}
 use Rattle.row_format.specs.Theorems.Items.{after-height}
 use Rattle.row_format.specs.Theorems.Numbers.{FaultIn, readItem-in}
 use Rattle.row_format.specs.Theorems.Standing as standing

@@ -1,7 +1,6 @@
 -- `tahliruz::tahliruz_open` meets its contract: the place of the start, as C has it, beside its opening. Assumes nothing.
-use Prim.Native.Nat.{_≤_}
 use native.Mathlib.Omega.{arith}
-use mathlib.Core.Path.{_≡_, sym, ap, _∙_}
+use mathlib.Core.Path.{ap}
 use borrow.Author.Needs.{needs}
 use Rattle.row_reader.specs.declared.step.Place.{Place}
 use Rattle.tahliruz.specs.Items.{flatPlace, readerOpened}

@@ -1,13 +1,13 @@
 -- The ways out of the item call, and its numbers. Assumes nothing.
-use Prim.Native.Nat.{ℕ, zero, suc, _≤_}
+use Prim.Native.Nat.{ℕ, _≤_}
 use native.Mathlib.Omega.{arith}
 use mathlib.Core.Path.{_≡_, refl, sym, ap, _∙_}
 use mathlib.Core.Bool.{Bool, true, false, not}
 use mathlib.Core.List.{List}
-use lib.IntN.{ℤ, pos}
+use lib.IntN.{ℤ}
 use lib.Dec.{ltb, eqb}
 use borrow.Author.Tests.{le-ltb}
-use Rattle.answer.specs.Outcome.{_orElse_, unless, refuseIf}
+use Rattle.answer.specs.Outcome.{_orElse_, unless}
 use Rattle.answer.specs.Outcome.Laws.{orElse-in, refuseIf-in, unless-in, unless-first, unless-refused, unless-number, orElse-zero-left}
 use Rattle.row_format.specs.Table.{tableNumber}
 use Rattle.row_format.specs.Theorems.Numbers.{tableNumber-in}

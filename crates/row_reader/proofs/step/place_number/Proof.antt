@@ -2,7 +2,8 @@
 use native.Mathlib.Omega.{arith}
 use mathlib.Core.Path.{sym, _∙_}
 use borrow.Author.Needs.{needs}
-use Rattle.row_reader.specs.Step.Laws.{placeNumber-other, placeNumber-unopened, placeNumber-impossible, placeNumber-full, placeNumber-none}
+use Rattle.row_reader.specs.Step.Laws.{placeNumber-other, placeNumber-unopened, placeNumber-impossible, placeNumber-full}
+use Rattle.row_reader.specs.Step.Laws.{placeNumber-none}
 use Rattle.row_reader.proofs.step.place_number.Statement.{statement}
 use Rattle.row_reader.proofs.step.place_number.Tie as tie
 

@@ -1,6 +1,5 @@
 // The table lister: prints the strings of each table in tree order, a line each, or `refused N`. What cannot be opened, read
 // or written is said on standard error.
-mod input;
 mod print;
 mod sheet;
 
@@ -8,6 +7,7 @@ use command::Files;
 use command::Request;
 use command::close;
 use command::count_files;
+use command::input::fill;
 use command::is_file;
 use command::open;
 use command::read_request;
@@ -17,8 +17,6 @@ use command::say::print_file;
 use command::say::print_version;
 use command::say::refuse_option;
 use command::word_at;
-use input::Input;
-use input::read_table;
 use libc::STDERR_FILENO;
 use libc::STDIN_FILENO;
 use libc::STDOUT_FILENO;
@@ -29,33 +27,42 @@ pub const PROGRAM: [u8; 10] = *b"list_table";
 
 fn main() {
     match read_request() {
-        Request::Help => write_usage(STDOUT_FILENO),
-        Request::Version => {
-            print_version(&PROGRAM);
-        }
-        Request::Unknown(i) => {
-            refuse_option(&PROGRAM, i);
-            write_usage(STDERR_FILENO);
-        }
+        Request::Help => print_help(),
+        Request::Version => print_program(),
+        Request::Unknown(i) => refuse(i),
         Request::Files(files) => list_files(files),
     }
 }
 
-fn write_usage(file: i32) {
-    if io::write_all(
-        file,
-        b"usage: list_table [FILE ...]\n\
-\n\
-Lists the codewords of each table in tree order, or says by which rule it is refused.\n\
-With no FILE, and where FILE is -, it reads standard input.\n\
-\n\
-\x20 --help     prints this\n\
-\x20 --version  prints the version\n\
-\x20 --         ends the options\n",
-    ) {
+fn print_help() {
+    if help(STDOUT_FILENO) {
         return;
     }
     complain(&PROGRAM, b"standard output");
+}
+
+fn print_program() {
+    print_version(&PROGRAM);
+}
+
+fn refuse(i: usize) {
+    refuse_option(&PROGRAM, i);
+    help(STDERR_FILENO);
+}
+
+fn help(file: i32) -> bool {
+    io::write_all(
+        file,
+        b"usage: list_table [FILE ...]
+
+Lists the codewords of each table in tree order, or says by which rule it is
+refused. With no FILE, and where FILE is -, it reads standard input.
+
+  --help     prints this
+  --version  prints the version
+  --         ends the options
+",
+    )
 }
 
 // Each file in its turn; standard input where none is named.
@@ -111,13 +118,12 @@ fn list_file(file: i32, name: &[u8]) -> bool {
     // a table has at most 32772 bytes: with one more that is read it is refused, however much follows. The first record of a
     // sheet has at most 32778
     let mut table = [0u8; 32778];
-    match read_table(file, &mut table) {
-        Input::Bytes(n) => list_bytes(&table[..n], name),
-        Input::Failed => {
-            complain(&PROGRAM, name);
-            true
-        }
+    let filled = fill(&PROGRAM, name, file, &mut table);
+    if filled.failed {
+        return true;
     }
+    let n = filled.count;
+    list_bytes(&table[..n], name)
 }
 
 fn list_bytes(table: &[u8], name: &[u8]) -> bool {

@@ -1,50 +1,33 @@
 -- `list_table::list_file`: what was read lies in the buffer. Assumes nothing.
-use Prim.Native.Nat.{_≤_}
 use native.Mathlib.Omega.{arith}
 use mathlib.Core.Path.{sym}
-use lib.ListN.{length}
 use lib.Seq.{length-take-le}
 use borrow.Author.Needs.{needs}
 use Rattle.list_table.proofs.list_file.Statement.{statement}
 use Rattle.list_table.proofs.list_file.Tie as tie
 
-within : (c : tie.After-known-told) → c .before .n .given .0 .0 ≤ length (c .before .before .before .before .read-table .last .1 .0)
-within c =
-    let reading = c .before .before .before .before .read-table in
-    omega (arith, rw (c .before .n .given .1) at (reading .ensures), reading .kept .1 .0)
+slice-aggregate-fill : tie.Need-slice-aggregate-fill
+slice-aggregate-fill c = search needs
 
-slice-aggregate-read-table : tie.Need-slice-aggregate-read-table
-slice-aggregate-read-table c = search needs
+slice-aggregate-fill-2 : tie.Need-slice-aggregate-fill-2
+slice-aggregate-fill-2 c = search needs
 
-read-table-requires : tie.Need-read-table-requires
-read-table-requires c κs = search needs
-
-enum-known-n : tie.Need-enum-known-n
-enum-known-n c = search needs
-
-array-share-prefix-table : tie.Need-array-share-prefix-table
-array-share-prefix-table c = within c
-
-slice-aggregate-list-bytes : tie.Need-slice-aggregate-list-bytes
-slice-aggregate-list-bytes c =
-    let at-known = c .before in
-    let reading = at-known .before .before .before .before .read-table in
-    sym (length-take-le (at-known .before .n .given .0 .0) (reading .last .1 .0) (within at-known))
-
-list-bytes-requires : tie.Need-list-bytes-requires
-list-bytes-requires c κs = search needs
-
-enum-told : tie.Need-enum-told
-enum-told c = search needs
-
-slice-aggregate-complain : tie.Need-slice-aggregate-complain
-slice-aggregate-complain c = search needs
-
-complain-requires : tie.Need-complain-requires
-complain-requires c κs = search needs
+fill-requires : tie.Need-fill-requires
+fill-requires c κs = search needs
 
 returns : tie.Need-returns
 returns c = search needs
+
+array-share-prefix-table : tie.Need-array-share-prefix-table
+array-share-prefix-table c = search needs
+
+slice-aggregate-list-bytes : tie.Need-slice-aggregate-list-bytes
+slice-aggregate-list-bytes c =
+    let fill = c .before .before .before .fill in
+    sym (length-take-le (fill .result .count) (fill .last .1 .1 .1 .0) (omega (arith, fill .ensures, fill .kept .1 .1 .1 .0)))
+
+list-bytes-requires : tie.Need-list-bytes-requires
+list-bytes-requires c κs = search needs
 
 returns-2 : tie.Need-returns-2
 returns-2 c = search needs
@@ -53,14 +36,11 @@ pub list-file-spec : {M : Type 1} → statement M
 list-file-spec =
     tie.close
     (tie.spec
-    slice-aggregate-read-table
-    read-table-requires
-    enum-known-n
+    slice-aggregate-fill
+    slice-aggregate-fill-2
+    fill-requires
+    returns
     array-share-prefix-table
     slice-aggregate-list-bytes
     list-bytes-requires
-    enum-told
-    slice-aggregate-complain
-    complain-requires
-    returns
     returns-2)

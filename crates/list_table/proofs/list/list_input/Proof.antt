@@ -1,10 +1,10 @@
--- `list_table::list_file`: what was read lies in the buffer. Assumes nothing.
+-- `list_table::list::list_input`: what was read lies in the buffer. Assumes nothing.
 use native.Mathlib.Omega.{arith}
 use mathlib.Core.Path.{sym}
 use lib.Seq.{length-take-le}
 use borrow.Author.Needs.{needs}
-use Rattle.list_table.proofs.list_file.Statement.{statement}
-use Rattle.list_table.proofs.list_file.Tie as tie
+use Rattle.list_table.proofs.list.list_input.Statement.{statement}
+use Rattle.list_table.proofs.list.list_input.Tie as tie
 
 slice-aggregate-fill : tie.Need-slice-aggregate-fill
 slice-aggregate-fill c = search needs
@@ -32,8 +32,8 @@ list-bytes-requires c κs = search needs
 returns-2 : tie.Need-returns-2
 returns-2 c = search needs
 
-pub list-file-spec : {M : Type 1} → statement M
-list-file-spec =
+pub list-input-spec : {M : Type 1} → statement M
+list-input-spec =
     tie.close
     (tie.spec
     slice-aggregate-fill

@@ -1,135 +1,57 @@
 // The table lister: prints the strings of each table in tree order, a line each, or `refused N`. What cannot be opened, read
 // or written is said on standard error.
-mod input;
+mod files;
+mod list;
 mod print;
 mod sheet;
 
-use command::Files;
 use command::Request;
-use command::close;
-use command::count_files;
-use command::is_file;
-use command::open;
 use command::read_request;
 use command::say::complain;
-use command::say::hint;
-use command::say::print_file;
 use command::say::print_version;
 use command::say::refuse_option;
-use command::word_at;
-use input::Input;
-use input::read_table;
+use files::list_files;
 use libc::STDERR_FILENO;
-use libc::STDIN_FILENO;
 use libc::STDOUT_FILENO;
-use print::print_listing;
-use sheet::begins_sheet;
 
 pub const PROGRAM: [u8; 10] = *b"list_table";
 
 fn main() {
     match read_request() {
-        Request::Help => write_usage(STDOUT_FILENO),
-        Request::Version => {
-            print_version(&PROGRAM);
-        }
-        Request::Unknown(i) => {
-            refuse_option(&PROGRAM, i);
-            write_usage(STDERR_FILENO);
-        }
+        Request::Help => print_help(),
+        Request::Version => print_program(),
+        Request::Unknown(i) => refuse(i),
         Request::Files(files) => list_files(files),
     }
 }
 
-fn write_usage(file: i32) {
-    if io::write_all(
-        file,
-        b"usage: list_table [FILE ...]\n\
-\n\
-Lists the codewords of each table in tree order, or says by which rule it is refused.\n\
-With no FILE, and where FILE is -, it reads standard input.\n\
-\n\
-\x20 --help     prints this\n\
-\x20 --version  prints the version\n\
-\x20 --         ends the options\n",
-    ) {
+fn print_help() {
+    if help(STDOUT_FILENO) {
         return;
     }
     complain(&PROGRAM, b"standard output");
 }
 
-// Each file in its turn; standard input where none is named.
-fn list_files(files: Files) {
-    let count = count_files(files);
-    if count == 0 {
-        list_file(STDIN_FILENO, b"-");
-        return;
-    }
-    let several = 1 < count;
-    let mut i = 1;
-    while i < files.arguments {
-        if list_argument(files, i, several) {
-            i += 1;
-        } else {
-            return;
-        }
-    }
+fn print_program() {
+    print_version(&PROGRAM);
 }
 
-// The argument at place i, where it is a file. False where nothing more can be written.
-fn list_argument(files: Files, i: usize, several: bool) -> bool {
-    if is_file(files, i) {
-        return list_named(i, several);
-    }
-    true
+fn refuse(i: usize) {
+    refuse_option(&PROGRAM, i);
+    help(STDERR_FILENO);
 }
 
-fn list_named(i: usize, several: bool) -> bool {
-    let mut word = io::buffer();
-    let n = word_at(i, &mut word);
-    let name = &word[..n];
-    if several {
-        if print_file(&PROGRAM, name) {
-            return list_opened(name);
-        }
-        return false;
-    }
-    list_opened(name)
-}
+fn help(file: i32) -> bool {
+    io::write_all(
+        file,
+        b"usage: list_table [FILE ...]
 
-fn list_opened(name: &[u8]) -> bool {
-    let file = open(&PROGRAM, name);
-    if file < 0 {
-        return true;
-    }
-    let written = list_file(file, name);
-    close(file);
-    written
-}
+Lists the codewords of each table in tree order, or says by which rule it is
+refused. With no FILE, and where FILE is -, it reads standard input.
 
-fn list_file(file: i32, name: &[u8]) -> bool {
-    // a table has at most 32772 bytes: with one more that is read it is refused, however much follows. The first record of a
-    // sheet has at most 32778
-    let mut table = [0u8; 32778];
-    match read_table(file, &mut table) {
-        Input::Bytes(n) => list_bytes(&table[..n], name),
-        Input::Failed => {
-            complain(&PROGRAM, name);
-            true
-        }
-    }
-}
-
-fn list_bytes(table: &[u8], name: &[u8]) -> bool {
-    let printed = print_listing(table);
-    if printed.number != 0 {
-        if begins_sheet(table) {
-            hint(
-                &PROGRAM,
-                name,
-                b"this looks like a sheet; list_sheet lists it",
-            );
-        }
-    }
-    printed.whole
+  --help     prints this
+  --version  prints the version
+  --         ends the options
+",
+    )
 }

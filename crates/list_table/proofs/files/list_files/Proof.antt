@@ -1,23 +1,23 @@
--- `list_table::list_files`: one argument a turn; the measure is how many are left. Assumes nothing.
+-- `list_table::files::list_files`: one argument a turn; the measure is how many are left. Assumes nothing.
 use Prim.Native.Nat.{_-_}
 use borrow.Author.Needs.{needs}
-use Rattle.list_table.proofs.list_files.Statement.{statement}
-use Rattle.list_table.proofs.list_files.Tie as tie
+use Rattle.list_table.proofs.files.list_files.Statement.{statement}
+use Rattle.list_table.proofs.files.list_files.Tie as tie
 
 abbrev Inv-loop : tie.InvT-loop
-Inv-loop files count several i₀ i = Unit {0}
+Inv-loop files i₀ i = Unit {0}
 
 abbrev μ-loop : tie.MeasureT-loop
-μ-loop files count several i₀ i = files .arguments - i
+μ-loop files i₀ i = files .arguments - i
 
 count-files-requires : tie.Need-count-files-requires Inv-loop μ-loop
 count-files-requires c κs = search needs
 
-slice-aggregate-list-file : tie.Need-slice-aggregate-list-file Inv-loop μ-loop
-slice-aggregate-list-file c = search needs
+slice-aggregate-list-input : tie.Need-slice-aggregate-list-input Inv-loop μ-loop
+slice-aggregate-list-input c = search needs
 
-list-file-requires : tie.Need-list-file-requires Inv-loop μ-loop
-list-file-requires c κs = search needs
+list-input-requires : tie.Need-list-input-requires Inv-loop μ-loop
+list-input-requires c κs = search needs
 
 returns : tie.Need-returns Inv-loop μ-loop
 returns c = search needs
@@ -50,8 +50,8 @@ list-files-spec =
     Inv-loop
     μ-loop
     count-files-requires
-    slice-aggregate-list-file
-    list-file-requires
+    slice-aggregate-list-input
+    list-input-requires
     returns
     loop-holds
     list-argument-requires

@@ -31,7 +31,7 @@ use Rattle.sheet_listing.specs.Turns.Laws.{span-least, turnOf-refused, turnOf-a
 use Rattle.sheet_listing.specs.Turns.Taken.{carries-none, carries-more, end-line}
 use Rattle.list_sheet.specs.declared.turn.Progress.{Progress}
 use Rattle.list_sheet.specs.declared.turn.Turn.{Turn}
-use Rattle.list_sheet.specs.Step.{carriedBy, turnedBy, TurnMade, Underway}
+use Rattle.list_sheet.specs.Step.{carriedBy, TurnMade, Underway}
 
 -- ---- the bytes of a record
 -- four bytes or fewer are held whole

@@ -4,16 +4,16 @@ use native.Mathlib.Decide.{decLt}
 use native.Mathlib.Omega.{arith}
 use mathlib.Core.Path.{_≡_, refl, sym, ap, _∙_}
 use mathlib.Core.Logic.{by-cases}
-use mathlib.Core.Bool.{true, false, cond}
+use mathlib.Core.Bool.{false}
 use mathlib.Core.List.{List, [], _∷_, _++_}
 use lib.ListN.{length, take, drop, length-take, length-drop}
-use lib.Seq.{take-nil, take-take, length-take-le, take-all}
+use lib.Seq.{take-nil, take-take}
 use lib.Dec.{eqb}
 use borrow.Author.Tests.{eqb-true, eqb-false, ne-eqb, lt-ltb, le-ltb}
 use Rattle.row_format.specs.Lists.Laws.{by-test, true-false}
 use Rattle.answer.specs.Outcome.Laws.{unless-refused}
 use Rattle.sheet_format.specs.declared.RecordRead.{RecordRead}
-use Rattle.sheet_format.specs.Context.{Context, newSheet, stateOf, contextOf}
+use Rattle.sheet_format.specs.Context.{Context, contextOf}
 use Rattle.sheet_format.specs.Kind.{tableKept}
 use Rattle.sheet_format.specs.Kinds.{kindOf}
 use Rattle.sheet_format.specs.Record.{lengthField, bodyOf, recordSpan}
@@ -22,8 +22,8 @@ use Rattle.sheet_format.specs.Reading.Laws.{judged-kind, judged-length}
 use Rattle.sheet_format.specs.Sheet.{recordHere, records}
 use Rattle.sheet_format.specs.Theorems.{state-kept, record-span}
 use Rattle.sheet_format.specs.Theorems.Locality.{span-whole, span-body}
-use Rattle.sheet_listing.specs.Line.{recordLine, lastLine}
-use Rattle.sheet_listing.specs.Listing.{listing, rowsOf}
+use Rattle.sheet_listing.specs.Line.{recordLine}
+use Rattle.sheet_listing.specs.Listing.{listing}
 use Rattle.sheet_listing.specs.Listing.Laws.{listingFrom, listing-end, listing-refused, listing-more, listing-nothing, listing-some}
 use Rattle.sheet_listing.specs.Turns.{heldOf, Carried, carriedFirst, heldBy, carriedNext, Turned, lastTurn, recordTurn}
 use Rattle.sheet_listing.specs.Turns.{turnOf, turns}

@@ -9,15 +9,14 @@ use sheet_listing::list_record;
 use text::put::put_bytes;
 ghost use mathlib.Core.Path.{_≡_};
 ghost use mathlib.Core.Bool.{true, false};
-ghost use Prim.Native.Nat.{_+_, _-_, _≤_, _<_};
-ghost use lib.ListN.{length, take, drop};
+ghost use Prim.Native.Nat.{_+_, _≤_, _<_};
+ghost use lib.ListN.{length, take};
 ghost use Rattle.sheet_format.specs.Context.{newSheet, stateOf};
-ghost use Rattle.sheet_format.specs.Kind.{tableKept};
 ghost use Rattle.sheet_format.specs.Kinds.{kindOf};
 ghost use Rattle.sheet_listing.specs.Line.{lastLine};
 ghost use Rattle.sheet_listing.specs.Listing.{rowsOf};
 ghost use Rattle.sheet_listing.specs.Turns.{endNumber, turnOf};
-ghost use Rattle.list_sheet.specs.Step.{carriedBy, turnedBy, Fits, TurnMade};
+ghost use Rattle.list_sheet.specs.Step.{carriedBy, turnedBy, endTurn, tableAfter, Fits, TurnMade};
 
 // What is carried from record to record.
 // state    what the sheet holds so far
@@ -111,7 +110,7 @@ pub fn unread(at: Progress) -> Turn
 // The last line.
 fn end(taken: usize, number: u32, at: Progress, line: &mut [u8]) -> Turn
     requires { ⌜ 128 ≤ length (now line) ⌝ }
-    ensures turn { λ r. ⌜ r ≡ record { failed = false; last = true; taken = taken; count = length (lastLine number (at .index) (at .rows)); next = at } ⌝ }
+    ensures turn { λ r. ⌜ r ≡ endTurn taken number at ⌝ }
     ensures within { λ r. ⌜ r .count ≤ length (now (line .exit)) ⌝ }
     ensures line { λ r. ⌜ take (r .count) (now (line .exit)) ≡ lastLine number (at .index) (at .rows) ⌝ }
 {
@@ -169,7 +168,7 @@ fn keep_table(read: RecordRead, bytes: &[u8], table: &mut [u8], kept: usize) -> 
     requires { ⌜ kept ≤ length (now table) ⌝ }
     requires { ⌜ (6 ≤ read .length) × (read .length ≤ 32778) × (read .length ≤ length (now bytes)) ⌝ }
     ensures within { λ r. ⌜ r ≤ length (now (table .entry)) ⌝ }
-    ensures table { λ r. ⌜ take r (now (table .exit)) ≡ tableKept (kindOf (read .kind) .holds) (take kept (now (table .entry))) (take (read .length - 6) (drop 6 (now (bytes .entry)))) ⌝ }
+    ensures table { λ r. ⌜ take r (now (table .exit)) ≡ tableAfter read (take kept (now (table .entry))) (now (bytes .entry)) ⌝ }
 {
     if is_table(read.kind) {
         let end = read.length as usize;

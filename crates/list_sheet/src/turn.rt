@@ -57,7 +57,7 @@ pub fn begin() -> Progress
     }
 }
 
-// What is read moves to the front of `bytes`: only that they are the input's bytes is left to tests.
+// With what was read, at the front of `bytes`, the turn that sheet_listing defines (`turnOf`) is made.
 pub fn take_turn(
     file: i32,
     name: &[u8],

@@ -1,14 +1,17 @@
 -- The lister on its way: what it carries after the bytes that it has taken, and the lines that come next. Assumes nothing.
 use Prim.Native.Nat.{ℕ, suc, _+_, _≤_, _<_}
 use native.Mathlib.Numerals.{add-one}
+use native.Mathlib.Decide.{decLt}
 use native.Mathlib.Omega.{arith}
 use mathlib.Core.Path.{_≡_, refl, sym, ap, _∙_}
+use mathlib.Core.Logic.{by-cases}
 use mathlib.Core.Bool.{true}
 use mathlib.Core.List.{List, [], _∷_, _++_, append-assoc, append-nil}
 use lib.ListN.{length, take, drop, length-append, length-take, take-append-drop, drop-of-length-le}
 use lib.Dec.{eqb}
 use borrow.Author.Tests.{eqb-true, eqb-false, ne-eqb}
-use lib.Seq.{take-nil, take-all, take-append-le, take-append-add, drop-append-le}
+use lib.Seq.{take-nil, take-all, take-take, take-append-le, take-append-add, drop-append-le}
+use Rattle.bitstream.specs.Bits.{numberOf}
 use Rattle.row_format.specs.Lists.Laws.{by-test, true-false}
 use Rattle.sheet_format.specs.Context.{Context, newSheet}
 use Rattle.sheet_format.specs.Record.{lengthField, recordSpan}
@@ -23,7 +26,7 @@ use Rattle.sheet_listing.specs.Listing.{recordLines, lastOf, listing, ro
 use Rattle.sheet_listing.specs.Listing.Laws.{listingFrom, length-withRow, length-rowNumbers, listing-nothing, listing-some}
 use Rattle.sheet_listing.specs.Turns.{heldOf, Carried, carriedFirst, contextBy, carriedNext, Turned, turnOf, turns}
 use Rattle.sheet_listing.specs.Turns.{Carries, NextLine, EndLine}
-use Rattle.sheet_listing.specs.Turns.Laws.{turnOf-refused, turnOf-accepted, context-next, turns-from}
+use Rattle.sheet_listing.specs.Turns.Laws.{span-least, turnOf-refused, turnOf-accepted, context-next, turns-from}
 
 -- ---- an accepted record, with more bytes behind it
 module _ (c : Context) (s t : List ℕ) (ok : recordJudged c s .number ≡ 0) where
@@ -201,6 +204,26 @@ next-line {l} x t same =
     let rest = turns (length t + 1) (x .carried) t in
     rw (carries-listing (x .taken) (x .carries) t, length-append front l, take-append-add front rest (length l), line, add-one (length t))
     (ap (front ++_) (turns-line (length t) (x .carried) t))
+
+-- The bytes that the lister holds are those of the input t that is left, so that the next line is the listing's: where reading
+-- moves the front of t, of some length, and fewer bytes than a record's span only at the end of t. That it does is all that is
+-- left to trust of reading.
+span-front : (t : List ℕ) (k : ℕ) → 4 ≤ k → recordSpan (take k t) ≡ recordSpan t
+unfolding recordSpan
+span-front t k h =
+    let same : lengthField (take k t) ≡ lengthField t = ap numberOf (take-take 4 k t h) in
+    rw same
+
+pub front-held : (t : List ℕ) (k : ℕ) → take k t ≡ heldOf (take k t) → (k < recordSpan (take k t) → length t ≤ k)
+    → heldOf t ≡ take k t
+front-held t k held ends =
+    by-cases (decLt k (length t))
+    (λ more.
+    let whole : recordSpan (take k t) ≤ k =
+    by-cases (decLt k (recordSpan (take k t))) (λ less. omega (arith, ends less)) (λ h. omega arith) in
+    let span = span-front t k (omega (arith, span-least (take k t))) in
+    sym (held ∙ rw span (take-take (recordSpan t) k t (omega (arith, span)))))
+    (λ all. let is = take-all k t (omega arith) in rw is (sym (rw is at held)))
 
 -- ---- the last line
 sheetRead-some : (s : List ℕ) → 0 < length s → sheetRead s ≡ records newSheet s

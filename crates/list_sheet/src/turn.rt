@@ -162,19 +162,19 @@ fn list_one(bytes: &[u8], table: &mut [u8], line: &mut [u8], at: Progress) -> Tu
     }
 }
 
-// A table is kept for the rows that follow. The answer is its bytes, or those kept before.
-fn keep_table(read: RecordRead, bytes: &[u8], table: &mut [u8], kept: usize) -> usize
+// A table is kept for the rows that follow. The answer is its bytes, or those known before.
+fn keep_table(read: RecordRead, bytes: &[u8], table: &mut [u8], known: usize) -> usize
     requires { ⌜ 32772 ≤ length (now table) ⌝ }
-    requires { ⌜ kept ≤ length (now table) ⌝ }
+    requires { ⌜ known ≤ length (now table) ⌝ }
     requires { ⌜ (6 ≤ read .length) × (read .length ≤ 32778) × (read .length ≤ length (now bytes)) ⌝ }
     ensures within { λ r. ⌜ r ≤ length (now (table .entry)) ⌝ }
-    ensures table { λ r. ⌜ take r (now (table .exit)) ≡ tableAfter read (take kept (now (table .entry))) (now (bytes .entry)) ⌝ }
+    ensures table { λ r. ⌜ take r (now (table .exit)) ≡ tableAfter read (take known (now (table .entry))) (now (bytes .entry)) ⌝ }
 {
     if is_table(read.kind) {
         let end = read.length as usize;
         return put_bytes(table, 0, &bytes[6..end]);
     }
-    kept
+    known
 }
 
 fn rows_after(kind: u32, rows: u64) -> u64

@@ -1,14 +1,18 @@
 -- What an argument of a command line is, by its bytes, while options may still come. Definitions only; their laws are in
 -- Argument/Laws.antt. Assumes nothing.
-use Prim.Native.Nat.{ℕ}
+use Prim.Native.Nat.{ℕ, _-_}
 use mathlib.Core.Bool.{Bool, true, false, cond}
 use mathlib.Core.List.{List, [], _∷_}
 use lib.ListN.{getD}
-use lib.Dec.{eqb}
+use lib.Dec.{eqb, ltb}
 use Rattle.text.specs.Text.{ascii}
 use Rattle.command.specs.declared.argument.Argument.{Argument}
 use Rattle.command.specs.declared.argument.Argument.the-variants.{Help, Version, End, Input, Unknown, Name}
 pub mod Laws
+
+-- how many of so many arguments are files, where `--` stands at a place: all but the program's own name and the `--`
+abbrev pub fileCount : ℕ → ℕ → ℕ
+fileCount arguments end = cond (ltb end arguments) (arguments - 2) (arguments - 1)
 
 -- whether two runs of bytes are the same
 unfoldable pub sameBytes : List ℕ → List ℕ → Bool

@@ -9,7 +9,10 @@ use argument::argument_of;
 use libc::ENAMETOOLONG;
 use libc::STDIN_FILENO;
 use say::complain;
+ghost use mathlib.Core.Path.{_≡_};
+ghost use Prim.Native.Nat.{_-_};
 ghost use Rattle.io.specs.Counts.{Counts};
+ghost use Rattle.command.specs.Argument.{fileCount};
 
 // What a command line asks for. An unknown option comes with its place; of several options the first decides.
 pub enum Request {
@@ -83,14 +86,23 @@ pub fn is_file(files: Files, i: usize) -> bool {
 }
 
 // How many files are named.
-pub fn count_files(files: Files) -> usize {
-    if files.arguments < 2 {
+pub fn count_files(files: Files) -> usize
+    ensures { λ r. ⌜ r ≡ fileCount (files .arguments) (files .end) ⌝ }
+{
+    if files.end < files.arguments {
+        return less(files.arguments, 2);
+    }
+    less(files.arguments, 1)
+}
+
+// n less k, and 0 where k is more.
+fn less(n: usize, k: usize) -> usize
+    ensures { λ r. ⌜ r ≡ n - k ⌝ }
+{
+    if n < k {
         return 0;
     }
-    if files.end < files.arguments {
-        return files.arguments - 2;
-    }
-    files.arguments - 1
+    n - k
 }
 
 // A descriptor for reading, below 0 where there is none, which is said on standard error. `-` is standard input.

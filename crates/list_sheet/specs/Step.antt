@@ -1,10 +1,14 @@
 -- What a turn of the lister does, by value: the record's bytes, the table and the line stand in lent memory. sheet_listing's
 -- `turns-listing` says that such turns make the listing. Definitions only. Assumes nothing.
-use Prim.Native.Nat.{ℕ, _≤_}
+use Prim.Native.Nat.{ℕ, _-_, _≤_}
 use mathlib.Core.Path.{_≡_}
+use mathlib.Core.Bool.{true, false}
 use mathlib.Core.List.{List}
-use lib.ListN.{length, take}
-use Rattle.sheet_listing.specs.Turns.{heldOf, Carried, Turned, turnOf, Carries}
+use lib.ListN.{length, take, drop}
+use Rattle.sheet_format.specs.declared.RecordRead.{RecordRead}
+use Rattle.sheet_format.specs.Kind.{tableKept}
+use Rattle.sheet_listing.specs.Line.{lastLine}
+use Rattle.sheet_listing.specs.Turns.{heldOf, holdsOf, Carried, Turned, turnOf, Carries}
 use Rattle.list_sheet.specs.declared.turn.Progress.{Progress}
 use Rattle.list_sheet.specs.declared.turn.Turn.{Turn}
 pub mod Laws
@@ -16,6 +20,15 @@ carriedBy p table = record { table = take (p .kept) table; state = p .state; ind
 -- what a turn comes to: its line is at the front of the memory for it
 abbrev pub turnedBy : Turn → List ℕ → List ℕ → Turned
 turnedBy t table line = record { line = take (t .count) line; last = t .last; next = carriedBy (t .next) table }
+
+-- the last turn: the line with such a number
+abbrev pub endTurn : ℕ → ℕ → Progress → Turn
+endTurn taken number p =
+    record { failed = false; last = true; taken = taken; count = length (lastLine number (p .index) (p .rows)); next = p }
+
+-- the table after the record b, which was judged so: what was kept before, or what follows the six bytes of length and kind
+abbrev pub tableAfter : RecordRead → List ℕ → List ℕ → List ℕ
+tableAfter a kept b = tableKept (holdsOf a) kept (take (a .length - 6) (drop 6 b))
 
 -- the table is within its memory, and there are no more rows than records, so that no sum runs over
 pub record Fits (p : Progress) (table : List ℕ) : Type 0 where

@@ -54,8 +54,8 @@ pub struct Records {
 // table    the sheet's table, from its first record on
 // line     the record's line
 // at       what is carried; its index is a number that no run uses up, so that the loop ends
-// That the bytes which are read are the input's, and those which are written the output's, no contract can say: only that is
-// left to tests.
+// No contract can say that reading moves the input's next bytes, fewer than asked only at its end, and that writing moves the
+// line's bytes: only that is left to tests. With it each line is the listing's next (sheet_listing, `front-held`, `next-line`).
 fn list_records(
     file: i32,
     name: &[u8],

@@ -9,15 +9,14 @@ use sheet_listing::list_record;
 use text::put::put_bytes;
 ghost use mathlib.Core.Path.{_≡_};
 ghost use mathlib.Core.Bool.{true, false};
-ghost use Prim.Native.Nat.{_+_, _-_, _≤_, _<_};
-ghost use lib.ListN.{length, take, drop};
+ghost use Prim.Native.Nat.{_+_, _≤_, _<_};
+ghost use lib.ListN.{length, take};
 ghost use Rattle.sheet_format.specs.Context.{newSheet, stateOf};
-ghost use Rattle.sheet_format.specs.Kind.{tableKept};
 ghost use Rattle.sheet_format.specs.Kinds.{kindOf};
 ghost use Rattle.sheet_listing.specs.Line.{lastLine};
 ghost use Rattle.sheet_listing.specs.Listing.{rowsOf};
 ghost use Rattle.sheet_listing.specs.Turns.{endNumber, turnOf};
-ghost use Rattle.list_sheet.specs.Step.{carriedBy, turnedBy, Fits, TurnMade};
+ghost use Rattle.list_sheet.specs.Step.{carriedBy, turnedBy, endTurn, tableAfter, Fits, TurnMade};
 
 // What is carried from record to record.
 // state    what the sheet holds so far
@@ -58,7 +57,7 @@ pub fn begin() -> Progress
     }
 }
 
-// What is read moves to the front of `bytes`: only that they are the input's bytes is left to tests.
+// With what was read, at the front of `bytes`, the turn that sheet_listing defines (`turnOf`) is made.
 pub fn take_turn(
     file: i32,
     name: &[u8],
@@ -111,7 +110,7 @@ pub fn unread(at: Progress) -> Turn
 // The last line.
 fn end(taken: usize, number: u32, at: Progress, line: &mut [u8]) -> Turn
     requires { ⌜ 128 ≤ length (now line) ⌝ }
-    ensures turn { λ r. ⌜ r ≡ record { failed = false; last = true; taken = taken; count = length (lastLine number (at .index) (at .rows)); next = at } ⌝ }
+    ensures turn { λ r. ⌜ r ≡ endTurn taken number at ⌝ }
     ensures within { λ r. ⌜ r .count ≤ length (now (line .exit)) ⌝ }
     ensures line { λ r. ⌜ take (r .count) (now (line .exit)) ≡ lastLine number (at .index) (at .rows) ⌝ }
 {
@@ -163,19 +162,19 @@ fn list_one(bytes: &[u8], table: &mut [u8], line: &mut [u8], at: Progress) -> Tu
     }
 }
 
-// A table is kept for the rows that follow. The answer is its bytes, or those kept before.
-fn keep_table(read: RecordRead, bytes: &[u8], table: &mut [u8], kept: usize) -> usize
+// A table is kept for the rows that follow. The answer is its bytes, or those known before.
+fn keep_table(read: RecordRead, bytes: &[u8], table: &mut [u8], known: usize) -> usize
     requires { ⌜ 32772 ≤ length (now table) ⌝ }
-    requires { ⌜ kept ≤ length (now table) ⌝ }
+    requires { ⌜ known ≤ length (now table) ⌝ }
     requires { ⌜ (6 ≤ read .length) × (read .length ≤ 32778) × (read .length ≤ length (now bytes)) ⌝ }
     ensures within { λ r. ⌜ r ≤ length (now (table .entry)) ⌝ }
-    ensures table { λ r. ⌜ take r (now (table .exit)) ≡ tableKept (kindOf (read .kind) .holds) (take kept (now (table .entry))) (take (read .length - 6) (drop 6 (now (bytes .entry)))) ⌝ }
+    ensures table { λ r. ⌜ take r (now (table .exit)) ≡ tableAfter read (take known (now (table .entry))) (now (bytes .entry)) ⌝ }
 {
     if is_table(read.kind) {
         let end = read.length as usize;
         return put_bytes(table, 0, &bytes[6..end]);
     }
-    kept
+    known
 }
 
 fn rows_after(kind: u32, rows: u64) -> u64

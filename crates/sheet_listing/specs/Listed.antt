@@ -1,7 +1,8 @@
 -- What the calls that give out lines answer, the memory lent for them included. c is what the sheet holds so far, r the
 -- sheet's bytes from a record's place on, m the memory lent, as it was. Definitions only; their laws are in Listed/Laws.antt.
 -- Assumes nothing.
-use Prim.Native.Nat.{ℕ}
+use Prim.Native.Nat.{ℕ, _≤_}
+use mathlib.Core.Path.{_≡_}
 use mathlib.Core.List.{List}
 use lib.ListN.{length}
 use Rattle.answer.specs.declared.Answer.{Answer}
@@ -33,6 +34,10 @@ judgedListed e a l m = unless e (λ k. outcome (notListed k) m) (writes (record 
 -- an accepted record with the line l
 abbrev pub lineListed : List ℕ → RecordRead → List ℕ → Outcome Listed
 lineListed l a m = judgedListed (noRoom l m) a l m
+
+-- the line of an accepted record fits 128 bytes
+abbrev pub LineShort : Context → List ℕ → Type 0
+LineShort c r = recordJudged c r .number ≡ 0 → length (recordLine (recordHere c r)) ≤ 128
 
 unfoldable pub recordListed : Context → List ℕ → List ℕ → Outcome Listed
 recordListed c r m =

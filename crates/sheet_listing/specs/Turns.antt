@@ -40,8 +40,8 @@ abbrev pub carriedFirst : Carried
 carriedFirst = record { table = []; state = stateOf newSheet; index = 0; rows = 0 }
 
 -- what the sheet holds, by what is carried
-abbrev pub heldBy : Carried → Context
-heldBy p = contextOf (p .table) (p .state)
+abbrev pub contextBy : Carried → Context
+contextBy p = contextOf (p .table) (p .state)
 
 -- after the record b, which was judged so
 abbrev pub carriedNext : Carried → List ℕ → RecordRead → Carried
@@ -71,12 +71,12 @@ endNumber index = cond (eqb index 0) 16 0
 abbrev pub recordTurn : Carried → List ℕ → RecordRead → Turned
 recordTurn p b a =
     unless (a .number) (lastTurn p)
-    (record { line = recordLine (recordHere (heldBy p) b); last = false; next = carriedNext p b a })
+    (record { line = recordLine (recordHere (contextBy p) b); last = false; next = carriedNext p b a })
 
 -- with the bytes that are held: none at the sheet's end
 unfoldable pub turnOf : Carried → List ℕ → Turned
 turnOf p [] = lastTurn p (endNumber (p .index))
-turnOf p (x ∷ b) = recordTurn p (x ∷ b) (recordJudged (heldBy p) (x ∷ b))
+turnOf p (x ∷ b) = recordTurn p (x ∷ b) (recordJudged (contextBy p) (x ∷ b))
 
 -- the text from a place on. A turn that is not the last takes at least one byte, so that n bounds the turns
 unfoldable pub turns : ℕ → Carried → List ℕ → List ℕ
@@ -89,7 +89,7 @@ turns (suc n) p r =
 -- after the bytes s the lister carries p: s is accepted records to its end, after which the sheet holds what p says, and p
 -- has how many they are and how many of them are rows
 pub record Carries (s : List ℕ) (p : Carried) : Type 0 where
-  pub held : Reaches (heldBy p) [] newSheet s
+  pub reached : Reaches (contextBy p) [] newSheet s
   pub index : p .index ≡ length (records newSheet s .records)
   pub rows : p .rows ≡ length (rowNumbers (records newSheet s .records))
 

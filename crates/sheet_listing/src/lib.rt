@@ -16,11 +16,9 @@ ghost use Prim.Native.Nat.{_≤_};
 ghost use lib.ListN.{length};
 ghost use Rattle.answer.specs.Outcome.{outcome};
 ghost use Rattle.row_format.specs.Table.{tableNumber};
-ghost use Rattle.sheet_format.specs.Reading.{recordJudged};
 ghost use Rattle.sheet_format.specs.Context.{contextOf};
-ghost use Rattle.sheet_format.specs.Sheet.{recordHere};
-ghost use Rattle.sheet_listing.specs.Line.{answerLine, recordLine, lastLine};
-ghost use Rattle.sheet_listing.specs.Listed.{lineGiven, lineListed, recordListed};
+ghost use Rattle.sheet_listing.specs.Line.{answerLine, lastLine};
+ghost use Rattle.sheet_listing.specs.Listed.{lineGiven, lineListed, LineShort, recordListed};
 
 // What listing a record answers: what judging it answers, and the bytes of its line. A refusal, 5 among them, has no line.
 pub struct Listed {
@@ -32,7 +30,7 @@ pub struct Listed {
 // the bytes of the sheet's table, `state` what the sheet holds so far. A line has at most 128 bytes.
 pub fn list_record(table: &[u8], sheet: &[u8], state: SheetState, out: &mut [u8]) -> Listed
     ensures listed { λ r. ⌜ outcome r (now (out .exit)) ≡ recordListed (contextOf (now (table .entry)) state) (now (sheet .entry)) (now (out .entry)) ⌝ }
-    ensures most { λ r. ⌜ (recordJudged (contextOf (now (table .entry)) state) (now (sheet .entry)) .number ≡ 0 → length (recordLine (recordHere (contextOf (now (table .entry)) state) (now (sheet .entry)))) ≤ 128) ⌝ }
+    ensures most { λ r. ⌜ LineShort (contextOf (now (table .entry)) state) (now (sheet .entry)) ⌝ }
 {
     let read = judge_record(table, sheet, state);
     let number = read.number;

@@ -23,15 +23,16 @@ use Rattle.sheet_format.specs.Sheet.{recordHere}
 use Rattle.sheet_format.specs.Theorems.{record-length}
 use Rattle.sheet_listing.specs.declared.Listed.{Listed}
 use Rattle.sheet_listing.specs.Line.{recordLine, lastLine}
-use Rattle.sheet_listing.specs.Listed.{lineGiven, recordListed}
+use Rattle.sheet_listing.specs.Listed.{lineGiven, LineShort, recordListed}
 use Rattle.sheet_listing.specs.Listed.Laws.{listed-refused, recordListed-fits}
 use Rattle.sheet_listing.specs.Listing.{rowsOf}
-use Rattle.sheet_listing.specs.Turns.{heldOf, holdsOf, Carried, heldBy, carriedNext, Turned, lastTurn, endNumber, turnOf, NextLine, EndLine}
+use Rattle.sheet_listing.specs.Turns.{heldOf, holdsOf, Carried, contextBy, carriedNext, Turned, lastTurn, endNumber}
+use Rattle.sheet_listing.specs.Turns.{turnOf, NextLine, EndLine}
 use Rattle.sheet_listing.specs.Turns.Laws.{span-least, turnOf-refused, turnOf-accepted, turnOf-goes-on}
 use Rattle.sheet_listing.specs.Turns.Taken.{carries-none, carries-more, end-line}
 use Rattle.list_sheet.specs.declared.turn.Progress.{Progress}
 use Rattle.list_sheet.specs.declared.turn.Turn.{Turn}
-use Rattle.list_sheet.specs.Step.{carriedBy, turnedBy, TurnMade, Underway}
+use Rattle.list_sheet.specs.Step.{carriedBy, endTurn, tableAfter, TurnMade, Underway}
 
 -- ---- the bytes of a record
 -- four bytes or fewer are held whole
@@ -99,28 +100,28 @@ module _ (l m : List ℕ) (room : 128 ≤ length m) {a : Answer} {y : List ℕ} 
 
 -- the record r was listed in such memory
 module _ (p : Carried) (r m : List ℕ) (room : 128 ≤ length m) {x : Listed} {y : List ℕ}
-    (listed : outcome x y ≡ recordListed (heldBy p) r m)
-    (most : recordJudged (heldBy p) r .number ≡ 0 → length (recordLine (recordHere (heldBy p) r)) ≤ 128) where
+    (listed : outcome x y ≡ recordListed (contextBy p) r m)
+    (most : LineShort (contextBy p) r) where
   line : List ℕ
-  line = recordLine (recordHere (heldBy p) r)
+  line = recordLine (recordHere (contextBy p) r)
 
-  as-fits : recordJudged (heldBy p) r .number ≡ 0
-      → outcome x y ≡ outcome (record { read = recordJudged (heldBy p) r; count = length line }) (line ++ drop (length line) m)
+  as-fits : recordJudged (contextBy p) r .number ≡ 0
+      → outcome x y ≡ outcome (record { read = recordJudged (contextBy p) r; count = length line }) (line ++ drop (length line) m)
   unfolding line
-  as-fits ok = listed ∙ recordListed-fits (heldBy p) r m ok (omega (arith, most ok))
+  as-fits ok = listed ∙ recordListed-fits (contextBy p) r m ok (omega (arith, most ok))
 
-  as-refused : (recordJudged (heldBy p) r .number ≡ 0 → ⊥)
-      → outcome x y ≡ outcome (record { read = recordJudged (heldBy p) r; count = 0 }) m
-  as-refused wrong = listed ∙ sym (listed-refused (p .table) r (p .state) m (recordJudged (heldBy p) r) refl wrong)
+  as-refused : (recordJudged (contextBy p) r .number ≡ 0 → ⊥)
+      → outcome x y ≡ outcome (record { read = recordJudged (contextBy p) r; count = 0 }) m
+  as-refused wrong = listed ∙ sym (listed-refused (p .table) r (p .state) m (recordJudged (contextBy p) r) refl wrong)
 
-  pub read-is : x .read ≡ recordJudged (heldBy p) r
+  pub read-is : x .read ≡ recordJudged (contextBy p) r
   read-is =
-      let number = recordJudged (heldBy p) r .number in
+      let number = recordJudged (contextBy p) r .number in
       by-test (eqb number 0)
       (λ e. ap (λ (o : Outcome Listed). o .answer .read) (as-fits (eqb-true number 0 e)))
       (λ e. ap (λ (o : Outcome Listed). o .answer .read) (as-refused (eqb-false number 0 e)))
 
-  same-number : x .read .number ≡ recordJudged (heldBy p) r .number
+  same-number : x .read .number ≡ recordJudged (contextBy p) r .number
   same-number = ap (λ (a : RecordRead). a .number) read-is
 
   -- it is refused: the last line follows
@@ -129,11 +130,11 @@ module _ (p : Carried) (r m : List ℕ) (room : 128 ≤ length m) {x : Listed} {
       turnOf-refused p r some (λ e. wrong (same-number ∙ e)) ∙ ap (lastTurn p) (sym same-number)
 
   module _ (ok : x .read .number ≡ 0) where
-    fine : recordJudged (heldBy p) r .number ≡ 0
+    fine : recordJudged (contextBy p) r .number ≡ 0
     fine = sym same-number ∙ ok
 
     pub read-length : (6 ≤ x .read .length) × (x .read .length ≤ 32778) × (x .read .length ≤ length r)
-    read-length = rw read-is (record-length (heldBy p) r fine)
+    read-length = rw read-is (record-length (contextBy p) r fine)
 
     count-is : x .count ≡ length line
     count-is = ap (λ (o : Outcome Listed). o .answer .count) (as-fits fine)
@@ -141,22 +142,22 @@ module _ (p : Carried) (r m : List ℕ) (room : 128 ≤ length m) {x : Listed} {
     memory-is : y ≡ line ++ drop (length line) m
     memory-is = ap (λ (o : Outcome Listed). o .memory) (as-fits fine)
 
-    line-is : take (x .count) y ≡ recordLine (recordHere (heldBy p) r)
+    line-is : take (x .count) y ≡ recordLine (recordHere (contextBy p) r)
     unfolding line
-    line-is = rw (count-is, memory-is) (take-at (recordLine (recordHere (heldBy p) r)) _ _ refl)
+    line-is = rw (count-is, memory-is) (take-at (recordLine (recordHere (contextBy p) r)) _ _ refl)
 
     pub line-within : x .count ≤ length y
     line-within = omega (arith, count-is, ap length memory-is, length-append line (drop (length line) m))
 
     -- it is accepted: what is carried on is what comes after it
     pub turn-accepted : {table : List ℕ} {rows : ℕ}
-        → table ≡ tableKept (holdsOf (x .read)) (p .table) (take (x .read .length - 6) (drop 6 r))
+        → table ≡ tableAfter (x .read) (p .table) r
         → rows ≡ p .rows + rowsOf (holdsOf (x .read))
         → (let next : Carried = record { table = table; state = x .read .state; index = p .index + 1; rows = rows } in
         record { line = take (x .count) y; last = false; next = next })
         ≡ turnOf p r
     turn-accepted is-table is-rows =
-        rw (line-is, is-table, is-rows, read-is, judged-body (heldBy p) r fine) (sym (turnOf-accepted p r fine))
+        rw (line-is, is-table, is-rows, read-is, judged-body (contextBy p) r fine) (sym (turnOf-accepted p r fine))
 
 -- nothing is left to read: the last line follows
 pub turn-ended : (p : Carried) → turnOf p [] ≡ lastTurn p (endNumber (p .index))
@@ -164,7 +165,7 @@ unfolding turnOf
 turn-ended p = refl
 
 pub end-made : {t : Turn} {number : ℕ} {line : List ℕ} (at : Progress) (table bytes : List ℕ) → number ≡ endNumber (at .index)
-    → t ≡ record { failed = false; last = true; taken = 0; count = length (lastLine number (at .index) (at .rows)); next = at }
+    → t ≡ endTurn 0 number at
     → take (t .count) line ≡ lastLine number (at .index) (at .rows)
     → TurnMade (take (t .taken) bytes) at table t table line
 end-made {t} at table bytes is-number is-turn is-line =
@@ -198,10 +199,10 @@ module _ {b : List ℕ} {p : Progress} {table : List ℕ} {t : Turn} {table′ l
       (sym (ap (λ (x : Turned). x .last) (turn .made)) ∙ last)
 
   module _ (on : t .last ≡ false) where
-    accepted : recordJudged (heldBy (carriedBy p table)) b .number ≡ 0
+    accepted : recordJudged (contextBy (carriedBy p table)) b .number ≡ 0
     accepted = turnOf-goes-on (carriedBy p table) b (sym (ap (λ (x : Turned). x .last) (turn .made)) ∙ on)
 
-    next-is : carriedBy (t .next) table′ ≡ carriedNext (carriedBy p table) b (recordJudged (heldBy (carriedBy p table)) b)
+    next-is : carriedBy (t .next) table′ ≡ carriedNext (carriedBy p table) b (recordJudged (contextBy (carriedBy p table)) b)
     next-is = ap (λ (x : Turned). x .next) (turn .made ∙ turnOf-accepted (carriedBy p table) b accepted)
 
     pub next-index : t .next .index ≡ p .index + 1

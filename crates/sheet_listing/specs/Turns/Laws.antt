@@ -4,16 +4,16 @@ use native.Mathlib.Decide.{decLt}
 use native.Mathlib.Omega.{arith}
 use mathlib.Core.Path.{_≡_, refl, sym, ap, _∙_}
 use mathlib.Core.Logic.{by-cases}
-use mathlib.Core.Bool.{true, false, cond}
+use mathlib.Core.Bool.{false}
 use mathlib.Core.List.{List, [], _∷_, _++_}
 use lib.ListN.{length, take, drop, length-take, length-drop}
-use lib.Seq.{take-nil, take-take, length-take-le, take-all}
+use lib.Seq.{take-nil, take-take}
 use lib.Dec.{eqb}
 use borrow.Author.Tests.{eqb-true, eqb-false, ne-eqb, lt-ltb, le-ltb}
 use Rattle.row_format.specs.Lists.Laws.{by-test, true-false}
 use Rattle.answer.specs.Outcome.Laws.{unless-refused}
 use Rattle.sheet_format.specs.declared.RecordRead.{RecordRead}
-use Rattle.sheet_format.specs.Context.{Context, newSheet, stateOf, contextOf}
+use Rattle.sheet_format.specs.Context.{Context, contextOf}
 use Rattle.sheet_format.specs.Kind.{tableKept}
 use Rattle.sheet_format.specs.Kinds.{kindOf}
 use Rattle.sheet_format.specs.Record.{lengthField, bodyOf, recordSpan}
@@ -22,37 +22,37 @@ use Rattle.sheet_format.specs.Reading.Laws.{judged-kind, judged-length}
 use Rattle.sheet_format.specs.Sheet.{recordHere, records}
 use Rattle.sheet_format.specs.Theorems.{state-kept, record-span}
 use Rattle.sheet_format.specs.Theorems.Locality.{span-whole, span-body}
-use Rattle.sheet_listing.specs.Line.{recordLine, lastLine}
-use Rattle.sheet_listing.specs.Listing.{listing, rowsOf}
+use Rattle.sheet_listing.specs.Line.{recordLine}
+use Rattle.sheet_listing.specs.Listing.{listing}
 use Rattle.sheet_listing.specs.Listing.Laws.{listingFrom, listing-end, listing-refused, listing-more, listing-nothing, listing-some}
-use Rattle.sheet_listing.specs.Turns.{heldOf, Carried, carriedFirst, heldBy, carriedNext, Turned, lastTurn, recordTurn}
+use Rattle.sheet_listing.specs.Turns.{heldOf, Carried, carriedFirst, contextBy, carriedNext, Turned, lastTurn, recordTurn}
 use Rattle.sheet_listing.specs.Turns.{turnOf, turns}
 
 -- ---- one turn
 module _ (p : Carried) (b : List ℕ) where
-  turnOf-record : 0 < length b → turnOf p b ≡ recordTurn p b (recordJudged (heldBy p) b)
+  turnOf-record : 0 < length b → turnOf p b ≡ recordTurn p b (recordJudged (contextBy p) b)
   unfolding turnOf
   turnOf-record = go b
     where
-      go : (b : List ℕ) → 0 < length b → turnOf p b ≡ recordTurn p b (recordJudged (heldBy p) b)
+      go : (b : List ℕ) → 0 < length b → turnOf p b ≡ recordTurn p b (recordJudged (contextBy p) b)
       go [] h = absurd (omega arith)
       go (x ∷ b) h = refl
 
-  pub turnOf-refused : 0 < length b → (recordJudged (heldBy p) b .number ≡ 0 → ⊥)
-      → turnOf p b ≡ lastTurn p (recordJudged (heldBy p) b .number)
-  turnOf-refused some wrong = turnOf-record some ∙ unless-refused (recordJudged (heldBy p) b .number) (lastTurn p) _ wrong
+  pub turnOf-refused : 0 < length b → (recordJudged (contextBy p) b .number ≡ 0 → ⊥)
+      → turnOf p b ≡ lastTurn p (recordJudged (contextBy p) b .number)
+  turnOf-refused some wrong = turnOf-record some ∙ unless-refused (recordJudged (contextBy p) b .number) (lastTurn p) _ wrong
 
-  pub turnOf-accepted : recordJudged (heldBy p) b .number ≡ 0
+  pub turnOf-accepted : recordJudged (contextBy p) b .number ≡ 0
       → turnOf p b
-      ≡ record { line = recordLine (recordHere (heldBy p) b); last = false; next = carriedNext p b (recordJudged (heldBy p) b) }
-  turnOf-accepted ok = turnOf-record (omega (arith, judged-length (heldBy p) b ok)) ∙ rw ok
+      ≡ record { line = recordLine (recordHere (contextBy p) b); last = false; next = carriedNext p b (recordJudged (contextBy p) b) }
+  turnOf-accepted ok = turnOf-record (omega (arith, judged-length (contextBy p) b ok)) ∙ rw ok
 
 -- a turn that is not the last has an accepted record
-pub turnOf-goes-on : (p : Carried) (b : List ℕ) → turnOf p b .last ≡ false → recordJudged (heldBy p) b .number ≡ 0
+pub turnOf-goes-on : (p : Carried) (b : List ℕ) → turnOf p b .last ≡ false → recordJudged (contextBy p) b .number ≡ 0
 unfolding turnOf
 turnOf-goes-on p [] on = true-false refl on
 turnOf-goes-on p (x ∷ b) on =
-    let number = recordJudged (heldBy p) (x ∷ b) .number in
+    let number = recordJudged (contextBy p) (x ∷ b) .number in
     by-test (eqb number 0) (λ e. eqb-true number 0 e)
     (λ e. true-false (ap (λ (t : Turned). t .last) (turnOf-refused p (x ∷ b) (omega arith) (eqb-false number 0 e))) on)
 
@@ -75,39 +75,39 @@ bytes-held c r ok = take-take (recordJudged c r .length) (recordSpan r) r (omega
 
 -- so that the turn is that of all the bytes that are left
 module _ (p : Carried) (r : List ℕ) where
-  same-judged : recordJudged (heldBy p) (heldOf r) ≡ recordJudged (heldBy p) r
-  same-judged = record-span (heldBy p) r .0
+  same-judged : recordJudged (contextBy p) (heldOf r) ≡ recordJudged (contextBy p) r
+  same-judged = record-span (contextBy p) r .0
 
-  held-refused : 0 < length (heldOf r) → (recordJudged (heldBy p) r .number ≡ 0 → ⊥)
-      → turnOf p (heldOf r) ≡ lastTurn p (recordJudged (heldBy p) r .number)
+  held-refused : 0 < length (heldOf r) → (recordJudged (contextBy p) r .number ≡ 0 → ⊥)
+      → turnOf p (heldOf r) ≡ lastTurn p (recordJudged (contextBy p) r .number)
   held-refused some wrong =
       turnOf-refused p (heldOf r) some (λ e. wrong (rw same-judged at e)) ∙ ap (λ (a : RecordRead). lastTurn p (a .number)) same-judged
 
-  held-accepted : recordJudged (heldBy p) r .number ≡ 0
+  held-accepted : recordJudged (contextBy p) r .number ≡ 0
       → turnOf p (heldOf r)
-      ≡ record { line = recordLine (recordHere (heldBy p) r); last = false; next = carriedNext p r (recordJudged (heldBy p) r) }
+      ≡ record { line = recordLine (recordHere (contextBy p) r); last = false; next = carriedNext p r (recordJudged (contextBy p) r) }
   held-accepted ok =
       turnOf-accepted p (heldOf r) (rw same-judged ok)
-      ∙ rw (same-judged, span-body r (heldBy p) ok, bytes-held (heldBy p) r ok)
+      ∙ rw (same-judged, span-body r (contextBy p) ok, bytes-held (contextBy p) r ok)
 
 -- what is carried on says what the sheet holds
-pub held-next : (p : Carried) (b : List ℕ) → recordJudged (heldBy p) b .number ≡ 0
-    → contextAfter (heldBy p) b ≡ heldBy (carriedNext p b (recordJudged (heldBy p) b))
-held-next p b ok =
-    let a = recordJudged (heldBy p) b in
+pub context-next : (p : Carried) (b : List ℕ) → recordJudged (contextBy p) b .number ≡ 0
+    → contextAfter (contextBy p) b ≡ contextBy (carriedNext p b (recordJudged (contextBy p) b))
+context-next p b ok =
+    let a = recordJudged (contextBy p) b in
     state-kept (p .table) b (p .state) ok
-    ∙ ap (λ (k : ℕ). contextOf (tableKept (kindOf k .holds) (p .table) (bodyOf b)) (a .state)) (sym (judged-kind (heldBy p) b ok))
+    ∙ ap (λ (k : ℕ). contextOf (tableKept (kindOf k .holds) (p .table) (bodyOf b)) (a .state)) (sym (judged-kind (contextBy p) b ok))
 
 -- ---- all turns
 pub turns-from : (n : ℕ) (p : Carried) (r : List ℕ) → length r < n → (r ≡ [] → p .index ≡ 0 → ⊥)
-    → turns n p r ≡ listingFrom (p .index) (p .rows) (records (heldBy p) r)
+    → turns n p r ≡ listingFrom (p .index) (p .rows) (records (contextBy p) r)
 unfolding turns turnOf
 turns-from zero p r h begun = absurd (omega arith)
 turns-from (suc n) p [] h begun =
-    rw (take-nil {A = ℕ} (recordSpan []), ne-eqb (p .index) 0 (begun refl)) (sym (listing-end (p .index) (p .rows) (heldBy p)))
+    rw (take-nil {A = ℕ} (recordSpan []), ne-eqb (p .index) 0 (begun refl)) (sym (listing-end (p .index) (p .rows) (contextBy p)))
 turns-from (suc n) p (x ∷ r) h begun =
     let s = x ∷ r in
-    let c = heldBy p in
+    let c = contextBy p in
     let a = recordJudged c s in
     by-test (eqb (a .number) 0)
     (λ e.
@@ -118,7 +118,7 @@ turns-from (suc n) p (x ∷ r) h begun =
     let more = turns-from n next (drop (a .length) s) (omega (arith, length-drop (a .length) s, size .0)) (λ z w. omega arith) in
     let on : Context → List ℕ = λ d. listingFrom (next .index) (next .rows) (records d (drop (a .length) s)) in
     rw (held-accepted p s ok, whole)
-    (ap (recordLine (recordHere c s) ++_) (more ∙ ap on (sym (held-next p s ok)))
+    (ap (recordLine (recordHere c s) ++_) (more ∙ ap on (sym (context-next p s ok)))
     ∙ sym (listing-more (p .index) (p .rows) c x r ok)))
     (λ e.
     let wrong = eqb-false (a .number) 0 e in

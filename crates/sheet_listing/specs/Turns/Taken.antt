@@ -1,15 +1,17 @@
 -- The lister on its way: what it carries after the bytes that it has taken, and the lines that come next. Assumes nothing.
-use Prim.Native.Nat.{ℕ, zero, suc, _+_, _≤_, _<_}
-use native.Mathlib.Nat.{zero-add, add-zero}
+use Prim.Native.Nat.{ℕ, suc, _+_, _≤_, _<_}
 use native.Mathlib.Numerals.{add-one}
+use native.Mathlib.Decide.{decLt}
 use native.Mathlib.Omega.{arith}
 use mathlib.Core.Path.{_≡_, refl, sym, ap, _∙_}
-use mathlib.Core.Bool.{true, false, cond}
+use mathlib.Core.Logic.{by-cases}
+use mathlib.Core.Bool.{true}
 use mathlib.Core.List.{List, [], _∷_, _++_, append-assoc, append-nil}
-use lib.ListN.{length, take, drop, length-append, length-take, length-drop, take-append-drop, drop-of-length-le}
+use lib.ListN.{length, take, drop, length-append, length-take, take-append-drop, drop-of-length-le}
 use lib.Dec.{eqb}
 use borrow.Author.Tests.{eqb-true, eqb-false, ne-eqb}
-use lib.Seq.{take-nil, take-all, take-append-le, take-append-add, drop-append-le}
+use lib.Seq.{take-nil, take-all, take-take, take-append-le, take-append-add, drop-append-le}
+use Rattle.bitstream.specs.Bits.{numberOf}
 use Rattle.row_format.specs.Lists.Laws.{by-test, true-false}
 use Rattle.sheet_format.specs.Context.{Context, newSheet}
 use Rattle.sheet_format.specs.Record.{lengthField, recordSpan}
@@ -22,9 +24,9 @@ use Rattle.sheet_format.specs.Theorems.Locality.{Alike, alike, recordJudged-ali
 use Rattle.sheet_listing.specs.Line.{recordLine, lastLine}
 use Rattle.sheet_listing.specs.Listing.{recordLines, lastOf, listing, rowsOf}
 use Rattle.sheet_listing.specs.Listing.Laws.{listingFrom, length-withRow, length-rowNumbers, listing-nothing, listing-some}
-use Rattle.sheet_listing.specs.Turns.{heldOf, Carried, carriedFirst, heldBy, carriedNext, Turned, turnOf, turns}
+use Rattle.sheet_listing.specs.Turns.{heldOf, Carried, carriedFirst, contextBy, carriedNext, Turned, turnOf, turns}
 use Rattle.sheet_listing.specs.Turns.{Carries, NextLine, EndLine}
-use Rattle.sheet_listing.specs.Turns.Laws.{turnOf-refused, turnOf-accepted, held-next, turns-from}
+use Rattle.sheet_listing.specs.Turns.Laws.{span-least, turnOf-refused, turnOf-accepted, context-next, turns-from}
 
 -- ---- an accepted record, with more bytes behind it
 module _ (c : Context) (s t : List ℕ) (ok : recordJudged c s .number ≡ 0) where
@@ -80,7 +82,7 @@ records-append {d} (onward {c} {r} ok more) t =
 
 -- ---- what is carried after the bytes taken
 pub carries-none : Carries [] carriedFirst
-carries-none = record { held = there; index = rw (sheet-end newSheet); rows = unfold storedRows in rw (sheet-end newSheet) }
+carries-none = record { reached = there; index = rw (sheet-end newSheet); rows = unfold storedRows in rw (sheet-end newSheet) }
 
 -- the rows of records, one list after another
 stored-append : (xs ys : List SheetRecord) → length (storedRows (xs ++ ys)) ≡ length (storedRows xs) + length (storedRows ys)
@@ -98,26 +100,27 @@ rows-one : (x : SheetRecord) → length (rowNumbers (x ∷ [])) ≡ rowsOf (reco
 unfolding storedRows
 rows-one x = omega (arith, length-rowNumbers (x ∷ []), length-withRow (recordHolds x) (rowOf x) [])
 
-module _ {s : List ℕ} {p : Carried} (at : Carries s p) (b : List ℕ) (held : b ≡ heldOf b) (ok : recordJudged (heldBy p) b .number ≡ 0) where
-  all-taken : restNext (heldBy p) b ≡ []
+module _ {s : List ℕ} {p : Carried} (at : Carries s p) (b : List ℕ) (held : b ≡ heldOf b)
+    (ok : recordJudged (contextBy p) b .number ≡ 0) where
+  all-taken : restNext (contextBy p) b ≡ []
   all-taken =
       let size = ap length held ∙ length-take (recordSpan b) b in
-      let whole : length b ≤ recordJudged (heldBy p) b .length = omega (arith, span-whole b (heldBy p) ok) in
+      let whole : length b ≤ recordJudged (contextBy p) b .length = omega (arith, span-whole b (contextBy p) ok) in
       drop-of-length-le b whole
 
-  records-more : records newSheet (s ++ b) .records ≡ records newSheet s .records ++ (recordHere (heldBy p) b ∷ [])
+  records-more : records newSheet (s ++ b) .records ≡ records newSheet s .records ++ (recordHere (contextBy p) b ∷ [])
   records-more =
-      let last : records (heldBy p) b ≡ putFirst (recordHere (heldBy p) b) (endsWith 0) =
-      records-here (heldBy p) b ok ∙ rw (all-taken, sheet-end (contextAfter (heldBy p) b)) in
-      rw (records-append (at .held) b, last)
+      let last : records (contextBy p) b ≡ putFirst (recordHere (contextBy p) b) (endsWith 0) =
+      records-here (contextBy p) b ok ∙ rw (all-taken, sheet-end (contextAfter (contextBy p) b)) in
+      rw (records-append (at .reached) b, last)
 
-  pub carries-more : Carries (s ++ b) (carriedNext p b (recordJudged (heldBy p) b))
+  pub carries-more : Carries (s ++ b) (carriedNext p b (recordJudged (contextBy p) b))
   carries-more =
       let xs = records newSheet s .records in
-      let x = recordHere (heldBy p) b in
+      let x = recordHere (contextBy p) b in
       record {
-        held =
-            rw (← held-next p b ok, ← all-taken) (reaches-next (reaches-append (at .held) b) ok);
+        reached =
+            rw (← context-next p b ok, ← all-taken) (reaches-next (reaches-append (at .reached) b) ok);
         index = rw records-more (omega (arith, length-append xs (x ∷ []), at .index));
         rows = rw records-more (omega (arith, rows-append xs (x ∷ []), rows-one x, at .rows));
       }
@@ -148,8 +151,8 @@ reaches-some (onward {c} {r} ok more) some = rw (records-here c r ok) (omega ari
 
 -- nothing is taken yet
 module _ {p : Carried} (at : Carries [] p) where
-  none-held : heldBy p ≡ newSheet
-  none-held = reaches-none (at .held) refl
+  none-context : contextBy p ≡ newSheet
+  none-context = reaches-none (at .reached) refl
 
   none-index : p .index ≡ 0
   none-index = at .index ∙ rw (sheet-end newSheet)
@@ -164,7 +167,7 @@ module _ {p : Carried} (at : Carries [] p) where
   first-listing (y ∷ t) =
       listing-some y t
       ∙ sym (turns-from (length (y ∷ t) + 1) p (y ∷ t) (omega arith) (λ e z. omega (arith, ap length e))
-      ∙ rw (none-index, none-rows, none-held))
+      ∙ rw (none-index, none-rows, none-context))
 
 -- the listing of all that is taken and to come is the lines of what was taken, and then what turns print of the rest
 pub carries-listing : (s : List ℕ) {p : Carried} → Carries s p → (t : List ℕ)
@@ -173,10 +176,10 @@ unfolding recordLines
 carries-listing [] {p} at t = rw (sheet-end newSheet) (first-listing at t)
 carries-listing (x ∷ r) {p} at t =
     let xs = records newSheet (x ∷ r) .records in
-    let some = reaches-some (at .held) (omega arith) in
+    let some = reaches-some (at .reached) (omega arith) in
     listing-some x (r ++ t)
-    ∙ ap (listingFrom 0 0) (records-append (at .held) t)
-    ∙ listing-before xs (records (heldBy p) t)
+    ∙ ap (listingFrom 0 0) (records-append (at .reached) t)
+    ∙ listing-before xs (records (contextBy p) t)
     ∙ ap (recordLines xs ++_)
     (sym (turns-from (length t + 1) p t (omega arith) (λ e z. omega (arith, at .index)) ∙ rw (at .index, at .rows)))
 
@@ -202,6 +205,26 @@ next-line {l} x t same =
     rw (carries-listing (x .taken) (x .carries) t, length-append front l, take-append-add front rest (length l), line, add-one (length t))
     (ap (front ++_) (turns-line (length t) (x .carried) t))
 
+-- The bytes that the lister holds are those of the input t that is left, so that the next line is the listing's: where reading
+-- moves the front of t, of some length, and fewer bytes than a record's span only at the end of t. That it does is all that is
+-- left to trust of reading.
+span-front : (t : List ℕ) (k : ℕ) → 4 ≤ k → recordSpan (take k t) ≡ recordSpan t
+unfolding recordSpan
+span-front t k h =
+    let same : lengthField (take k t) ≡ lengthField t = ap numberOf (take-take 4 k t h) in
+    rw same
+
+pub front-held : (t : List ℕ) (k : ℕ) → take k t ≡ heldOf (take k t) → (k < recordSpan (take k t) → length t ≤ k)
+    → heldOf t ≡ take k t
+front-held t k held ends =
+    by-cases (decLt k (length t))
+    (λ more.
+    let whole : recordSpan (take k t) ≤ k =
+    by-cases (decLt k (recordSpan (take k t))) (λ less. omega (arith, ends less)) (λ h. omega arith) in
+    let span = span-front t k (omega (arith, span-least (take k t))) in
+    sym (held ∙ rw span (take-take (recordSpan t) k t (omega (arith, span)))))
+    (λ all. let is = take-all k t (omega arith) in rw is (sym (rw is at held)))
+
 -- ---- the last line
 sheetRead-some : (s : List ℕ) → 0 < length s → sheetRead s ≡ records newSheet s
 unfolding sheetRead
@@ -209,28 +232,28 @@ sheetRead-some [] some = absurd (omega arith)
 sheetRead-some (x ∷ r) some = refl
 
 module _ {s : List ℕ} {p : Carried} (at : Carries s p) where
-  last-before : (b : List ℕ) (e : ℕ) → 0 < length (s ++ b) → records (heldBy p) b ≡ endsWith e
+  last-before : (b : List ℕ) (e : ℕ) → 0 < length (s ++ b) → records (contextBy p) b ≡ endsWith e
       → lastLine e (p .index) (p .rows) ≡ lastOf (sheetRead (s ++ b))
   last-before b e some ends =
-      rw (sheetRead-some (s ++ b) some, records-append (at .held) b, ends, append-nil (records newSheet s .records), at .index, at .rows)
+      rw (sheetRead-some (s ++ b) some, records-append (at .reached) b, ends, append-nil (records newSheet s .records), at .index, at .rows)
 
 end-nothing : (s : List ℕ) {p : Carried} → Carries s p → turnOf p [] .line ≡ lastOf (sheetRead (s ++ []))
 unfolding turnOf sheetRead storedRows
 end-nothing [] at = rw (none-index at, none-rows at)
 end-nothing (x ∷ r) {p} at =
-    let some = reaches-some (at .held) (omega arith) in
-    rw (ne-eqb (p .index) 0 (λ z. omega (arith, at .index))) (last-before at [] 0 (omega arith) (sheet-end (heldBy p)))
+    let some = reaches-some (at .reached) (omega arith) in
+    rw (ne-eqb (p .index) 0 (λ z. omega (arith, at .index))) (last-before at [] 0 (omega arith) (sheet-end (contextBy p)))
 
 end-refused : {s : List ℕ} {p : Carried} → Carries s p → (x : ℕ) (b : List ℕ) → turnOf p (x ∷ b) .last ≡ true
     → turnOf p (x ∷ b) .line ≡ lastOf (sheetRead (s ++ (x ∷ b)))
 end-refused {s} {p} at x b last =
-    let number = recordJudged (heldBy p) (x ∷ b) .number in
+    let number = recordJudged (contextBy p) (x ∷ b) .number in
     by-test (eqb number 0)
     (λ e. true-false last (ap (λ (t : Turned). t .last) (turnOf-accepted p (x ∷ b) (eqb-true number 0 e))))
     (λ e.
     let wrong = eqb-false number 0 e in
     ap (λ (t : Turned). t .line) (turnOf-refused p (x ∷ b) (omega arith) wrong)
-    ∙ last-before at (x ∷ b) number (omega (arith, length-append s (x ∷ b))) (sheet-refused (heldBy p) x b wrong))
+    ∙ last-before at (x ∷ b) number (omega (arith, length-append s (x ∷ b))) (sheet-refused (contextBy p) x b wrong))
 
 end-is : {s : List ℕ} {p : Carried} → Carries s p → (b : List ℕ) → turnOf p b .last ≡ true
     → turnOf p b .line ≡ lastOf (sheetRead (s ++ b))

@@ -1,5 +1,5 @@
 -- `command::argument::argument_of` meets its contract. Assumes nothing.
-use mathlib.Core.Path.{_≡_, sym, _∙_}
+use mathlib.Core.Path.{sym, _∙_}
 use Rattle.command.specs.Argument.{argumentOf}
 use borrow.Author.Needs.{needs}
 use Rattle.command.proofs.argument.argument_of.Statement.{statement}

@@ -1,6 +1,6 @@
 -- `command::argument::same_bytes` meets its contract: the bytes before i are the same, so that what is left decides; the
 -- measure is what is left. Assumes nothing.
-use Prim.Native.Nat.{_+_, _-_, _≤_}
+use Prim.Native.Nat.{_-_, _≤_}
 use native.Mathlib.Omega.{arith}
 use mathlib.Core.Path.{_≡_, refl, sym, _∙_}
 use lib.ListN.{length, drop}

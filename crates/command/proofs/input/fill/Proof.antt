@@ -1,8 +1,7 @@
 -- `command::input::fill`: `count` bytes came before each turn; the measure is the room that is left. Assumes nothing.
-use Prim.Native.Nat.{_+_, _-_, _≤_}
-use native.Mathlib.Omega.{arith}
+use Prim.Native.Nat.{_-_, _≤_}
 use mathlib.Core.Path.{_≡_}
-use lib.ListN.{length, drop, length-take, length-drop}
+use lib.ListN.{length}
 use borrow.Author.Needs.{needs}
 use Rattle.command.proofs.input.fill.Statement.{statement}
 use Rattle.command.proofs.input.fill.Tie as tie

@@ -1,5 +1,4 @@
 -- `list_sheet::turn::end` meets its contract: the last line stands at the front of the memory. Assumes nothing.
-use mathlib.Core.Path.{ap}
 use Rattle.sheet_listing.specs.Line.{lastLine}
 use Rattle.list_sheet.specs.Step.Laws.{given-count, given-line, given-within}
 use borrow.Author.Needs.{needs}

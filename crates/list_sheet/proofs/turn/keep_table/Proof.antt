@@ -45,7 +45,7 @@ returns-2 c =
     let at-test = c .before in
     let start = at-test .before .before .before in
     let holds = kindOf (start .args .read .kind) .holds in
-    (start .pre .1 .0, sym (table-kept holds _ _ (sym (at-test .is-table .ensures) ∙ c .if1 .left)))
+    (omega (arith, start .pre .1 .0), sym (table-kept holds _ _ (sym (at-test .is-table .ensures) ∙ c .if1 .left)))
 
 pub keep-table-spec : {M : Type 1} → statement M
 keep-table-spec =

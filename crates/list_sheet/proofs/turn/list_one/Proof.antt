@@ -2,9 +2,9 @@
 -- kept and its row counted. Assumes nothing.
 use Rattle.list_sheet.specs.declared.turn.Turn.{Turn}
 use native.Mathlib.Omega.{arith}
-use mathlib.Core.Path.{_≡_, refl, sym, ap, _∙_}
+use mathlib.Core.Path.{refl, sym, ap}
 use lib.Seq.{length-take-le}
-use Rattle.sheet_listing.specs.Turns.{holdsOf, turnOf}
+use Rattle.sheet_listing.specs.Turns.{holdsOf}
 use Rattle.list_sheet.specs.Step.{carriedBy}
 use Rattle.list_sheet.specs.Step.Laws.{rowsOf-most, turn-refused, read-length, line-within, turn-accepted}
 use borrow.Author.Needs.{needs}

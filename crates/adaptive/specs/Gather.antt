@@ -4,12 +4,12 @@ use mathlib.Core.Bool.{Bool, true, false}
 use lib.ListN.{length}
 use lib.IntN.{ℤ, pos, negsuc}
 use Rattle.adaptive.specs.declared.gather.Gathered.{Gathered}
-use Rattle.adaptive.specs.Number.{Front, whole, fault, dataOf}
+use Rattle.adaptive.specs.Number.{NumberFront, whole, fault, dataOf}
 
-abbrev pub gatheredOf : Front → Gathered
+abbrev pub gatheredOf : NumberFront → Gathered
 gatheredOf (whole bs) = record { number = 0; raw = dataOf bs; span = 128 ^ length bs; used = length bs }
 gatheredOf (fault e) = record { number = e; raw = 0; span = 0; used = 0 }
 
-abbrev pub signedOf : Bool → ℕ → ℤ
-signedOf true m = negsuc m
-signedOf false m = pos m
+abbrev pub withSign : Bool → ℕ → ℤ
+withSign true m = negsuc m
+withSign false m = pos m

@@ -4,7 +4,7 @@ ghost use mathlib.Core.Bool.{cond};
 ghost use lib.Dec.{leb};
 ghost use Rattle.adaptive.specs.Number.{accepted, rejected};
 ghost use Rattle.adaptive.specs.Calls.{signedAnswer, signedRead, unsignedRead};
-ghost use Rattle.adaptive.specs.Gather.{signedOf};
+ghost use Rattle.adaptive.specs.Gather.{withSign};
 use crate::SignedRead;
 use crate::UnsignedRead;
 use crate::gather::gather;
@@ -39,7 +39,7 @@ pub fn read_unsigned(s: &[u8]) -> UnsignedRead
 
 // The answer for a whole number of this sign and magnitude.
 fn signed_answer(negative: bool, m: u64, used: u32) -> SignedRead
-    ensures { λ r. ⌜ r ≡ signedAnswer (cond (leb m 2147483647) (accepted (signedOf negative m) used) (rejected 13)) ⌝ }
+    ensures { λ r. ⌜ r ≡ signedAnswer (cond (leb m 2147483647) (accepted (withSign negative m) used) (rejected 13)) ⌝ }
 {
     if 2147483647 < m {
         return SignedRead {

@@ -3,7 +3,7 @@ ghost use mathlib.Core.Path.{_≡_};
 ghost use Prim.Native.Nat.{_<_};
 ghost use lib.Signed.{mag};
 ghost use Rattle.adaptive.specs.Number.{twos};
-ghost use Rattle.adaptive.specs.Gather.{signedOf};
+ghost use Rattle.adaptive.specs.Gather.{withSign};
 
 // v where it is not negative, else -1 - v.
 pub fn magnitude(v: i32) -> u64
@@ -23,7 +23,7 @@ pub fn data_bits(v: i32) -> u64
 // m, or -1 - m.
 pub fn with_sign(negative: bool, m: u64) -> i32
     requires { ⌜ m < 2147483648 ⌝ }
-    ensures { λ r. ⌜ r ≡ signedOf negative m ⌝ }
+    ensures { λ r. ⌜ r ≡ withSign negative m ⌝ }
 {
     if negative { -1 - (m as i32) } else { m as i32 }
 }

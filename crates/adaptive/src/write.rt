@@ -4,7 +4,7 @@ ghost use mathlib.Core.List.{_++_};
 ghost use Prim.Native.Nat.{suc, _≤_, _<_};
 ghost use lib.ListN.{length, drop};
 ghost use Rattle.answer.specs.Outcome.{outcome};
-ghost use Rattle.adaptive.specs.Number.{laterBytes, bytesOf};
+ghost use Rattle.adaptive.specs.Number.{laterBytes, dataBytes};
 ghost use Rattle.adaptive.specs.Calls.{written, signedWritten, unsignedWritten};
 use crate::sign::data_bits;
 use crate::sign::magnitude;
@@ -30,7 +30,7 @@ fn later_bytes(first: u64, m: u64) -> usize
 // The last byte first, so that each turn takes the lowest 7 bits that are left.
 fn put_bytes(k: usize, d: u64, out: &mut [u8])
     requires { ⌜ k < length (now out) ⌝ }
-    ensures { λ _. ⌜ now (out .exit) ≡ bytesOf k d ++ drop (suc k) (now (out .entry)) ⌝ }
+    ensures { λ _. ⌜ now (out .exit) ≡ dataBytes k d ++ drop (suc k) (now (out .entry)) ⌝ }
 {
     out[k] = (d % 128) as u8;
     let mut rest = d / 128;
@@ -45,7 +45,7 @@ fn put_bytes(k: usize, d: u64, out: &mut [u8])
 // The bytes at the front of out, and their count; 5 where out has no room for them.
 fn write_bytes(k: usize, d: u64, out: &mut [u8]) -> Answer
     requires { ⌜ k ≤ 4 ⌝ }
-    ensures { λ r. ⌜ outcome r (now (out .exit)) ≡ written (bytesOf k d) (now (out .entry)) ⌝ }
+    ensures { λ r. ⌜ outcome r (now (out .exit)) ≡ written (dataBytes k d) (now (out .entry)) ⌝ }
 {
     if out.len() <= k {
         return Answer {

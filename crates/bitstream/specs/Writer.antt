@@ -7,8 +7,8 @@ use Rattle.bitstream.specs.Bits.{digits, bitsOf, wordsFor, pad}
 use Rattle.bitstream.specs.declared.writer.Writer.{Writer}
 
 -- the bits written so far: the stored words, then the register
-abbrev pub held : List ℕ → Writer → List ℕ
-held out w = bitsOf (take (4 * (w .words)) out) ++ digits (w .count) (w .acc)
+abbrev pub heldBits : List ℕ → Writer → List ℕ
+heldBits out w = bitsOf (take (4 * (w .words)) out) ++ digits (w .count) (w .acc)
 
 -- the register is in order
 pub record Good (w : Writer) : Type 0 where
@@ -27,8 +27,8 @@ pub record Closable (out : List ℕ) (w : Writer) : Type 0 where
   pub fits : 4 * wordsFor (32 * (w .words) + w .count) ≤ length out
 
 -- after the n bits of v were put
-pub record Put (out : List ℕ) (w : Writer) (v n : ℕ) (out′ : List ℕ) (w′ : Writer) : Type 0 where
-  pub bits : held out′ w′ ≡ held out w ++ digits n v
+pub record FieldPut (out : List ℕ) (w : Writer) (v n : ℕ) (out′ : List ℕ) (w′ : Writer) : Type 0 where
+  pub bits : heldBits out′ w′ ≡ heldBits out w ++ digits n v
   pub good : Good w′
   pub size : 32 * (w′ .words) + w′ .count ≡ 32 * (w .words) + (w .count + n)
   pub rest : drop (4 * (w′ .words)) out′ ≡ drop (4 * (w′ .words)) out
@@ -36,5 +36,5 @@ pub record Put (out : List ℕ) (w : Writer) (v n : ℕ) (out′ : List ℕ) (w�
 -- after the register was stored: r words hold the bits and zeros
 pub record Finished (out : List ℕ) (w : Writer) (out′ : List ℕ) (r : ℕ) : Type 0 where
   pub count : r ≡ wordsFor (32 * (w .words) + w .count)
-  pub front : bitsOf (take (4 * r) out′) ≡ pad (32 * r) (held out w)
+  pub front : bitsOf (take (4 * r) out′) ≡ pad (32 * r) (heldBits out w)
   pub rest : drop (4 * r) out′ ≡ drop (4 * r) out

@@ -2,7 +2,7 @@
 use crate::shift::above;
 ghost use mathlib.Core.Path.{_≡_};
 ghost use Prim.Native.Nat.{_+_, _*_, _^_, _<_};
-ghost use Rattle.bitstream.specs.Writer.{Ready, Put, Closable, Finished};
+ghost use Rattle.bitstream.specs.Writer.{Ready, FieldPut, Closable, Finished};
 
 // words   whole words stored so far
 // count   bits in the register, below 32 between calls
@@ -27,7 +27,7 @@ pub fn start() -> Writer
 pub fn put(out: &mut [u8], w: Writer, v: u64, n: u32) -> Writer
     requires { ⌜ Ready (now out) w n ⌝ }
     requires { ⌜ v < 2 ^ n ⌝ }
-    ensures { λ r. ⌜ Put (now (out .entry)) w v n (now (out .exit)) r ⌝ }
+    ensures { λ r. ⌜ FieldPut (now (out .entry)) w v n (now (out .exit)) r ⌝ }
 {
     let words = w.words;
     let count = w.count + n;

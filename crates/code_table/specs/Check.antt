@@ -34,5 +34,5 @@ pub record AllGathered (ws : List ℕ) (r : Gathered) (out : List ℕ) : Type 0 
   pub wrong : r .ok ≡ false → any wrongWord ws ≡ true
 
 -- what is answered of string words that are in order, by their longest length and the escape's
-unfoldable pub judged : List ℕ → ℕ → ℕ → Answer
-judged ws most escape = cond (clash (map codeword ws)) (answerOf 3 0) (answerOf 0 (max most (escape + 12)))
+unfoldable pub codewordsJudged : List ℕ → ℕ → ℕ → Answer
+codewordsJudged ws most escape = cond (clash (map codeword ws)) (answerOf 3 0) (answerOf 0 (max most (escape + 12)))

@@ -11,7 +11,7 @@ ghost use Prim.Native.Nat.{_+_, _/_, _≤_, _<_, max};
 ghost use lib.ListN.{length};
 ghost use Rattle.row_format.specs.Table.{wrongWord};
 ghost use Rattle.row_format.specs.Calls.{checked};
-ghost use Rattle.code_table.specs.Check.{WholeTable, SizeJudged, AllGathered, codewordWords, judged};
+ghost use Rattle.code_table.specs.Check.{WholeTable, SizeJudged, AllGathered, codewordWords, codewordsJudged};
 
 // The string words stand from word 3 on: raw, bad pixel and bad bias, then the entries.
 const FIRST_CODEWORD: usize = 3;
@@ -61,7 +61,7 @@ fn check_codewords(table: &[u8], scratch: &mut [u32]) -> Answer
 // Of string words that are in order.
 fn judge(words: &mut [u32], longest: u32, escape: u32) -> Answer
     requires { ⌜ escape < 32 ⌝ }
-    ensures { λ r. ⌜ r ≡ judged (now (words .entry)) longest escape ⌝ }
+    ensures { λ r. ⌜ r ≡ codewordsJudged (now (words .entry)) longest escape ⌝ }
 {
     if prefix_free(words) {
         return Answer {

@@ -41,8 +41,8 @@ escapeLength t = getD t 3 0 % 32
 
 -- ---- differences (document 01: steps)
 -- a difference is held as its count k from -4093 upward, which stands for the signed number k - 4093
-abbrev pub signed : ℕ → ℤ
-signed k = pos k -ℤ pos 4093
+abbrev pub signedDifference : ℕ → ℤ
+signedDifference k = pos k -ℤ pos 4093
 
 -- "Entry i stands for the signed step i + lowLimit - 4093"
 abbrev pub entryDifference : List ℕ → ℕ → ℕ

@@ -14,7 +14,7 @@ use lib.Dec.{ltb, eqb}
 use Rattle.bitstream.specs.Bits.{begins, wordsOf, halvesOf, stream, wordsFor, Below}
 use Rattle.answer.specs.Outcome.{answerOf, refusal, wrote, lent, Kept, Within}
 use Rattle.row_format.specs.Lists.{any}
-use Rattle.row_format.specs.Table.{lowLimit, tableSize, codewordAt, escapeLength, signed, entryDifference, hasDifference, clash, verdict, tableNumber, Apart, Accepted, maxItemBits}
+use Rattle.row_format.specs.Table.{lowLimit, tableSize, codewordAt, escapeLength, signedDifference, entryDifference, hasDifference, clash, verdict, tableNumber, Apart, Accepted, maxItemBits}
 use Rattle.row_format.specs.Table.Laws.{clash-false-apart, apart-clash-false, accepted, verdict-accepted, signed-differenceTo, length-codewordAt, escapeLength-least, codewordAt-least, codewordAt-most, codewordAt-only, maxItemBits-least, maxItemBits-most}
 use Rattle.row_format.specs.Row.{Item, difference, escape, State, fresh, previous, differenceTo, byDifference, itemFor, pixelOf, afterAll, itemBits, itemsFor, pixelsOf, bits, rowBits, rowBytes, pixelBytes}
 use Rattle.row_format.specs.Row.Laws.{itemFor-escape}
@@ -80,7 +80,7 @@ module _ (t : List ℕ) (ok : verdict t ≡ 0) where
 
   -- "So steps lie within -4093 to 4093"
   pub entry-differences : (i : ℕ) → i < tableSize t
-      → (negsuc 4092 ≤ℤ signed (entryDifference t i)) × (signed (entryDifference t i) ≤ℤ pos 4093)
+      → (negsuc 4092 ≤ℤ signedDifference (entryDifference t i)) × (signedDifference (entryDifference t i) ≤ℤ pos 4093)
   entry-differences = entry-signed t (accepted t ok)
 
   -- "If the table has the step": some entry stands for it; and "its string" is that entry's. (Of any table's words)
@@ -105,7 +105,7 @@ module _ (t : List ℕ) (ok : verdict t ≡ 0) where
 
 -- ---- demand 2: packing writes what is prescribed, and unpacking gives the row back
 -- "step = pixel - previous height"
-pub difference-signed : (s : State) (p : ℕ) → previous s ≤ 4093 → signed (differenceTo s p) ≡ pos p -ℤ pos (previous s)
+pub difference-signed : (s : State) (p : ℕ) → previous s ≤ 4093 → signedDifference (differenceTo s p) ≡ pos p -ℤ pos (previous s)
 difference-signed s p h = signed-differenceTo p (previous s) h
 
 -- 8 is "a step leads outside 0 to 4093": a step leads inside exactly when it is that of some height, and then it stands for
@@ -303,10 +303,10 @@ pub row-bits-tight : (t : List ℕ) → verdict t ≡ 0 → hasDifference t 0 �
 row-bits-tight t ok = tight t (accepted t ok)
 
 -- the two steps that it names, held as counts from -4093
-pub least-difference : signed 0 ≡ negsuc 4092
+pub least-difference : signedDifference 0 ≡ negsuc 4092
 least-difference = refl
 
-pub most-difference : signed 8186 ≡ pos 4093
+pub most-difference : signedDifference 8186 ≡ pos 4093
 most-difference = refl
 
 -- ---- demand 1

@@ -3,7 +3,7 @@
 use Prim.Native.Nat.{ℕ}
 use mathlib.Core.Path.{_≡_}
 use mathlib.Core.Bool.{true, false, cond}
-use Rattle.row_format.specs.Table.{signed}
+use Rattle.row_format.specs.Table.{signedDifference}
 use Rattle.row_format.specs.Row as row
 use Rattle.row_item.specs.declared.Item.{Item}
 use Rattle.row_item.specs.declared.Item.the-variants.{Difference, BadPixel, BadBias, Escape}
@@ -12,7 +12,7 @@ pub mod Laws
 
 -- a difference that is counted k from -4093 is the i32 k - 4093
 abbrev pub coded : row.Item → Item
-coded (row.difference k) = Difference (signed k)
+coded (row.difference k) = Difference (signedDifference k)
 coded row.badPixel = BadPixel
 coded row.badBias = BadBias
 coded (row.escape h) = Escape h
@@ -22,8 +22,8 @@ progress row.fresh = record { begun = false; previous = 0 }
 progress (row.past h) = record { begun = true; previous = h }
 
 -- `progress` turned round: where no pixel has become previous, the number held beside it counts for nothing
-abbrev pub stateOf : Progress → row.State
-stateOf p = cond (p .begun) (row.past (p .previous)) row.fresh
+abbrev pub rowState : Progress → row.State
+rowState p = cond (p .begun) (row.past (p .previous)) row.fresh
 
 -- r is what p has come to after an item and its pixel
 pub record Followed (p : Progress) (i : Item) (pixel : ℕ) (r : Progress) : Type 0 where

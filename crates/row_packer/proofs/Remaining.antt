@@ -7,14 +7,14 @@ use Rattle.bitstream.specs.Bits.{digits}
 use Rattle.bitstream.specs.Bits.Laws.{length-digits}
 use Rattle.row_format.specs.Row.{fresh, itemsFor, bits, rowBits}
 use Rattle.row_item.specs.declared.Progress.{Progress}
-use Rattle.row_item.specs.Coded.{progress, stateOf}
+use Rattle.row_item.specs.Coded.{progress, rowState}
 use Rattle.row_pixels.specs.Laws.{drop-more, drop-end}
 use Rattle.row_packer.specs.Encode.{Encodes}
 use Rattle.row_packer.specs.declared.encode.Encoded.{Encoded}
 
 -- the bits of the pixels from pixel i on, when the row has come to p
 unfoldable pub remaining : List ℕ → List ℕ → Progress → ℕ → List ℕ
-remaining t ps p i = bits t (itemsFor t (stateOf p) (drop i ps))
+remaining t ps p i = bits t (itemsFor t (rowState p) (drop i ps))
 
 module _ (t ps : List ℕ) where
   -- at the start all is left

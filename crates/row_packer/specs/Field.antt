@@ -26,12 +26,12 @@ plain BadBias = row.badBias
 plain (Escape h) = row.escape h
 
 -- an item that can be written under a table: a difference that the table has, or a height of 12 bits
-abbrev pub Writable : List ℕ → row.Item → Type 0
-Writable t (row.difference k) = (lowLimit t ≤ k) × (k < lowLimit t + tableSize t)
-Writable t row.badPixel = Unit
-Writable t row.badBias = Unit
-Writable t (row.escape h) = h < 4096
+abbrev pub WritableItem : List ℕ → row.Item → Type 0
+WritableItem t (row.difference k) = (lowLimit t ≤ k) × (k < lowLimit t + tableSize t)
+WritableItem t row.badPixel = Unit
+WritableItem t row.badBias = Unit
+WritableItem t (row.escape h) = h < 4096
 
 pub record Codable (t : List ℕ) (i : Item) : Type 0 where
   pub is : i ≡ coded (plain i)
-  pub fits : Writable t (plain i)
+  pub fits : WritableItem t (plain i)

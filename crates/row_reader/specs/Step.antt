@@ -12,7 +12,7 @@ use Rattle.row_format.specs.Row as row
 use Rattle.row_format.specs.Reading.{Reading, item, fault, readItem}
 use Rattle.row_item.specs.declared.Item.the-variants.{Escape}
 use Rattle.row_item.specs.declared.Progress.{Progress}
-use Rattle.row_item.specs.Coded.{coded, progress, stateOf}
+use Rattle.row_item.specs.Coded.{coded, progress, rowState}
 use Rattle.row_reader.specs.declared.step.Place.{Place}
 use Rattle.row_reader.specs.declared.step.ItemRead.{ItemRead}
 pub mod Laws
@@ -67,8 +67,8 @@ given pl s (fault e u) = refusedAt e pl
 
 -- the reading at a place
 abbrev pub readingAt : List ℕ → List ℕ → Place → Reading
-readingAt tb wb pl = readItem (wordsOf tb) (stateOf (pl .progress)) (drop (pl .at) (stream wb))
+readingAt tb wb pl = readItem (wordsOf tb) (rowState (pl .progress)) (drop (pl .at) (stream wb))
 
 unfoldable pub itemRead : List ℕ → List ℕ → Place → ItemRead
 itemRead tb wb pl =
-    unless (placeNumber pl) (λ e. refusedAt e pl) (given pl (stateOf (pl .progress)) (readingAt tb wb pl))
+    unless (placeNumber pl) (λ e. refusedAt e pl) (given pl (rowState (pl .progress)) (readingAt tb wb pl))

@@ -11,7 +11,7 @@ use lib.ListN.{length, drop}
 use lib.Dec.{eqb}
 use Rattle.bitstream.specs.Bits.{wordsOf, stream}
 use Rattle.answer.specs.Outcome.{refused, wrote}
-use Rattle.row_item.specs.Coded.{stateOf}
+use Rattle.row_item.specs.Coded.{rowState}
 use Rattle.row_format.specs.Lists.{any}
 use Rattle.row_format.specs.Table.{tableNumber, maxItemBits}
 use Rattle.row_format.specs.Row.{pixelBytes}
@@ -87,7 +87,7 @@ walk-possible tb wb ok = laws.walk-place tb wb ok
 
 -- "Its items, a refused one too, use at most M bits each": the definition's bits, and the place after a given item
 pub reader-item-bits : (tb wb : List ℕ) (pl : Place) → bitsOfReading (readingAt tb wb pl) ≤ maxItemBits (wordsOf tb)
-reader-item-bits tb wb pl = readItem-uses (wordsOf tb) (stateOf (pl .progress)) (drop (pl .at) (stream wb))
+reader-item-bits tb wb pl = readItem-uses (wordsOf tb) (rowState (pl .progress)) (drop (pl .at) (stream wb))
 
 pub reader-moves : (tb wb : List ℕ) (pl : Place) → itemRead tb wb pl .place .at ≤ pl .at + maxItemBits (wordsOf tb)
 reader-moves = laws.moves

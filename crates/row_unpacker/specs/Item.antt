@@ -9,7 +9,7 @@ use Rattle.row_format.specs.Table.{entryDifference}
 use Rattle.row_format.specs.Row.{State, pixelOf, difference}
 use Rattle.row_format.specs.Reading.{Reading, item, fault, found, rawHeight, inside, taken, readItem}
 use Rattle.row_item.specs.declared.Progress.{Progress}
-use Rattle.row_item.specs.Coded.{coded, stateOf}
+use Rattle.row_item.specs.Coded.{coded, rowState}
 use Rattle.row_unpacker.specs.declared.item.Read.{Read}
 use Rattle.row_unpacker.specs.declared.item.Read.the-variants.{Got, Refused}
 
@@ -20,7 +20,7 @@ answered s at (fault e u) = Refused e at
 
 -- the item at a place: of whatever bytes of a table tb and of words wb
 unfoldable pub itemAt : List ℕ → List ℕ → ℕ → Progress → Read
-itemAt tb wb at p = answered (stateOf p) at (readItem (wordsOf tb) (stateOf p) (drop at (stream wb)))
+itemAt tb wb at p = answered (rowState p) at (readItem (wordsOf tb) (rowState p) (drop at (stream wb)))
 
 -- ---- its parts, over a table's words t and the rest r at the place
 -- the item of the codeword at place j of the table

@@ -21,16 +21,16 @@ abbrev pub rowLeft : List ℕ → List ℕ → ℕ → List ℕ → Outcome Answ
 rowLeft tb wb n m = rowOutcome m (withoutStray (stream wb) (itemsRead tb wb n))
 
 -- what a reading has come to: the pixels' bytes and the bits used; or the number and the place of the faulty item
-pub data Reached : Type 0 where
-  whole : List ℕ → ℕ → Reached
-  halted : ℕ → ℕ → Reached
+pub data RowReached : Type 0 where
+  whole : List ℕ → ℕ → RowReached
+  halted : ℕ → ℕ → RowReached
 
 -- of a run of n items from a state on
-abbrev pub reached : ℕ → State → Run → Reached
-reached n s (done is u) = whole (bytesOf (2 * n) (flat 16 (pixelsOf s is))) u
-reached n s (stop e at u) = halted e at
+abbrev pub rowReached : ℕ → State → Run → RowReached
+rowReached n s (done is u) = whole (bytesOf (2 * n) (flat 16 (pixelsOf s is))) u
+rowReached n s (stop e at u) = halted e at
 
 -- the code's answer, and the memory of n pixels
-abbrev pub RowIs : ℕ → List ℕ → RowRead → Reached → Type 0
+abbrev pub RowIs : ℕ → List ℕ → RowRead → RowReached → Type 0
 RowIs n out x (whole b u) = (x ≡ Done u) × (take (2 * n) out ≡ b)
 RowIs n out x (halted e at) = x ≡ Refused e at

@@ -15,7 +15,7 @@ ghost use mathlib.Core.Path.{_≡_};
 ghost use Prim.Native.Nat.{_+_, _/_, _^_, _≤_, _<_};
 ghost use lib.ListN.{length, drop};
 ghost use Rattle.bitstream.specs.Bits.{wordsOf, stream};
-ghost use Rattle.row_item.specs.Coded.{stateOf};
+ghost use Rattle.row_item.specs.Coded.{rowState};
 ghost use Rattle.row_format.specs.Table.{tableNumber};
 ghost use Rattle.row_format.specs.Row.{previous};
 ghost use Rattle.row_unpacker.specs.View.{Seen};
@@ -74,7 +74,7 @@ fn item_seen(table: &[u8], words: &[u8], at: usize, p: Progress, v: View, hit: H
 pub fn item_found(table: &[u8], words: &[u8], at: usize, p: Progress, j: usize) -> Read
     requires { ⌜ at ≤ 2 ^ 32 ⌝ }
     requires { ⌜ j + 3 < length (now table) / 4 ⌝ }
-    ensures { λ r. ⌜ r ≡ foundAt (wordsOf (now (table .entry))) (stateOf p) (drop at (stream (now (words .entry)))) at j ⌝ }
+    ensures { λ r. ⌜ r ≡ foundAt (wordsOf (now (table .entry))) (rowState p) (drop at (stream (now (words .entry)))) at j ⌝ }
 {
     let len = (word_at(table, j + 3) % 32) as usize;
     if j == 0 {
@@ -129,7 +129,7 @@ fn entry_found(table: &[u8], at: usize, p: Progress, i: usize, len: usize) -> Re
     requires { ⌜ at ≤ 2 ^ 32 ⌝ }
     requires { ⌜ i + 6 < length (now table) / 4 ⌝ }
     requires { ⌜ len < 32 ⌝ }
-    ensures { λ r. ⌜ r ≡ entryAt (wordsOf (now (table .entry))) (stateOf p) at i len ⌝ }
+    ensures { λ r. ⌜ r ≡ entryAt (wordsOf (now (table .entry))) (rowState p) at i len ⌝ }
 {
     // counted from -4093: the difference, and the height that it leads to
     let count = i as u64 + low_limit(table) as u64;
@@ -155,7 +155,7 @@ fn entry_found(table: &[u8], at: usize, p: Progress, i: usize, len: usize) -> Re
 
 // The previous height, 0 at the row's start.
 fn previous_of(p: Progress) -> u32
-    ensures { λ r. ⌜ r ≡ previous (stateOf p) ⌝ }
+    ensures { λ r. ⌜ r ≡ previous (rowState p) ⌝ }
 {
     if p.begun { p.previous } else { 0 }
 }

@@ -11,7 +11,7 @@ ghost use Prim.Native.Nat.{_*_, _≤_};
 ghost use lib.ListN.{length};
 ghost use Rattle.row_format.specs.Table.{tableNumber};
 ghost use Rattle.row_format.specs.Row.{fresh};
-ghost use Rattle.row_unpacker.specs.Row.{itemsRead, reached, RowIs};
+ghost use Rattle.row_unpacker.specs.Row.{itemsRead, rowReached, RowIs};
 
 // The bits used; or the number of the refusal and the place of the faulty item.
 pub enum RowRead {
@@ -24,7 +24,7 @@ pub fn read_row(table: &[u8], words: &[u8], n: usize, row: &mut [u8]) -> RowRead
     requires { ⌜ tableNumber (now table) ≡ 0 ⌝ }
     requires { ⌜ n ≤ 4096 ⌝ }
     requires { ⌜ 2 * n ≤ length (now row) ⌝ }
-    ensures { λ r. ⌜ RowIs n (now (row .exit)) r (reached n fresh (itemsRead (now (table .entry)) (now (words .entry)) n)) ⌝ }
+    ensures { λ r. ⌜ RowIs n (now (row .exit)) r (rowReached n fresh (itemsRead (now (table .entry)) (now (words .entry)) n)) ⌝ }
 {
     let mut hints = [0u16; 16385];
     fill(table, &mut hints);
@@ -38,7 +38,7 @@ fn read_items(table: &[u8], words: &[u8], hints: &Hints, n: usize, row: &mut [u8
     requires { ⌜ tableNumber (now table) ≡ 0 ⌝ }
     requires { ⌜ n ≤ 4096 ⌝ }
     requires { ⌜ 2 * n ≤ length (now row) ⌝ }
-    ensures { λ r. ⌜ RowIs n (now (row .exit)) r (reached n fresh (itemsRead (now (table .entry)) (now (words .entry)) n)) ⌝ }
+    ensures { λ r. ⌜ RowIs n (now (row .exit)) r (rowReached n fresh (itemsRead (now (table .entry)) (now (words .entry)) n)) ⌝ }
 {
     let mut at = 0;
     let mut p = start();

@@ -4,7 +4,7 @@ use bitstream::shift::low_bits;
 use code_table::header::word_at;
 ghost use Prim.Native.Nat.{_<_};
 ghost use Rattle.bitstream.specs.Bits.{begins, wordsOf};
-ghost use Rattle.row_unpacker.specs.Search.{Finds, CutShort, begun, Tested};
+ghost use Rattle.row_unpacker.specs.Search.{Finds, CutShort, begunBy, Tested};
 
 // The place of a codeword: 0 escape, 1 bad pixel, 2 bad bias, 3 + i entry i.
 pub enum Hit {
@@ -29,7 +29,7 @@ pub fn search(table: &[u8], v: View) -> Hit
 
 // Whether the codeword of a word begins the rest. What is past the end is seen as 0, and is no bit of the rest.
 pub fn begins_rest(word: u32, v: View) -> bool
-    ensures { λ r. ⌜ Tested begun word v r ⌝ }
+    ensures { λ r. ⌜ Tested begunBy word v r ⌝ }
 {
     let len = word % 32;
     if v.left < len {

@@ -7,7 +7,7 @@ use Rattle.row_format.specs.Lists.{any, least}
 use Rattle.row_format.specs.Table.{codeword, codewords, codewordAt, wrongSize, wrongWord, wrongCodeword, clash, verdict, tableNumber}
 use Rattle.row_format.specs.Row.{byDifference, itemFor, itemsFor, bits, rowBits, pixelsOf}
 use Rattle.row_format.specs.Reading.{find, unmatched, rawHeight, matched, readItem, readBy, readItems, stray, firstNumber, rowReading}
-use Rattle.adaptive.specs.Number.{front, dataOf, signedValue, continued, bytesOf, laterBytes, readAs, shortest}
+use Rattle.adaptive.specs.Number.{front, dataOf, signedValue, continued, dataBytes, laterBytes, readAs, shortest}
 use Rattle.sheet_format.specs.declared.SheetState.{SheetState}
 use Rattle.sheet_format.specs.Context.{newSheet, stateOf}
 use Rattle.sheet_format.specs.Line.{lineBytes, readLine}
@@ -49,5 +49,5 @@ reading = tt
 
 writing : Unit {0}
 unfolding numbering recordWritten writeNumber recordBytes packedGivenNumber packedBody packedTakes plainGivenNumber plainBody
-    lineGivenNumber lineBody itemFor itemsFor bits rowBits lineBytes shortest bytesOf continued laterBytes
+    lineGivenNumber lineBody itemFor itemsFor bits rowBits lineBytes shortest dataBytes continued laterBytes
 writing = tt

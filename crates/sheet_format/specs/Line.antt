@@ -7,7 +7,7 @@ use mathlib.Core.List.{List, [], _∷_, _++_}
 use lib.ListN.{drop}
 use lib.Dec.{ltb}
 use lib.IntN.{ℤ, pos, negsuc}
-use Rattle.adaptive.specs.Number.{Reading, accepted, rejected, signed, readAs, shortest}
+use Rattle.adaptive.specs.Number.{NumberReading, accepted, rejected, signedType, readAs, shortest}
 pub mod Laws
 pub mod Steps
 
@@ -22,7 +22,7 @@ signedOf w = cond (ltb w 2147483648) (pos w) (negsuc (4294967295 - w))
 -- ---- writing: "that many signed adaptive numbers"
 unfoldable pub lineBytes : List ℤ → List ℕ
 lineBytes [] = []
-lineBytes (v ∷ vs) = shortest signed v ++ lineBytes vs
+lineBytes (v ∷ vs) = shortest signedType v ++ lineBytes vs
 
 -- ---- reading so many numbers: their values and the bytes used, or the number of the refusal, "12 or 13 at the earliest
 -- number"
@@ -34,10 +34,10 @@ abbrev pub prepend : ℤ → ℕ → Line → Line
 prepend v u (numbers vs w) = numbers (v ∷ vs) (u + w)
 prepend v u (faulty e) = faulty e
 
-abbrev pub follow : Reading ℤ → (ℕ → Line) → Line
+abbrev pub follow : NumberReading ℤ → (ℕ → Line) → Line
 follow (accepted v u) f = prepend v u (f u)
 follow (rejected e) f = faulty e
 
 unfoldable pub readLine : ℕ → List ℕ → Line
 readLine zero s = numbers [] 0
-readLine (suc n) s = follow (readAs signed s) (λ u. readLine n (drop u s))
+readLine (suc n) s = follow (readAs signedType s) (λ u. readLine n (drop u s))

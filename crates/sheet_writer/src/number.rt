@@ -6,7 +6,7 @@ ghost use mathlib.Core.Path.{_≡_};
 ghost use Prim.Native.Nat.{_/_, _<_};
 ghost use lib.IntN.{pos};
 ghost use lib.ListN.{length, getD};
-ghost use Rattle.adaptive.specs.Number.{signed, shortest};
+ghost use Rattle.adaptive.specs.Number.{signedType, shortest};
 ghost use Rattle.sheet_format.specs.Kind.ContourLine.{givenNumbers};
 
 // Number i of the content.
@@ -19,7 +19,7 @@ pub fn number_at(content: &[u8], i: usize) -> i32
 
 // The bytes that a number takes in a record, found by writing it: none takes more than five.
 pub fn number_bytes(value: i32) -> usize
-    ensures { λ r. ⌜ r ≡ length (shortest signed value) ⌝ }
+    ensures { λ r. ⌜ r ≡ length (shortest signedType value) ⌝ }
 {
     let mut scratch = [0u8; 5];
     let put = write_signed(value, &mut scratch);

@@ -2,7 +2,7 @@
 use Prim.Native.Nat.{ℕ, zero, suc}
 use mathlib.Core.List.{List, _++_, map}
 use Rattle.text.specs.Text.{ascii, digit, integer}
-use Rattle.row_format.specs.Table.{codewordAt, signed, entryDifference}
+use Rattle.row_format.specs.Table.{codewordAt, signedDifference, entryDifference}
 pub mod Laws
 
 -- "`raw 10`, `bad-pixel 110`, `bad-bias 111`; an entry is named by its step". A string is at the place 0 raw, 1 bad pixel,
@@ -11,7 +11,7 @@ unfoldable pub name : List ℕ → ℕ → List ℕ
 name t zero = ascii "raw"
 name t (suc zero) = ascii "bad-pixel"
 name t (suc (suc zero)) = ascii "bad-bias"
-name t (suc (suc (suc i))) = integer (signed (entryDifference t i))
+name t (suc (suc (suc i))) = integer (signedDifference (entryDifference t i))
 
 unfoldable pub line : List ℕ → ℕ → List ℕ
 line t p = name t p ++ ascii " " ++ map digit (codewordAt t p) ++ ascii "\n"

@@ -20,12 +20,12 @@ pub data Case : Type 0 where
   signedAs : ℤ → List ℕ → Case  -- a value and its bytes
   unsignedAs : ℕ → List ℕ → Case
 
-abbrev pub Holds : Case → Type 0
-Holds (packs ps ws n) = (length (rowBits plainTable ps) ≡ n) × (cut 32 (wordsFor n) (rowBits plainTable ps) ≡ ws)
-Holds (takes ps n) = length (rowBits plainTable ps) ≡ n
-Holds (worst ps n w) = (length (rowBits plainTable ps) ≡ n) × (wordsFor n ≡ w) × (n ≡ length ps * maxItemBits plainTable)
-Holds (signedAs v b) = (shortest number.signed v ≡ b) × (readAs number.signed b ≡ accepted v (length b))
-Holds (unsignedAs v b) = (shortest number.unsigned v ≡ b) × (readAs number.unsigned b ≡ accepted v (length b))
+abbrev pub CaseHolds : Case → Type 0
+CaseHolds (packs ps ws n) = (length (rowBits plainTable ps) ≡ n) × (cut 32 (wordsFor n) (rowBits plainTable ps) ≡ ws)
+CaseHolds (takes ps n) = length (rowBits plainTable ps) ≡ n
+CaseHolds (worst ps n w) = (length (rowBits plainTable ps) ≡ n) × (wordsFor n ≡ w) × (n ≡ length ps * maxItemBits plainTable)
+CaseHolds (signedAs v b) = (shortest number.signedType v ≡ b) × (readAs number.signedType b ≡ accepted v (length b))
+CaseHolds (unsignedAs v b) = (shortest number.unsignedType v ≡ b) × (readAs number.unsignedType b ≡ accepted v (length b))
 
 abbrev pub cases : List Case
 cases =
@@ -50,9 +50,9 @@ cases =
     ∷ unsignedAs 16384 (0x81 ∷ 0x80 ∷ 0x00 ∷ [])
     ∷ []
 
-pub cases-hold : Each Holds cases
+pub cases-hold : Each CaseHolds cases
 unfolding digits numOf cut codeword codewords codewordAt longest maxItemBits byDifference itemFor itemsFor bits rowBits
-    plainEntries plainTable readAs shortest number.front number.dataOf number.signedValue number.continued number.bytesOf
+    plainEntries plainTable readAs shortest number.front number.dataOf number.signedValue number.continued number.dataBytes
     number.laterBytes
 cases-hold =
     (refl, refl)

@@ -26,8 +26,8 @@ both-accepted = (refl, refl)
 pub data Case : Type 0 where
   reads : List ℕ → ℕ → List ℕ → Run → Case
 
-abbrev pub Holds : Case → Type 0
-Holds (reads t n b r) = readItems t n b ≡ r
+abbrev pub CaseHolds : Case → Type 0
+CaseHolds (reads t n b r) = readItems t n b ≡ r
 
 abbrev pub cases : List Case
 cases =
@@ -46,6 +46,6 @@ cases =
     ∷ reads level 1 (1 ∷ 0 ∷ 1 ∷ 0 ∷ 0 ∷ 0 ∷ 0 ∷ 0 ∷ 0 ∷ 0 ∷ 0 ∷ 0 ∷ 0 ∷ 0 ∷ 0 ∷ []) (done (escape 1 ∷ []) 14)
     ∷ []
 
-pub cases-hold : Each Holds cases
+pub cases-hold : Each CaseHolds cases
 unfolding digits numOf begins any least codeword codewords codewordAt find unmatched rawHeight matched readItem readBy readItems
 cases-hold = refl also refl also refl also refl also refl also refl also refl also refl also tt

@@ -9,11 +9,11 @@ use mathlib.Core.Logic.{⊎-elim}
 use lib.ListN.{length}
 use lib.Dec.{leb}
 use lib.IntN.{pos, negsuc}
-use Rattle.adaptive.specs.Number.{Front, whole, fault, front, dataOf, signedValue, signed, accepted, rejected, readAs}
+use Rattle.adaptive.specs.Number.{NumberFront, whole, fault, front, dataOf, signedValue, signedType, accepted, rejected, readAs}
 use Rattle.adaptive.specs.Number.Laws.{Fair, front-fair, dataOf-lt}
 use Rattle.adaptive.specs.Number.Sign.{Signed, signedValue-is, signed-pos, signed-set}
 use Rattle.adaptive.specs.Number.Lawful.{signed-range}
-use Rattle.adaptive.specs.Gather.{gatheredOf, signedOf}
+use Rattle.adaptive.specs.Gather.{gatheredOf, withSign}
 use Rattle.adaptive.specs.declared.gather.Gathered.{Gathered}
 
 -- a whole number was gathered, with this many later bytes
@@ -29,7 +29,7 @@ pub record Whole (s : List ℕ) (g : Gathered) : Type 0 where
 pub gathered-whole : (s : List ℕ) {g : Gathered} → g ≡ gatheredOf (front 5 s) → g .number ≡ 0 → Whole s g
 gathered-whole s {g} e z = by-front (front 5 s) refl (front-fair 5 s) e
   where
-    by-front : (f : Front) → front 5 s ≡ f → Fair 5 s f → g ≡ gatheredOf f → Whole s g
+    by-front : (f : NumberFront) → front 5 s ≡ f → Fair 5 s f → g ≡ gatheredOf f → Whole s g
     by-front (whole bs) f p q =
         let long : length bs ≡ suc (length bs - 1) = omega (arith, p .some) in
         record {
@@ -49,11 +49,11 @@ pub gathered-fault : (s : List ℕ) {g : Gathered} → g ≡ gatheredOf (front 5
     → front 5 s ≡ fault (g .number)
 gathered-fault s {g} e n = by-front (front 5 s) refl e
   where
-    by-front : (f : Front) → front 5 s ≡ f → g ≡ gatheredOf f → front 5 s ≡ fault (g .number)
+    by-front : (f : NumberFront) → front 5 s ≡ f → g ≡ gatheredOf f → front 5 s ≡ fault (g .number)
     by-front (whole bs) f q = absurd (n (ap (λ x. x .number) q))
     by-front (fault x) f q = f ∙ ap fault (sym (ap (λ (y : Gathered). y .number) q))
 
-in-range : (t : Bool) (m : ℕ) → signed .inRange (signedOf t m) ≡ leb m 2147483647
+in-range : (t : Bool) (m : ℕ) → signedType .inRange (withSign t m) ≡ leb m 2147483647
 in-range true m = signed-range (negsuc m)
 in-range false m = signed-range (pos m)
 
@@ -65,20 +65,20 @@ module _ {s : List ℕ} {g : Gathered} (w : Whole s g) where
   value : Signed (w .later) (g .raw) (signedValue (w .bytes))
   value = rw (w .raw) (signedValue-is (w .bytes) (w .later) (w .long))
 
-  pub value-clear : g .raw < g .span / 2 → signedValue (w .bytes) ≡ signedOf false (g .raw)
+  pub value-clear : g .raw < g .span / 2 → signedValue (w .bytes) ≡ withSign false (g .raw)
   value-clear h =
       let top : g .span ≡ 128 ^ w .later * 128 = w .span ∙ pow-suc 128 (w .later) in
       let low : g .raw < 64 * 128 ^ w .later = omega arith in
       signed-pos low value
 
-  pub value-set : g .span / 2 ≤ g .raw → signedValue (w .bytes) ≡ signedOf true (g .span - 1 - g .raw)
+  pub value-set : g .span / 2 ≤ g .raw → signedValue (w .bytes) ≡ withSign true (g .span - 1 - g .raw)
   value-set h =
       let top : g .span ≡ 128 ^ w .later * 128 = w .span ∙ pow-suc 128 (w .later) in
       let high : 64 * 128 ^ w .later ≤ g .raw = omega arith in
       let same : 128 ^ suc (w .later) - suc (g .raw) ≡ g .span - 1 - g .raw = omega (arith, w .span) in
       signed-set high value ∙ ap negsuc same
 
-  pub readAs-signed : (t : Bool) (m : ℕ) → signedValue (w .bytes) ≡ signedOf t m
-      → readAs signed s ≡ cond (leb m 2147483647) (accepted (signedOf t m) (g .used)) (rejected 13)
+  pub readAs-signed : (t : Bool) (m : ℕ) → signedValue (w .bytes) ≡ withSign t m
+      → readAs signedType s ≡ cond (leb m 2147483647) (accepted (withSign t m) (g .used)) (rejected 13)
   unfolding readAs
   readAs-signed t m e = rw (w .found) (rw (e, in-range t m, ← w .used))

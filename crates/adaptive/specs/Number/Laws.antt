@@ -13,7 +13,7 @@ use lib.ListN.{length, take, length-append}
 use lib.Dec.{leb, ltb, lit<}
 use lib.Arith.{digits-lt, mod-mul}
 use borrow.Author.Tests.{le-leb, lt-leb, lt-ltb, le-ltb}
-use Rattle.adaptive.specs.Number.{Front, whole, fault, before, front, dataOf, continued, bytesOf, laterBytes}
+use Rattle.adaptive.specs.Number.{NumberFront, whole, fault, byteBefore, front, dataOf, continued, dataBytes, laterBytes}
 
 pub pow-128-pos : (k : ℕ) → 0 < 128 ^ k
 pow-128-pos k = one-le-pow k 128 (lit< tt)
@@ -40,9 +40,9 @@ length-continued zero d = refl
 length-continued (suc k) d =
     length-append (continued k (d / 128)) ((128 + d % 128) ∷ []) ∙ rw (length-continued k (d / 128)) (add-one k)
 
-pub length-bytesOf : (k d : ℕ) → length (bytesOf k d) ≡ suc k
-unfolding bytesOf
-length-bytesOf k d =
+pub length-dataBytes : (k d : ℕ) → length (dataBytes k d) ≡ suc k
+unfolding dataBytes
+length-dataBytes k d =
     length-append (continued k (d / 128)) ((d % 128) ∷ []) ∙ rw (length-continued k (d / 128)) (add-one k)
 
 -- one group more
@@ -56,27 +56,27 @@ dataOf-continued (suc k) d =
     dataOf-snoc (continued k (d / 128)) (128 + d % 128)
     ∙ rw (dataOf-continued k (d / 128), add-mod-left 128 (d % 128), mod-mod d 128) (low-group k d)
 
-pub dataOf-bytesOf : (k d : ℕ) → dataOf (bytesOf k d) ≡ d % 128 ^ suc k
-unfolding bytesOf
-dataOf-bytesOf k d =
+pub dataOf-dataBytes : (k d : ℕ) → dataOf (dataBytes k d) ≡ d % 128 ^ suc k
+unfolding dataBytes
+dataOf-dataBytes k d =
     dataOf-snoc (continued k (d / 128)) (d % 128)
     ∙ rw (dataOf-continued k (d / 128), mod-mod d 128) (low-group k d)
 
 -- ---- the number at the front of some bytes
 -- bytes that all say that another follows, before a front
-abbrev prefix : List ℕ → Front → Front
+abbrev prefix : List ℕ → NumberFront → NumberFront
 prefix xs (whole bs) = whole (xs ++ bs)
 prefix xs (fault e) = fault e
 
-prefix-nil : (f : Front) → prefix [] f ≡ f
+prefix-nil : (f : NumberFront) → prefix [] f ≡ f
 prefix-nil (whole bs) = refl
 prefix-nil (fault e) = refl
 
-prefix-snoc : (xs : List ℕ) (b : ℕ) (f : Front) → prefix xs (before b f) ≡ prefix (xs ++ (b ∷ [])) f
+prefix-snoc : (xs : List ℕ) (b : ℕ) (f : NumberFront) → prefix xs (byteBefore b f) ≡ prefix (xs ++ (b ∷ [])) f
 prefix-snoc xs b (whole bs) = ap whole (sym (append-assoc xs (b ∷ []) bs))
 prefix-snoc xs b (fault e) = refl
 
-pub front-more : (n b : ℕ) (s : List ℕ) → 128 ≤ b → front (suc n) (b ∷ s) ≡ before b (front n s)
+pub front-more : (n b : ℕ) (s : List ℕ) → 128 ≤ b → front (suc n) (b ∷ s) ≡ byteBefore b (front n s)
 unfolding front
 front-more n b s h = rw (le-leb 128 b h)
 
@@ -94,41 +94,41 @@ front-continued (suc k) n d s =
     (rw (front-more n b s (omega arith)) (prefix-snoc rest b (front n s)))
 
 -- the bytes of some data bits are a whole number, whatever follows
-front-bytesOf-within : (k n d : ℕ) (s : List ℕ) → front (k + suc n) (bytesOf k d ++ s) ≡ whole (bytesOf k d)
-unfolding bytesOf
-front-bytesOf-within k n d s =
+front-dataBytes-within : (k n d : ℕ) (s : List ℕ) → front (k + suc n) (dataBytes k d ++ s) ≡ whole (dataBytes k d)
+unfolding dataBytes
+front-dataBytes-within k n d s =
     rw (append-assoc (continued k (d / 128)) ((d % 128) ∷ []) s, front-continued k (suc n) (d / 128))
     (rw (front-last n (d % 128) s (mod-lt d (lit< tt))))
 
-pub front-bytesOf : (k d : ℕ) (s : List ℕ) → k ≤ 4 → front 5 (bytesOf k d ++ s) ≡ whole (bytesOf k d)
-front-bytesOf k d s h =
+pub front-dataBytes : (k d : ℕ) (s : List ℕ) → k ≤ 4 → front 5 (dataBytes k d ++ s) ≡ whole (dataBytes k d)
+front-dataBytes k d s h =
     let e : k + suc (4 - k) ≡ 5 = omega arith in
-    subst (λ (n : ℕ). front n (bytesOf k d ++ s) ≡ whole (bytesOf k d)) e (front-bytesOf-within k (4 - k) d s)
+    subst (λ (n : ℕ). front n (dataBytes k d ++ s) ≡ whole (dataBytes k d)) e (front-dataBytes-within k (4 - k) d s)
 
 -- what a whole number at the front of s, of at most n bytes, is
-pub record Found (n : ℕ) (s bs : List ℕ) : Type 0 where
+pub record FoundNumber (n : ℕ) (s bs : List ℕ) : Type 0 where
   pub some : 0 < length bs
   pub within : length bs ≤ n
   pub there : length bs ≤ length s
   pub same : take (length bs) s ≡ bs
   pub local : (rest : List ℕ) → front n (bs ++ rest) ≡ whole bs
 
-abbrev pub Fair : ℕ → List ℕ → Front → Type 0
-Fair n s (whole bs) = Found n s bs
+abbrev pub Fair : ℕ → List ℕ → NumberFront → Type 0
+Fair n s (whole bs) = FoundNumber n s bs
 Fair n s (fault e) = (e ≡ 12) ⊎ (e ≡ 13)
 
-before-fair : (n b : ℕ) (s : List ℕ) → 128 ≤ b → (f : Front) → Fair n s f → Fair (suc n) (b ∷ s) (before b f)
-before-fair n b s h (whole bs) p =
+byteBefore-fair : (n b : ℕ) (s : List ℕ) → 128 ≤ b → (f : NumberFront) → Fair n s f → Fair (suc n) (b ∷ s) (byteBefore b f)
+byteBefore-fair n b s h (whole bs) p =
     record {
       some = omega arith;
       within = suc-le-suc (p .within);
       there = suc-le-suc (p .there);
       same = ap (λ (l : List ℕ). b ∷ l) (p .same);
-      local = λ rest. front-more n b (bs ++ rest) h ∙ ap (before b) (p .local rest);
+      local = λ rest. front-more n b (bs ++ rest) h ∙ ap (byteBefore b) (p .local rest);
     }
-before-fair n b s h (fault e) p = p
+byteBefore-fair n b s h (fault e) p = p
 
-last-found : (n b : ℕ) (s : List ℕ) → b < 128 → Found (suc n) (b ∷ s) (b ∷ [])
+last-found : (n b : ℕ) (s : List ℕ) → b < 128 → FoundNumber (suc n) (b ∷ s) (b ∷ [])
 last-found n b s h =
     record {
       some = lit< tt;
@@ -145,11 +145,11 @@ front-fair (suc n) [] = inl refl
 front-fair (suc n) (b ∷ s) = by-flag (front-fair n s) (decLt b 128)
   where
     by-flag : Fair n s (front n s) → Dec (b < 128)
-        → Fair (suc n) (b ∷ s) (cond (leb 128 b) (before b (front n s)) (whole (b ∷ [])))
+        → Fair (suc n) (b ∷ s) (cond (leb 128 b) (byteBefore b (front n s)) (whole (b ∷ [])))
     by-flag p (yes h) = rw (lt-leb 128 b h) (last-found n b s h)
     by-flag p (no h) =
         let g : 128 ≤ b = omega arith in
-        rw (le-leb 128 b g) (before-fair n b s g (front n s) p)
+        rw (le-leb 128 b g) (byteBefore-fair n b s g (front n s) p)
 
 -- no byte after the n-th is looked at
 pub front-take : (n : ℕ) (s : List ℕ) → front n (take n s) ≡ front n s

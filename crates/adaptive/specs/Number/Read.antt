@@ -1,4 +1,4 @@
--- Laws of reading and writing, for every lawful kind of number. Assumes nothing.
+-- Laws of reading and writing, for every lawful type of number. Assumes nothing.
 use Prim.Native.Nat.{ℕ, suc, _-_, _*_, _%_, _^_, _≤_, _<_}
 use native.Mathlib.Nat.{le-refl}
 use native.Mathlib.Omega.{arith}
@@ -7,13 +7,13 @@ use mathlib.Core.Bool.{Bool, true, false, cond}
 use mathlib.Core.List.{List, _++_}
 use mathlib.Core.Logic.{⊎-elim}
 use lib.ListN.{length, take}
-use Rattle.adaptive.specs.Number.{Front, whole, fault, front, Kind, Reading, accepted, rejected, judged, readAs, dataOf, bytesOf, formOf, fewest, shortest}
-use Rattle.adaptive.specs.Number.Laws.{front-bytesOf, front-fair, front-take, Fair, Found, length-bytesOf, laterBytes-le, laterBytes-least, laterBytes-holds, holds-more}
-use Rattle.adaptive.specs.Number.Own.{Bytes, bytesOf-mod, whole-own}
-use Rattle.adaptive.specs.Number.Lawful.{Lawful}
+use Rattle.adaptive.specs.Number.{NumberFront, whole, fault, front, NumberType, NumberReading, accepted, rejected, numberJudged, readAs, dataOf, dataBytes, formOf, fewest, shortest}
+use Rattle.adaptive.specs.Number.Laws.{front-dataBytes, front-fair, front-take, Fair, FoundNumber, length-dataBytes, laterBytes-le, laterBytes-least, laterBytes-holds, holds-more}
+use Rattle.adaptive.specs.Number.Own.{Bytes, dataBytes-mod, whole-own}
+use Rattle.adaptive.specs.Number.Lawful.{LawfulType}
 
 -- an accepted reading taken apart
-pub record Accepted {A : Type 0} (K : Kind A) (s : List ℕ) (v : A) (n : ℕ) : Type 0 where
+pub record AcceptedNumber {A : Type 0} (K : NumberType A) (s : List ℕ) (v : A) (n : ℕ) : Type 0 where
   pub bytes : List ℕ
   pub found : front 5 s ≡ whole bytes
   pub value : K .valueOf bytes ≡ v
@@ -21,25 +21,25 @@ pub record Accepted {A : Type 0} (K : Kind A) (s : List ℕ) (v : A) (n : ℕ) :
   pub range : K .inRange v ≡ true
 
 -- the number of a refusal is in P
-abbrev pub RejectedIn : {A : Type 0} → (ℕ → Type 0) → Reading A → Type 0
+abbrev pub RejectedIn : {A : Type 0} → (ℕ → Type 0) → NumberReading A → Type 0
 RejectedIn P (accepted v n) = Unit {0}
 RejectedIn P (rejected e) = P e
 
-module _ {A : Type 0} (K : Kind A) where
-  pub readAs-accepted : (s : List ℕ) (v : A) (n : ℕ) → readAs K s ≡ accepted v n → Accepted K s v n
+module _ {A : Type 0} (K : NumberType A) where
+  pub readAs-accepted : (s : List ℕ) (v : A) (n : ℕ) → readAs K s ≡ accepted v n → AcceptedNumber K s v n
   unfolding readAs
   readAs-accepted s v n e = by-front (front 5 s) refl e
     where
       by-range : (bs : List ℕ) → front 5 s ≡ whole bs → (t : Bool) → K .inRange (K .valueOf bs) ≡ t
-          → cond t (accepted (K .valueOf bs) (length bs)) (rejected 13) ≡ accepted v n → Accepted K s v n
+          → cond t (accepted (K .valueOf bs) (length bs)) (rejected 13) ≡ accepted v n → AcceptedNumber K s v n
       by-range bs f true r e = record { bytes = bs; found = f; value = cc; used = cc; range = cc }
       by-range bs f false r e = let z : _≡_ {A = ℕ} 0 1 = cc in absurd (omega arith)
 
-      by-front : (f : Front) → front 5 s ≡ f → judged K f ≡ accepted v n → Accepted K s v n
+      by-front : (f : NumberFront) → front 5 s ≡ f → numberJudged K f ≡ accepted v n → AcceptedNumber K s v n
       by-front (whole bs) f e = by-range bs f (K .inRange (K .valueOf bs)) refl e
       by-front (fault x) f e = let z : _≡_ {A = ℕ} 0 1 = cc in absurd (omega arith)
 
-  pub accepted-found : (s : List ℕ) (v : A) (n : ℕ) (a : Accepted K s v n) → Found 5 s (a .bytes)
+  pub accepted-found : (s : List ℕ) (v : A) (n : ℕ) (a : AcceptedNumber K s v n) → FoundNumber 5 s (a .bytes)
   accepted-found s v n a = subst (Fair 5 s) (a .found) (front-fair 5 s)
 
   -- what is accepted is accepted with anything else after its bytes
@@ -65,13 +65,13 @@ module _ {A : Type 0} (K : Kind A) where
     range-in true v n = tt
     range-in false v n = p13
 
-    judged-in : (s : List ℕ) (f : Front) → Fair 5 s f → RejectedIn P (judged K f)
-    judged-in s (whole bs) p = range-in (K .inRange (K .valueOf bs)) (K .valueOf bs) (length bs)
-    judged-in s (fault e) p = ⊎-elim (λ q. rw q p12) (λ q. rw q p13) p
+    numberJudged-in : (s : List ℕ) (f : NumberFront) → Fair 5 s f → RejectedIn P (numberJudged K f)
+    numberJudged-in s (whole bs) p = range-in (K .inRange (K .valueOf bs)) (K .valueOf bs) (length bs)
+    numberJudged-in s (fault e) p = ⊎-elim (λ q. rw q p12) (λ q. rw q p13) p
 
     pub readAs-in : (s : List ℕ) → RejectedIn P (readAs K s)
     unfolding readAs
-    readAs-in s = judged-in s (front 5 s) (front-fair 5 s)
+    readAs-in s = numberJudged-in s (front 5 s) (front-fair 5 s)
 
   -- it is not 0
   pub readAs-rejected : (s : List ℕ) (x : ℕ) → readAs K s ≡ rejected x → 0 < x
@@ -80,16 +80,16 @@ module _ {A : Type 0} (K : Kind A) where
   -- nor is any byte after the fifth looked at, whatever the answer
   pub readAs-take : (s : List ℕ) → readAs K (take 5 s) ≡ readAs K s
   unfolding readAs
-  readAs-take s = ap (judged K) (front-take 5 s)
+  readAs-take s = ap (numberJudged K) (front-take 5 s)
 
   -- ---- the shortest form
-  pub bytesOf-shortest : {k d : ℕ} (v : A) → k ≡ fewest K v → d ≡ K .dataFor v → bytesOf k d ≡ shortest K v
+  pub dataBytes-shortest : {k d : ℕ} (v : A) → k ≡ fewest K v → d ≡ K .dataFor v → dataBytes k d ≡ shortest K v
   unfolding shortest
-  bytesOf-shortest v ek ed = cc
+  dataBytes-shortest v ek ed = cc
 
   pub length-shortest : (v : A) → length (shortest K v) ≡ suc (fewest K v)
   unfolding shortest
-  length-shortest v = length-bytesOf (fewest K v) (K .dataFor v)
+  length-shortest v = length-dataBytes (fewest K v) (K .dataFor v)
 
   pub fewest-le : (v : A) → fewest K v ≤ 4
   fewest-le v = laterBytes-le 4 (K .first) (K .magnitude v)
@@ -97,13 +97,13 @@ module _ {A : Type 0} (K : Kind A) where
   pub shortest-count : (v : A) → (0 < length (shortest K v)) × (length (shortest K v) ≤ 5)
   shortest-count v = omega (arith, length-shortest v, fewest-le v)
 
-  module _ (L : Lawful K) where
+  module _ (L : LawfulType K) where
     -- a form with room for the value is read as the value
     pub readAs-form : (k : ℕ) (v : A) → k ≤ 4 → K .magnitude v < K .first * 128 ^ k → K .inRange v ≡ true
         → (rest : List ℕ) → readAs K (formOf K k v ++ rest) ≡ accepted v (suc k)
     unfolding readAs
     readAs-form k v hk h r rest =
-        rw (front-bytesOf k (K .dataFor v) rest hk) (rw (L .form-value k v hk h, r, length-bytesOf k (K .dataFor v)))
+        rw (front-dataBytes k (K .dataFor v) rest hk) (rw (L .form-value k v hk h, r, length-dataBytes k (K .dataFor v)))
 
     -- every form from the shortest to five bytes has that room
     pub readAs-longer : (k : ℕ) (v : A) → fewest K v ≤ k → k ≤ 4 → K .inRange v ≡ true
@@ -138,8 +138,8 @@ module _ {A : Type 0} (K : Kind A) where
         let k : n - 1 ≤ 4 = omega (arith, a .used, f .within) in
         let count : length (a .bytes) ≡ suc (n - 1) = omega (arith, a .used, f .some) in
         let first : take n s ≡ a .bytes = ap (λ (m : ℕ). take m s) (sym (a .used)) ∙ f .same in
-        let own : a .bytes ≡ bytesOf (n - 1) (dataOf (a .bytes)) =
+        let own : a .bytes ≡ dataBytes (n - 1) (dataOf (a .bytes)) =
         rw (a .used) at (whole-own 5 s (a .bytes) h (a .found)) in
         let bits : K .dataFor v % 128 ^ suc (n - 1) ≡ dataOf (a .bytes) =
         rw (a .value) at (L .value-data (a .bytes) (n - 1) count k) in
-        first ∙ own ∙ ap (bytesOf (n - 1)) (sym bits) ∙ bytesOf-mod (n - 1) (K .dataFor v)
+        first ∙ own ∙ ap (dataBytes (n - 1)) (sym bits) ∙ dataBytes-mod (n - 1) (K .dataFor v)

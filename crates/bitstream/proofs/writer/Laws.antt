@@ -24,7 +24,7 @@ use Rattle.bitstream.specs.Bits.Laws.{
 }
 use Rattle.bitstream.specs.Memory.{overwritten}
 use Rattle.bitstream.specs.Memory.Laws.{take-overwritten, drop-overwritten}
-use Rattle.bitstream.specs.Writer.{held, Ready, Put, Closable, Finished}
+use Rattle.bitstream.specs.Writer.{heldBits, Ready, FieldPut, Closable, Finished}
 use Rattle.bitstream.specs.declared.writer.Writer.{Writer}
 
 -- ---- a stored word
@@ -55,16 +55,16 @@ module _ (out : List ℕ) (w : Writer) (v n : ℕ) (ready : Ready out w n) (hv :
   abbrev reg : ℕ
   reg = v * 2 ^ (w .count) + w .acc
 
-  held-more : held out w ++ digits n v ≡ bitsOf (take (4 * (w .words)) out) ++ digits (w .count + n) reg
-  held-more =
+  heldBits-more : heldBits out w ++ digits n v ≡ bitsOf (take (4 * (w .words)) out) ++ digits (w .count + n) reg
+  heldBits-more =
       append-assoc (bitsOf (take (4 * (w .words)) out)) (digits (w .count) (w .acc)) (digits n v)
       ∙ ap (bitsOf (take (4 * (w .words)) out) ++_) (digits-join (w .count) n v (w .acc) (ready .good .low))
 
   -- the register still has room
-  pub put-kept : w .count + n < 32 → Put out w v n out (record { words = w .words; count = w .count + n; acc = reg })
+  pub put-kept : w .count + n < 32 → FieldPut out w v n out (record { words = w .words; count = w .count + n; acc = reg })
   put-kept h =
       record {
-        bits = sym held-more;
+        bits = sym heldBits-more;
         good = record { few = h; low = above-lt (w .count) n v (w .acc) (ready .good .low) hv };
         size = refl;
         rest = refl;
@@ -72,7 +72,7 @@ module _ (out : List ℕ) (w : Writer) (v n : ℕ) (ready : Ready out w n) (hv :
 
   -- a word is stored
   pub put-stored : 32 ≤ w .count + n
-      → Put out w v n (overwritten out (4 * (w .words)) (bytesOf 4 (digits 32 (reg % 2 ^ 32))))
+      → FieldPut out w v n (overwritten out (4 * (w .words)) (bytesOf 4 (digits 32 (reg % 2 ^ 32))))
       (record { words = w .words + 1; count = w .count + n - 32; acc = reg / 2 ^ 32 })
   put-stored h =
       let fits : 4 * (w .words) + 4 ≤ length out = omega arith in
@@ -85,7 +85,7 @@ module _ (out : List ℕ) (w : Writer) (v n : ℕ) (ready : Ready out w n) (hv :
             ap (_++ digits k (reg / 2 ^ 32)) (stored-bits out (w .words) (reg % 2 ^ 32) fits ∙ ap (front ++_) (digits-mod 32 reg))
             ∙ append-assoc front (digits 32 reg) (digits k (reg / 2 ^ 32))
             ∙ ap (front ++_) (sym (digits-split 32 k reg) ∙ ap (λ (m : ℕ). digits m reg) whole)
-            ∙ sym held-more;
+            ∙ sym heldBits-more;
         good = record {
           few = omega arith;
           low = shr-lt k 32 (subst (λ (m : ℕ). reg < 2 ^ m) (sym whole′) (above-lt (w .count) n v (w .acc) (ready .good .low) hv));
@@ -101,7 +101,7 @@ module _ (out : List ℕ) (w : Writer) (c : Closable out w) where
       let h : 4 * (w .words) ≤ length out = omega arith in
       length-flat 8 (take (4 * (w .words)) out) ∙ ap (8 *_) (length-take-le (4 * (w .words)) out h) ∙ (omega arith)
 
-  padded : (n : ℕ) → pad (32 * (w .words) + n) (held out w) ≡ bitsOf (take (4 * (w .words)) out) ++ pad n (digits (w .count) (w .acc))
+  padded : (n : ℕ) → pad (32 * (w .words) + n) (heldBits out w) ≡ bitsOf (take (4 * (w .words)) out) ++ pad n (digits (w .count) (w .acc))
   padded n = rw (← front-bits) (pad-append (bitsOf (take (4 * (w .words)) out)) (digits (w .count) (w .acc)) n)
 
   -- nothing is left in the register
@@ -111,7 +111,7 @@ module _ (out : List ℕ) (w : Writer) (c : Closable out w) where
         count = omega arith;
         front =
             sym
-            (ap (λ (k : ℕ). pad k (held out w)) (sym (add-zero (32 * (w .words))))
+            (ap (λ (k : ℕ). pad k (heldBits out w)) (sym (add-zero (32 * (w .words))))
             ∙ padded 0
             ∙ append-nil (bitsOf (take (4 * (w .words)) out)));
         rest = refl;
@@ -130,6 +130,6 @@ module _ (out : List ℕ) (w : Writer) (c : Closable out w) where
             ∙ ap (bitsOf (take (4 * (w .words)) out) ++_)
             (digits-mod 32 (w .acc) ∙ ap (digits 32) (sym (mod-eq-of-lt (c .good .low)) ∙ sym (numOf-digits (w .count) (w .acc)))
             ∙ digits-pad 32 (digits (w .count) (w .acc)) (below-digits (w .count) (w .acc)))
-            ∙ sym (ap (λ (k : ℕ). pad k (held out w)) whole ∙ padded 32);
+            ∙ sym (ap (λ (k : ℕ). pad k (heldBits out w)) whole ∙ padded 32);
         rest = stored-rest out (w .words) (w .acc % 2 ^ 32) fits;
       }

@@ -25,7 +25,7 @@ use Rattle.row_format.specs.Table.{
   tableNumber,
 }
 use Rattle.row_format.specs.Calls.{checked}
-use Rattle.code_table.specs.Check.{WholeTable, AllGathered, codewordWords, judged}
+use Rattle.code_table.specs.Check.{WholeTable, AllGathered, codewordWords, codewordsJudged}
 use Rattle.code_table.specs.Check.Laws.{length-words}
 use Rattle.code_table.specs.declared.check.Gathered.{Gathered}
 
@@ -64,23 +64,23 @@ module _ (b : List ℕ) (h : WholeTable b) where
   pub checked-escape : 15 < escapeLength (wordsOf b) → answerOf 2 0 ≡ checked b
   checked-escape g = checked-two (unfold wrongCodeword in rw (lt-ltb 15 (escapeLength (wordsOf b)) g))
 
-  judged-words : {q : Bool} → any wrongWord (codewordWords b (length b / 4 - 3)) ≡ q → any wrongWord (drop 3 (wordsOf b)) ≡ q
-  judged-words {q} e = subst (λ (l : List ℕ). any wrongWord l ≡ q) all-words e
+  codewordsJudged-words : {q : Bool} → any wrongWord (codewordWords b (length b / 4 - 3)) ≡ q → any wrongWord (drop 3 (wordsOf b)) ≡ q
+  codewordsJudged-words {q} e = subst (λ (l : List ℕ). any wrongWord l ≡ q) all-words e
 
   pub checked-word : any wrongWord (codewordWords b (length b / 4 - 3)) ≡ true → answerOf 2 0 ≡ checked b
   checked-word e =
       checked-two
       (unfold wrongCodeword in
-      (ap (λ (q : Bool). ltb 15 (escapeLength (wordsOf b)) || q) (judged-words e) ∙ or-true (ltb 15 (escapeLength (wordsOf b)))))
+      (ap (λ (q : Bool). ltb 15 (escapeLength (wordsOf b)) || q) (codewordsJudged-words e) ∙ or-true (ltb 15 (escapeLength (wordsOf b)))))
 
-  pub checked-judged : escapeLength (wordsOf b) ≤ 15 → any wrongWord (codewordWords b (length b / 4 - 3)) ≡ false
-      → let ws = codewordWords b (length b / 4 - 3) in judged ws (longest (map codeword ws)) (escapeLength (wordsOf b)) ≡ checked b
-  checked-judged g e =
-      rw all-words (clean (unfold wrongCodeword in rw (le-ltb 15 (escapeLength (wordsOf b)) g) (judged-words e)))
+  pub checked-codewordsJudged : escapeLength (wordsOf b) ≤ 15 → any wrongWord (codewordWords b (length b / 4 - 3)) ≡ false
+      → let ws = codewordWords b (length b / 4 - 3) in codewordsJudged ws (longest (map codeword ws)) (escapeLength (wordsOf b)) ≡ checked b
+  checked-codewordsJudged g e =
+      rw all-words (clean (unfold wrongCodeword in rw (le-ltb 15 (escapeLength (wordsOf b)) g) (codewordsJudged-words e)))
     where
       clean : wrongCodeword (wordsOf b) ≡ false
-          → judged (drop 3 (wordsOf b)) (longest (map codeword (drop 3 (wordsOf b)))) (escapeLength (wordsOf b)) ≡ checked b
-      clean q = unfold checked judged codewords maxItemBits in by-test (clash (codewords (wordsOf b)))
+          → codewordsJudged (drop 3 (wordsOf b)) (longest (map codeword (drop 3 (wordsOf b)))) (escapeLength (wordsOf b)) ≡ checked b
+      clean q = unfold checked codewordsJudged codewords maxItemBits in by-test (clash (codewords (wordsOf b)))
           (λ x. rw (number-is, q, x))
           (λ x. rw (number-is, q, x))
 
@@ -92,18 +92,18 @@ module _
   checked-refused q = checked-word b h (subst (λ (n : ℕ). any wrongWord (codewordWords b n) ≡ true) e (g .wrong q))
 
   pub checked-gathered : (escape : ℕ) → r .ok ≡ true → escape ≡ escapeLength (wordsOf b) → escape ≤ 15
-      → judged out (r .longest) escape ≡ checked b
+      → codewordsJudged out (r .longest) escape ≡ checked b
   checked-gathered escape q is most =
       let same : codewordWords b k ≡ codewordWords b (length b / 4 - 3) = ap (codewordWords b) e in
       rw (g .copied q, g .most q, is, same)
-      (checked-judged b h (subst (_≤ 15) is most) (subst (λ (n : ℕ). any wrongWord (codewordWords b n) ≡ false) e (g .right q)))
+      (checked-codewordsJudged b h (subst (_≤ 15) is most) (subst (λ (n : ℕ). any wrongWord (codewordWords b n) ≡ false) e (g .right q)))
 
 -- ---- the last stage
 module _ (ws : List ℕ) (most escape : ℕ) where
-  pub judged-free : not (clash (map codeword ws)) ≡ true → answerOf 0 (max most (escape + 12)) ≡ judged ws most escape
-  unfolding judged
-  judged-free e = rw (not-true (clash (map codeword ws)) e)
+  pub codewordsJudged-free : not (clash (map codeword ws)) ≡ true → answerOf 0 (max most (escape + 12)) ≡ codewordsJudged ws most escape
+  unfolding codewordsJudged
+  codewordsJudged-free e = rw (not-true (clash (map codeword ws)) e)
 
-  pub judged-clash : not (clash (map codeword ws)) ≡ false → answerOf 3 0 ≡ judged ws most escape
-  unfolding judged
-  judged-clash e = rw (not-false (clash (map codeword ws)) e)
+  pub codewordsJudged-clash : not (clash (map codeword ws)) ≡ false → answerOf 3 0 ≡ codewordsJudged ws most escape
+  unfolding codewordsJudged
+  codewordsJudged-clash e = rw (not-false (clash (map codeword ws)) e)

@@ -1,22 +1,18 @@
--- The plain table is accepted, and lending it answers 0 or 5. Assumes nothing.
+-- The plain table is accepted. Assumes nothing.
 use Prim.Native.Nat.{ℕ, zero, suc, _+_, _-_, _*_, _/_, _%_, _^_, _≤_}
 use native.Mathlib.Omega.{arith}
-use mathlib.Core.Path.{_≡_, refl, sym, ap, subst, _∙_}
+use mathlib.Core.Path.{_≡_, refl, sym, ap, _∙_}
 use mathlib.Core.Bool.{Bool, true, cond, not, _&&_}
-use mathlib.Core.List.{List, [], _∷_, _++_, append-nil}
+use mathlib.Core.List.{List, [], _++_, append-nil}
 use lib.ListN.{length, replicate}
 use lib.Dec.{eqb}
 use borrow.Author.Tests.{not-true}
 use Rattle.bitstream.specs.Bits.{digits, flat, cut, wordsOf, bitsOf, Below}
 use Rattle.bitstream.specs.Bits.Laws.{below-nil, below-cons, below-flat, pad-all, length-flat, length-cut, cut-flat, flat-cut}
-use Rattle.answer.specs.declared.Answer.{Answer}
-use Rattle.answer.specs.Outcome.{Outcome, refused, wrote, lent, roomNumber}
-use Rattle.answer.specs.Outcome.Laws.{unless-in, roomNumber-in}
 use Rattle.row_format.specs.Lists.{any}
 use Rattle.row_format.specs.Lists.Laws.{and-true-all}
 use Rattle.row_format.specs.Table.{codeword, codewords, wrongSize, wrongWord, wrongCodeword, verdict, tableNumber}
 use Rattle.row_format.specs.Plain.{plainEntries, plainTable, plainBytes}
-use Rattle.code_table.specs.Plain.{plainLent}
 use Rattle.prefix_free.specs.Branch.Fork.{apart, few, ended, branch, apart-clash}
 
 -- ---- acceptance, by one test over all 518 words
@@ -76,13 +72,3 @@ plain-accepted =
     ap (λ (k : ℕ). cond (eqb (k % 4) 0) (verdict (wordsOf plainBytes)) 1) length-plainBytes
     ∙ ap verdict plain-words
     ∙ plain-verdict
-
--- ---- demand 1: "each call .. answers with a number from document 01"
-pub plainLent-numbers : (m : List ℕ) → any (eqb (plainLent m .answer .number)) (0 ∷ 5 ∷ []) ≡ true
-unfolding plainLent any
-plainLent-numbers m =
-    unless-in (λ (o : Outcome Answer). any (eqb (o .answer .number)) (0 ∷ 5 ∷ []) ≡ true) (roomNumber (lent (length m)) 2072)
-    (λ e. refused e m) (wrote 2072 plainBytes m)
-    (λ k e. subst (λ (x : ℕ). any (eqb x) (0 ∷ 5 ∷ []) ≡ true) e
-    (roomNumber-in (λ x. any (eqb x) (0 ∷ 5 ∷ []) ≡ true) (lent (length m)) 2072 refl refl))
-    (λ e. refl)

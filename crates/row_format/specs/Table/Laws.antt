@@ -17,7 +17,7 @@ use Rattle.bitstream.specs.Bits.Laws.{length-digits}
 use Rattle.row_format.specs.Lists.{any}
 use Rattle.row_format.specs.Lists.Laws.{by-test, true-false, and-true-all, or-false-left, or-false-right, cond-zero-test, cond-zero-rest, any-false-at, any-false}
 use Rattle.row_format.specs.BitLaws.{begins-both}
-use Rattle.row_format.specs.Table.{lowLimit, tableSize, codeword, codewords, codewordAt, escapeLength, signed, entryDifference, wrongSize, wrongWord, wrongCodeword, clash, verdict, tableNumber, longest, maxItemBits, RightWord, Apart, Accepted}
+use Rattle.row_format.specs.Table.{lowLimit, tableSize, codeword, codewords, codewordAt, escapeLength, signedDifference, entryDifference, wrongSize, wrongWord, wrongCodeword, clash, verdict, tableNumber, longest, maxItemBits, RightWord, Apart, Accepted}
 
 -- ---- codewords
 pub length-codeword : (w : ℕ) → length (codeword w) ≡ w % 32
@@ -102,30 +102,30 @@ apart-clash-false (s ∷ ss) h =
 
 -- ---- differences
 -- the signed number that a count from -4093 stands for
-pub signed-least : (k : ℕ) → negsuc 4092 ≤ℤ signed k
+pub signed-least : (k : ℕ) → negsuc 4092 ≤ℤ signedDifference k
 signed-least k = by-test (ltb k 4093)
     (λ e. record { le = rw e (le→leb (4093 - suc k) 4092 (omega arith)) })
     (λ e. record { le = rw e tt })
 
-pub signed-most : (k : ℕ) → k ≤ 8186 → signed k ≤ℤ pos 4093
+pub signed-most : (k : ℕ) → k ≤ 8186 → signedDifference k ≤ℤ pos 4093
 signed-most k h = by-test (ltb k 4093)
     (λ e. record { le = rw e tt })
     (λ e. record { le = rw e (le→leb (k - 4093) 4093 (omega arith)) })
 
 -- pixel minus previous, as a count from -4093, stands for that difference
-pub signed-differenceTo : (p q : ℕ) → q ≤ 4093 → signed (p + 4093 - q) ≡ pos p -ℤ pos q
+pub signed-differenceTo : (p q : ℕ) → q ≤ 4093 → signedDifference (p + 4093 - q) ≡ pos p -ℤ pos q
 signed-differenceTo p zero h =
     let value : p + 4093 - 0 - 4093 ≡ p + 0 = omega arith in
     rw (le-ltb (p + 4093 - 0) 4093 (omega arith)) (ap pos value)
 signed-differenceTo p (suc q) h = by-test (ltb p (suc q)) down up
   where
-    down : ltb p (suc q) ≡ true → signed (p + 4093 - suc q) ≡ pos p -ℤ pos (suc q)
+    down : ltb p (suc q) ≡ true → signedDifference (p + 4093 - suc q) ≡ pos p -ℤ pos (suc q)
     down e =
         let less = ltb-true p (suc q) e in
         let value : 4093 - suc (p + 4093 - suc q) ≡ suc q - suc p = omega arith in
         rw (e, lt-ltb (p + 4093 - suc q) 4093 (omega arith)) (ap negsuc value)
 
-    up : ltb p (suc q) ≡ false → signed (p + 4093 - suc q) ≡ pos p -ℤ pos (suc q)
+    up : ltb p (suc q) ≡ false → signedDifference (p + 4093 - suc q) ≡ pos p -ℤ pos (suc q)
     up e =
         let more = ltb-false p (suc q) e in
         let value : p + 4093 - suc q - 4093 ≡ p - suc q = omega arith in

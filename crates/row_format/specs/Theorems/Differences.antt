@@ -9,7 +9,7 @@ use mathlib.Core.Logic.{_↔_}
 use lib.IntN.{pos, negsuc}
 use lib.Signed.{_≤ℤ_}
 use borrow.Author.Tests.{lt-ltb, le-leb}
-use Rattle.row_format.specs.Table.{lowLimit, tableSize, codewordAt, signed, entryDifference, hasDifference, Accepted}
+use Rattle.row_format.specs.Table.{lowLimit, tableSize, codewordAt, signedDifference, entryDifference, hasDifference, Accepted}
 use Rattle.row_format.specs.Table.Laws.{signed-least, signed-most, entryDifference-most}
 use Rattle.row_format.specs.Row.{difference, State, previous, differenceTo, pixelOf, itemBits}
 use Rattle.row_format.specs.Reading.{inside}
@@ -30,7 +30,7 @@ entry-for t k = (
 
 -- "So steps lie within -4093 to 4093"
 pub entry-signed : (t : List ℕ) (ok : Accepted t) (i : ℕ) → i < tableSize t
-    → (negsuc 4092 ≤ℤ signed (entryDifference t i)) × (signed (entryDifference t i) ≤ℤ pos 4093)
+    → (negsuc 4092 ≤ℤ signedDifference (entryDifference t i)) × (signedDifference (entryDifference t i) ≤ℤ pos 4093)
 entry-signed t ok i h =
     let k = entryDifference t i in
     (signed-least k, signed-most k (entryDifference-most t ok i h))

@@ -54,15 +54,15 @@ pub record Given (m : Lent) (n : ℕ) (is : List Item) : Type 0 where
   pub count : length is ≡ n
   pub room : roomNumber m (2 * n) ≡ 0
 
-abbrev pub Gives : Lent → ℕ → Run → Type 0
-Gives m n (done is u) = Given m n is
-Gives m n (stop e at u) = Unit {0}
+abbrev pub GivesRow : Lent → ℕ → Run → Type 0
+GivesRow m n (done is u) = Given m n is
+GivesRow m n (stop e at u) = Unit {0}
 
-pub rowReading-gives : (m : Lent) (tb : List ℕ) (n : ℕ) (wb : List ℕ) → Gives m n (rowReading m tb n wb)
+pub rowReading-gives : (m : Lent) (tb : List ℕ) (n : ℕ) (wb : List ℕ) → GivesRow m n (rowReading m tb n wb)
 unfolding readItems
 rowReading-gives m tb n wb = by-run (rowReading m tb n wb) refl
   where
-    by-run : (x : Run) → rowReading m tb n wb ≡ x → Gives m n x
+    by-run : (x : Run) → rowReading m tb n wb ≡ x → GivesRow m n x
     by-run (done is u) e =
         let got = rowReading-reads m tb n wb is u e in
         record { count = readBy-count (readItem (wordsOf tb)) fresh n (stream wb) is u (got .read); room = got .given .room }

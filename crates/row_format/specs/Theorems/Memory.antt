@@ -16,7 +16,7 @@ use Rattle.row_format.specs.Reading.{Run, done, stop, rowReading}
 use Rattle.row_format.specs.Reading.Laws.{room-lent}
 use Rattle.row_format.specs.Calls.{packNumber, packedRow, packed, rowOutcome, unpacked}
 use Rattle.row_format.specs.Calls.Laws.{packNumber-zero-room, packed-done, packed-refused}
-use Rattle.row_format.specs.Theorems.Done.{Gives, rowReading-gives}
+use Rattle.row_format.specs.Theorems.Done.{GivesRow, rowReading-gives}
 
 -- ---- refused
 pub packed-kept : (tb pb m : List ℕ) → (packed tb pb m .answer .number ≡ 0 → ⊥)
@@ -50,7 +50,7 @@ packed-within tb pb m = by-number (packNumber tb (halvesOf pb) (length m / 4)) r
         (writes-within (answerOf 0 (length b)) k (rowBytes (wordsOf tb) (halvesOf pb)) m (length-cut 8 k b) (omega arith))
     by-number (suc k) e = rw (packed-refused tb pb m k e) (record { size = refl; rest = refl })
 
-rowOutcome-within : (n : ℕ) (m : List ℕ) (x : Run) → Gives (lent (length m)) n x → Within (2 * n) m (rowOutcome m x)
+rowOutcome-within : (n : ℕ) (m : List ℕ) (x : Run) → GivesRow (lent (length m)) n x → Within (2 * n) m (rowOutcome m x)
 rowOutcome-within n m (done is u) h =
     let ps = pixelsOf fresh is in
     let size : 2 * length (pixelsOf fresh is) ≡ 2 * n = ap (2 *_) (length-pixelsOf fresh is ∙ h .count) in

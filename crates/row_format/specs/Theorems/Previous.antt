@@ -46,36 +46,36 @@ prependAll-cons i u is v (done js w) = rw (add-assoc u v w)
 prependAll-cons i u is v (stop e at w) = rw (add-assoc u v at, add-assoc u v w)
 
 -- a run, and what follows it where it is done
-abbrev pub continued : Run → (List Item → ℕ → Run) → Run
-continued (done is u) f = prependAll is u (f is u)
-continued (stop e at u) f = stop e at u
+abbrev pub runContinued : Run → (List Item → ℕ → Run) → Run
+runContinued (done is u) f = prependAll is u (f is u)
+runContinued (stop e at u) f = stop e at u
 
 module _ (f : State → List ℕ → Reading) (k : ℕ) where
   -- k items more
   abbrev onward : State → List ℕ → List Item → ℕ → Run
   onward s r is u = readBy f (afterAll s is) k (drop u r)
 
-  prepend-continued : (s : State) (r : List ℕ) (i : Item) (u : ℕ) (x : Run)
-      → prepend i u (continued x (onward (after s i) (drop u r))) ≡ continued (prepend i u x) (onward s r)
+  prepend-runContinued : (s : State) (r : List ℕ) (i : Item) (u : ℕ) (x : Run)
+      → prepend i u (runContinued x (onward (after s i) (drop u r))) ≡ runContinued (prepend i u x) (onward s r)
   unfolding afterAll
-  prepend-continued s r i u (done is v) =
+  prepend-runContinued s r i u (done is v) =
       prependAll-cons i u is v (readBy f (afterAll (after s i) is) k (drop v (drop u r)))
       ∙ rw (drop-drop v u r)
-  prepend-continued s r i u (stop e at v) = refl
+  prepend-runContinued s r i u (stop e at v) = refl
 
-  follow-continued : (s : State) (r : List ℕ) (x : Reading) (g h : Item → ℕ → Run)
-      → ((i : Item) (u : ℕ) → g i u ≡ continued (h i u) (onward (after s i) (drop u r)))
-      → follow x g ≡ continued (follow x h) (onward s r)
-  follow-continued s r (item i u) g h same = ap (prepend i u) (same i u) ∙ prepend-continued s r i u (h i u)
-  follow-continued s r (fault e u) g h same = refl
+  follow-runContinued : (s : State) (r : List ℕ) (x : Reading) (g h : Item → ℕ → Run)
+      → ((i : Item) (u : ℕ) → g i u ≡ runContinued (h i u) (onward (after s i) (drop u r)))
+      → follow x g ≡ runContinued (follow x h) (onward s r)
+  follow-runContinued s r (item i u) g h same = ap (prepend i u) (same i u) ∙ prepend-runContinued s r i u (h i u)
+  follow-runContinued s r (fault e u) g h same = refl
 
-  pub readBy-add : (s : State) (n : ℕ) (r : List ℕ) → readBy f s (n + k) r ≡ continued (readBy f s n r) (onward s r)
+  pub readBy-add : (s : State) (n : ℕ) (r : List ℕ) → readBy f s (n + k) r ≡ runContinued (readBy f s n r) (onward s r)
   unfolding readBy afterAll
   readBy-add s zero r = rw (zero-add k) (sym (prependAll-none (readBy f s k r)))
   readBy-add s (suc n) r =
       let more : suc n + k ≡ suc (n + k) = omega arith in
       rw more
-      (follow-continued s r (f s r)
+      (follow-runContinued s r (f s r)
       (λ i u. readBy f (after s i) (n + k) (drop u r)) (λ i u. readBy f (after s i) n (drop u r))
       (λ i u. readBy-add (after s i) n (drop u r)))
 
@@ -83,11 +83,11 @@ pub readItems-add : (t : List ℕ) (n k : ℕ) (r : List ℕ) (is : List Item) (
     → readItems t (n + k) r ≡ prependAll is u (readBy (readItem t) (afterAll fresh is) k (drop u r))
 unfolding readItems
 readItems-add t n k r is u e =
-    readBy-add (readItem t) k fresh n r ∙ ap (λ (x : Run). continued x (onward (readItem t) k fresh r)) e
+    readBy-add (readItem t) k fresh n r ∙ ap (λ (x : Run). runContinued x (onward (readItem t) k fresh r)) e
 
 -- and a reading that stops, stops whatever more is asked
 pub readItems-stop : (t : List ℕ) (n k : ℕ) (r : List ℕ) (e at u : ℕ) → readItems t n r ≡ stop e at u
     → readItems t (n + k) r ≡ stop e at u
 unfolding readItems
 readItems-stop t n k r e at u h =
-    readBy-add (readItem t) k fresh n r ∙ ap (λ (x : Run). continued x (onward (readItem t) k fresh r)) h
+    readBy-add (readItem t) k fresh n r ∙ ap (λ (x : Run). runContinued x (onward (readItem t) k fresh r)) h

@@ -1,8 +1,8 @@
 -- The law of states as the code holds them. Assumes nothing.
 use mathlib.Core.Path.{_≡_, refl}
 use Rattle.row_format.specs.Row as row
-use Rattle.row_item.specs.Coded.{progress, stateOf}
+use Rattle.row_item.specs.Coded.{progress, rowState}
 
-pub stateOf-progress : (s : row.State) → stateOf (progress s) ≡ s
-stateOf-progress row.fresh = refl
-stateOf-progress (row.past h) = refl
+pub rowState-progress : (s : row.State) → rowState (progress s) ≡ s
+rowState-progress row.fresh = refl
+rowState-progress (row.past h) = refl

@@ -9,16 +9,16 @@ use mir.Val.{SFits, toZ, ofZ}
 use mir.Syntax.{w32}
 use Rattle.bitstream.specs.Bits.{digits}
 use Rattle.bitstream.specs.Bits.Laws.{digits-join, above-lt, length-digits}
-use Rattle.row_format.specs.Table.{lowLimit, tableSize, codeword, codewordAt, signed, Accepted}
+use Rattle.row_format.specs.Table.{lowLimit, tableSize, codeword, codewordAt, signedDifference, Accepted}
 use Rattle.row_format.specs.Table.Laws.{length-codewordAt}
 use Rattle.row_format.specs.Reading.{Fits}
 use Rattle.row_format.specs.Row as row
 use Rattle.row_format.specs.Theorems.Items.{entry}
-use Rattle.code_table.specs.SignedLaws.{Counted, signed-fits, signed-back, sum-fits, sum-count}
+use Rattle.code_table.specs.SignedLaws.{DifferenceCount, signed-fits, signed-back, sum-fits, sum-count}
 use Rattle.row_item.specs.declared.Item.{Item}
 use Rattle.row_item.specs.declared.Item.the-variants.{Difference, BadPixel, BadBias, Escape}
 use Rattle.row_item.specs.Coded.{coded}
-use Rattle.row_packer.specs.Field.{Holds, plain, Writable, Codable}
+use Rattle.row_packer.specs.Field.{Holds, plain, WritableItem, Codable}
 use Rattle.row_packer.specs.declared.field.Field.{Field}
 
 -- ---- a codeword
@@ -45,7 +45,7 @@ plain-coded row.badBias = refl
 plain-coded (row.escape h) = refl
 
 -- what may stand in a row can be written
-writable : (t : List ℕ) (s : row.State) (j : row.Item) → Fits t s j → Writable t j
+writable : (t : List ℕ) (s : row.State) (j : row.Item) → Fits t s j → WritableItem t j
 writable t s (row.difference k) f = let at = entry t k (f .0) in (at .low, omega arith)
 writable t s row.badPixel f = tt
 writable t s row.badBias f = tt
@@ -53,7 +53,7 @@ writable t s (row.escape h) f = omega arith
 
 pub codable : (t : List ℕ) (s : row.State) (j : row.Item) {i : Item} → i ≡ coded j → Fits t s j → Codable t i
 codable t s j e f =
-    rw e (record { is = ap coded (sym (plain-coded j)); fits = subst (Writable t) (sym (plain-coded j)) (writable t s j f) })
+    rw e (record { is = ap coded (sym (plain-coded j)); fits = subst (WritableItem t) (sym (plain-coded j)) (writable t s j f) })
 
 -- ---- a difference that the table has
 number : Item → ℤ
@@ -79,14 +79,14 @@ module _ {t : List ℕ} (ok : Accepted t) {i : Item} {z : ℤ} (e : i ≡ Differ
   count-most : count ≤ 8186
   count-most = omega (arith, ok .sum-most, count-high)
 
-  z-is : z ≡ signed count
+  z-is : z ≡ signedDifference count
   unfolding number
   z-is = ap number (same .is)
 
   z-fits : SFits w32 z
   z-fits = rw z-is (signed-fits count count-most)
 
-  abbrev counted : Counted z
+  abbrev counted : DifferenceCount z
   counted = record { count = count; most = count-most; is = z-is }
 
   -- the count as the code computes it

@@ -9,7 +9,7 @@ use mir.Val.{toZ, ofZ}
 use mir.Syntax.{w32}
 use mir.Facts.{toZ-ofZ}
 use borrow.Author.Tests.{le-leb, lt-leb, lt-ltb, le-ltb, eq-eqb, ne-eqb}
-use Rattle.row_format.specs.Table.{lowLimit, tableSize, signed, hasDifference}
+use Rattle.row_format.specs.Table.{lowLimit, tableSize, signedDifference, hasDifference}
 use Rattle.row_format.specs.Row.{State, fresh, past, previous, differenceTo, byDifference, itemFor}
 use Rattle.code_table.specs.SignedLaws.{signed-fits}
 use Rattle.row_item.specs.declared.Item.the-variants.{Difference, BadPixel, BadBias, Escape}
@@ -42,7 +42,7 @@ module _ {h : Header} {p : Progress} {pixel : ℕ} where
   -- a height
   module _ (n : pixel ≡ 4095 → ⊥) (m : pixel ≡ 4094 → ⊥) where
     chosen-has : ((t : List ℕ) → HeaderOf t h → hasDifference t (counted p pixel) ≡ true)
-        → Chosen h p pixel (Difference (signed (counted p pixel)))
+        → Chosen h p pixel (Difference (signedDifference (counted p pixel)))
     unfolding itemFor byDifference
     chosen-has has =
         record {
@@ -57,7 +57,7 @@ module _ {h : Header} {p : Progress} {pixel : ℕ} where
         record { item = λ t s hd q. rw (ne-eqb pixel 4095 n, ne-eqb pixel 4094 m, (rw (counted-is p s pixel q) at (lacks t hd))) }
 
     -- the table has the difference: z is it, as the code computes it in i32
-    pub chosen-difference : {z : ℤ} → z ≡ signed (counted p pixel) → pixel ≤ 4095
+    pub chosen-difference : {z : ℤ} → z ≡ signedDifference (counted p pixel) → pixel ≤ 4095
         → h .low ≤ counted p pixel → counted p pixel - h .low < h .size → Chosen h p pixel (Difference (toZ w32 (ofZ w32 z)))
     chosen-difference {z} e most low high =
         let k = counted p pixel in

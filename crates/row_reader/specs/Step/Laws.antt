@@ -17,7 +17,7 @@ use Rattle.row_format.specs.Reading.{Reading, item, fault}
 use Rattle.row_format.specs.Theorems.Numbers.{FaultIn, readItem-in}
 use Rattle.row_item.specs.declared.Item.{Item}
 use Rattle.row_item.specs.declared.Progress.{Progress}
-use Rattle.row_item.specs.Coded.{coded, progress, Followed, stateOf}
+use Rattle.row_item.specs.Coded.{coded, progress, Followed, rowState}
 use Rattle.row_unpacker.specs.declared.item.Read.{Read}
 use Rattle.row_unpacker.specs.declared.item.Read.the-variants.{Got, Refused}
 use Rattle.row_unpacker.specs.Item.{answered, itemAt}
@@ -31,10 +31,10 @@ pub record Possible (pl : Place) : Type 0 where
   pub near : pl .at ≤ 27 * (pl .count)
   pub height : pl .progress .previous ≤ 4093
   -- where no pixel has become previous, it is 0
-  pub settled : pl .progress ≡ progress (stateOf (pl .progress))
+  pub settled : pl .progress ≡ progress (rowState (pl .progress))
 
 settled-by : (b : Bool) (h : ℕ) → (not b && ltb 0 h) ≡ false
-    → _≡_ {A = Progress} (record { begun = b; previous = h }) (progress (stateOf (record { begun = b; previous = h })))
+    → _≡_ {A = Progress} (record { begun = b; previous = h }) (progress (rowState (record { begun = b; previous = h })))
 settled-by true h e = refl
 settled-by false h e =
     let none : h ≡ 0 = omega (arith, ltb-false 0 h e) in
@@ -116,7 +116,7 @@ module _ (pl : Place) where
     placeNumber-given h = by-test (impossible pl) placeNumber-impossible (λ e. placeNumber-full e h)
 
 -- a place where an item is read
-pub record Stands (pl : Place) : Type 0 where
+pub record ItemPlace (pl : Place) : Type 0 where
   pub opened : pl .opening ≡ 0
   pub possible : Possible pl
   pub more : pl .count ≤ 4095
@@ -124,7 +124,7 @@ pub record Stands (pl : Place) : Type 0 where
 openingNumber-zero : (o : ℕ) → openingNumber o ≡ 0 → o ≡ 0
 openingNumber-zero o e = by-test (ltb 3 o) (λ h. absurd (let z : _≡_ {A = ℕ} 11 0 = rw h at e in omega arith)) (λ h. rw h at e)
 
-pub placeNumber-stands : (pl : Place) → placeNumber pl ≡ 0 → Stands pl
+pub placeNumber-stands : (pl : Place) → placeNumber pl ≡ 0 → ItemPlace pl
 unfolding placeNumber
 placeNumber-stands pl e =
     let rest = orElse-zero-right (openingNumber (pl .opening)) _ e in
@@ -140,14 +140,14 @@ module _ (tb wb : List ℕ) (pl : Place) where
   pub step-refused : (n : ℕ) → n ≡ placeNumber pl → (n ≡ 0 → ⊥) → refusedAt n pl ≡ itemRead tb wb pl
   unfolding itemRead
   step-refused n is h =
-      let read = given pl (stateOf (pl .progress)) (readingAt tb wb pl) in
+      let read = given pl (rowState (pl .progress)) (readingAt tb wb pl) in
       rw (← is) (sym (unless-refused n (λ e. refusedAt e pl) read h))
 
   pub itemRead-number : (n : ℕ) → n ≡ placeNumber pl → (n ≡ 0 → ⊥) → itemRead tb wb pl .number ≡ n
   itemRead-number n is h = sym (ap (λ (r : ItemRead). r .number) (step-refused n is h))
 
   abbrev state : row.State
-  state = stateOf (pl .progress)
+  state = rowState (pl .progress)
 
   -- the place after an item, as the code makes it
   abbrev moved : Progress → ℕ → Place
@@ -207,11 +207,11 @@ module _ (P : ℕ → Type 0) (p0 : P 0) (p1 : P 1) (p2 : P 2) (p3 : P 3) (p11 :
   pub itemRead-in : (tb wb : List ℕ) (pl : Place) → P 6 → P 7 → P 8 → P 9 → P (itemRead tb wb pl .number)
   unfolding itemRead
   itemRead-in tb wb pl p6 p7 p8 p9 =
-      let s = stateOf (pl .progress) in
+      let s = rowState (pl .progress) in
       unless-in (λ r. P (r .number)) (placeNumber pl) (λ e. refusedAt e pl) (given pl s (readingAt tb wb pl))
       (λ k e. subst P e (placeNumber-in pl))
       (λ e. given-in (readingAt tb wb pl) (readItem-in P p6 p7 p8 p9 (wordsOf tb) s (drop (pl .at) (stream wb))))
     where
-      given-in : (rd : Reading) → FaultIn P rd → P (given pl (stateOf (pl .progress)) rd .number)
+      given-in : (rd : Reading) → FaultIn P rd → P (given pl (rowState (pl .progress)) rd .number)
       given-in (item i u) h = p0
       given-in (fault x u) h = h

@@ -29,12 +29,12 @@ use Rattle.row_format.specs.Theorems.Items.{after-height}
 use Rattle.row_format.specs.Theorems.Numbers.{FaultIn, readItem-in}
 use Rattle.row_format.specs.Theorems.Standing as standing
 use Rattle.row_item.specs.declared.Progress.{Progress}
-use Rattle.row_item.specs.Coded.{progress, stateOf}
-use Rattle.row_item.specs.Coded.Laws.{stateOf-progress}
+use Rattle.row_item.specs.Coded.{progress, rowState}
+use Rattle.row_item.specs.Coded.Laws.{rowState-progress}
 use Rattle.row_reader.specs.declared.step.Place.{Place}
 use Rattle.row_reader.specs.declared.step.ItemRead.{ItemRead}
 use Rattle.row_reader.specs.Step.{startPlace, impossible, placeNumber, refusedAt, placeAfter, given, readingAt, itemRead}
-use Rattle.row_reader.specs.Step.Laws.{impossible-false, placeNumber-none, Stands, placeNumber-stands, step-read}
+use Rattle.row_reader.specs.Step.Laws.{impossible-false, placeNumber-none, ItemPlace, placeNumber-stands, step-read}
 use Rattle.row_reader.specs.Walk.{Walk, gave, ended, onto, walk, Handed}
 
 -- ---- one step
@@ -61,16 +61,16 @@ module _ (tb wb : List ℕ) where
 
   step-given : (pl : Place) (s : row.State) → At pl s → pl .count ≤ 4095 → itemRead tb wb pl ≡ given pl s (reading pl s)
   step-given pl s a more =
-      let e : stateOf (pl .progress) ≡ s = ap stateOf (a .is) ∙ stateOf-progress s in
+      let e : rowState (pl .progress) ≡ s = ap rowState (a .is) ∙ rowState-progress s in
       let none = sym (placeNumber-none pl (a .opened) (at-possible pl s a (omega arith)) more) in
       sym (step-read tb wb pl none) ∙ rw e
 
   -- by whether it is refused before an item is read
   by-place : (P : ItemRead → Type 0) (pl : Place) → ((k : ℕ) → P (refusedAt (suc k) pl))
-      → (placeNumber pl ≡ 0 → P (given pl (stateOf (pl .progress)) (readingAt tb wb pl))) → P (itemRead tb wb pl)
+      → (placeNumber pl ≡ 0 → P (given pl (rowState (pl .progress)) (readingAt tb wb pl))) → P (itemRead tb wb pl)
   unfolding itemRead
   by-place P pl shut read =
-      let give = given pl (stateOf (pl .progress)) (readingAt tb wb pl) in
+      let give = given pl (rowState (pl .progress)) (readingAt tb wb pl) in
       unless-in P (placeNumber pl) (λ e. refusedAt e pl) give (λ k e. shut k) read
 
   pub stays : (pl : Place) → (itemRead tb wb pl .number ≡ 0 → ⊥)
@@ -80,19 +80,19 @@ module _ (tb wb : List ℕ) where
       Still : ItemRead → Type 0
       Still r = (r .number ≡ 0 → ⊥) → (r .place ≡ pl) × (r .pixel ≡ 0)
 
-      still : (rd : Reading) → Still (given pl (stateOf (pl .progress)) rd)
+      still : (rd : Reading) → Still (given pl (rowState (pl .progress)) rd)
       still (item i u) h = absurd (h refl)
       still (fault e u) h = (refl, refl)
 
   pub moves : (pl : Place) → itemRead tb wb pl .place .at ≤ pl .at + maxItemBits (wordsOf tb)
   moves pl =
-      let uses = readItem-uses (wordsOf tb) (stateOf (pl .progress)) (drop (pl .at) (stream wb)) in
+      let uses = readItem-uses (wordsOf tb) (rowState (pl .progress)) (drop (pl .at) (stream wb)) in
       by-place Near pl (λ e. omega arith) (λ none. within (readingAt tb wb pl) uses)
     where
       Near : ItemRead → Type 0
       Near r = r .place .at ≤ pl .at + maxItemBits (wordsOf tb)
 
-      within : (rd : Reading) → bitsOfReading rd ≤ maxItemBits (wordsOf tb) → Near (given pl (stateOf (pl .progress)) rd)
+      within : (rd : Reading) → bitsOfReading rd ≤ maxItemBits (wordsOf tb) → Near (given pl (rowState (pl .progress)) rd)
       within (item i u) h = omega arith
       within (fault e u) h = omega arith
 
@@ -217,10 +217,10 @@ module _ (tb wb : List ℕ) where
         (λ i u e. walk-agrees n (placeAfter pl s i u) (row.after s i) (at-next pl s i u a e) (omega arith)))
 
     -- ---- possible places: every item that is given leads to one
-    stands-at : (pl : Place) → Stands pl → At pl (stateOf (pl .progress))
+    stands-at : (pl : Place) → ItemPlace pl → At pl (rowState (pl .progress))
     stands-at pl st =
-        let s = stateOf (pl .progress) in
-        let h : row.previous (stateOf (pl .progress)) ≡ pl .progress .previous =
+        let s = rowState (pl .progress) in
+        let h : row.previous (rowState (pl .progress)) ≡ pl .progress .previous =
         sym (previous-progress s) ∙ sym (ap (λ (p : Progress). p .previous) (st .possible .settled)) in
         record {
           is = st .possible .settled;
@@ -231,15 +231,15 @@ module _ (tb wb : List ℕ) where
 
     pub given-possible : (pl : Place) → itemRead tb wb pl .number ≡ 0 → impossible (itemRead tb wb pl .place) ≡ false
     given-possible pl = by-place Possible′ pl (λ k h. absurd (omega arith))
-        (λ none. by-read (placeNumber-stands pl none) (readingAt tb wb pl) refl (real (stateOf (pl .progress)) _))
+        (λ none. by-read (placeNumber-stands pl none) (readingAt tb wb pl) refl (real (rowState (pl .progress)) _))
       where
         Possible′ : ItemRead → Type 0
         Possible′ r = r .number ≡ 0 → impossible (r .place) ≡ false
 
-        by-read : Stands pl → (rd : Reading) → readingAt tb wb pl ≡ rd → FaultIn (λ e. e ≡ 0 → ⊥) rd
-            → Possible′ (given pl (stateOf (pl .progress)) rd)
+        by-read : ItemPlace pl → (rd : Reading) → readingAt tb wb pl ≡ rd → FaultIn (λ e. e ≡ 0 → ⊥) rd
+            → Possible′ (given pl (rowState (pl .progress)) rd)
         by-read st (item i u) e some h =
-            let s = stateOf (pl .progress) in
+            let s = rowState (pl .progress) in
             let after = at-next pl s i u (stands-at pl st) e in
             at-possible (placeAfter pl s i u) (row.after s i) after (omega (arith, st .more))
         by-read st (fault x u) e some h = absurd (some h)

@@ -12,7 +12,7 @@ use mir.Val.{toZ, ofZ}
 use mir.Syntax.{w32}
 use mir.Facts.{toZ-ofZ}
 use Rattle.bitstream.specs.Bits.{numOf, wordsOf, stream}
-use Rattle.row_format.specs.Table.{lowLimit, codewords, codewordAt, signed}
+use Rattle.row_format.specs.Table.{lowLimit, codewords, codewordAt, signedDifference}
 use Rattle.row_format.specs.Table.Laws.{length-codewordAt, length-codewords}
 use Rattle.row_format.specs.Row.{State, previous}
 use Rattle.row_format.specs.Reading.{Match, none, found, find, unmatched, rawHeight, matched, readItem}
@@ -21,7 +21,7 @@ use Rattle.code_table.specs.Check.Laws.{length-words}
 use Rattle.code_table.specs.SignedLaws.{signed-fits}
 use Rattle.row_item.specs.declared.Item.the-variants.{Difference, BadPixel, BadBias, Escape}
 use Rattle.row_item.specs.declared.Progress.{Progress}
-use Rattle.row_item.specs.Coded.{stateOf}
+use Rattle.row_item.specs.Coded.{rowState}
 use Rattle.row_unpacker.specs.View.{Seen}
 use Rattle.row_unpacker.proofs.view.Laws.{low-window}
 use Rattle.row_unpacker.specs.Search.{hit, Finds, CutShort}
@@ -82,11 +82,11 @@ module _ (t : List ℕ) (s : State) (at i n low prev : ℕ) (low-is : low ≡ lo
         rw (le-leb 4093 (previous s + (i + lowLimit t)) above, lt-leb (previous s + (i + lowLimit t)) 8186 (rw (← prev-is, ← low-is) h))
 
     -- the code holds the signed difference z
-    pub entry-got : prev + (i + low) ≤ 8186 → (z : ℤ) → z ≡ signed (i + low)
+    pub entry-got : prev + (i + low) ≤ 8186 → (z : ℤ) → z ≡ signedDifference (i + low)
         → Got (Difference (toZ w32 (ofZ w32 z))) (prev + (i + low) - 4093) (at + n) ≡ entryAt t s at i n
     unfolding entryAt
     entry-got h z e =
-        let kept : toZ w32 (ofZ w32 z) ≡ signed (i + low) = toZ-ofZ (rw e (signed-fits (i + low) (omega arith))) ∙ e in
+        let kept : toZ w32 (ofZ w32 z) ≡ signedDifference (i + low) = toZ-ofZ (rw e (signed-fits (i + low) (omega arith))) ∙ e in
         rw (le-leb 4093 (previous s + (i + lowLimit t)) above, le-leb (previous s + (i + lowLimit t)) 8186 (rw (← prev-is, ← low-is) h))
         (rw (kept, low-is, prev-is))
 
@@ -141,7 +141,7 @@ module _
         subst (Found (codewords (wordsOf tb)) (drop at (stream wb))) found-is (find-found (codewords (wordsOf tb)) (drop at (stream wb))) in
         omega (arith, q .0, length-codewords (wordsOf tb), length-words tb)
 
-    pub read-found : (x : Read) → x ≡ foundAt (wordsOf tb) (stateOf p) (drop at (stream wb)) at j → x ≡ itemAt tb wb at p
+    pub read-found : (x : Read) → x ≡ foundAt (wordsOf tb) (rowState p) (drop at (stream wb)) at j → x ≡ itemAt tb wb at p
     unfolding itemAt foundAt readItem
     read-found x q = q ∙ rw found-is
 
@@ -158,6 +158,6 @@ module _
     read-unknown d = rw (none-is, sym (cut .is (drop at (stream wb)) seen) ∙ d)
 
 pub itemAt-answered : (tb wb : List ℕ) (at : ℕ) (p : Progress)
-    → itemAt tb wb at p ≡ answered (stateOf p) at (readItem (wordsOf tb) (stateOf p) (drop at (stream wb)))
+    → itemAt tb wb at p ≡ answered (rowState p) at (readItem (wordsOf tb) (rowState p) (drop at (stream wb)))
 unfolding itemAt
 itemAt-answered tb wb at p = refl

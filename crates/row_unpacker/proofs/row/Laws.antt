@@ -18,16 +18,16 @@ use Rattle.row_format.specs.Reading.{bitsOfReading, Reading, item, fault, Run, 
 use Rattle.row_format.specs.Theorems.Bounds.{readItem-uses}
 use Rattle.row_item.specs.declared.Item.{Item}
 use Rattle.row_item.specs.declared.Progress.{Progress}
-use Rattle.row_item.specs.Coded.{coded, progress, Followed, stateOf}
-use Rattle.row_item.specs.Coded.Laws.{stateOf-progress}
+use Rattle.row_item.specs.Coded.{coded, progress, Followed, rowState}
+use Rattle.row_item.specs.Coded.Laws.{rowState-progress}
 use Rattle.row_unpacker.specs.Item.{answered}
-use Rattle.row_unpacker.specs.Row.{Reached, whole, halted, reached, RowIs}
+use Rattle.row_unpacker.specs.Row.{RowReached, whole, halted, rowReached, RowIs}
 use Rattle.row_unpacker.specs.declared.item.Read.{Read}
 use Rattle.row_unpacker.specs.declared.item.Read.the-variants.{Got, Refused}
 use Rattle.row_unpacker.specs.declared.row.RowRead.the-variants as row-read
 
 -- what a reading reaches after bytes and bits that came before
-abbrev pub on : List ℕ → ℕ → Reached → Reached
+abbrev pub on : List ℕ → ℕ → RowReached → RowReached
 on b at (whole c u) = whole (b ++ c) (at + u)
 on b at (halted e p) = halted e (at + p)
 
@@ -38,9 +38,9 @@ pub record Partly
   pub within : i ≤ n
   pub kept : length out ≡ size
   pub place : at ≤ 43 * i
-  pub state : p ≡ progress (stateOf p)
-  pub so-far : reached n fresh (readBy g fresh n r)
-      ≡ on (take (2 * i) out) at (reached (n - i) (stateOf p) (readBy g (stateOf p) (n - i) (drop at r)))
+  pub state : p ≡ progress (rowState p)
+  pub so-far : rowReached n fresh (readBy g fresh n r)
+      ≡ on (take (2 * i) out) at (rowReached (n - i) (rowState p) (readBy g (rowState p) (n - i) (drop at r)))
 
 -- the bytes of one pixel more
 bytes-cons : (n p : ℕ) (ps : List ℕ) → bytesOf (2 * suc n) (flat 16 (p ∷ ps)) ≡ bytesOf 2 (digits 16 p) ++ bytesOf (2 * n) (flat 16 ps)
@@ -50,17 +50,17 @@ bytes-cons n p ps =
     ap (λ (k : ℕ). bytesOf k (digits 16 p ++ flat 16 ps)) e ∙ cut-append 8 2 (2 * n) (digits 16 p) (flat 16 ps) (length-digits 16 p)
 
 -- ---- one item more
-reached-prepend : (n : ℕ) (s : State) (i : row.Item) (u : ℕ) (x : Run)
-    → reached (suc n) s (prepend i u x) ≡ on (bytesOf 2 (digits 16 (pixelOf s i))) u (reached n (after s i) x)
+rowReached-prepend : (n : ℕ) (s : State) (i : row.Item) (u : ℕ) (x : Run)
+    → rowReached (suc n) s (prepend i u x) ≡ on (bytesOf 2 (digits 16 (pixelOf s i))) u (rowReached n (after s i) x)
 unfolding pixelsOf
-reached-prepend n s i u (done is v) = ap (λ (b : List ℕ). whole b (u + v)) (bytes-cons n (pixelOf s i) (pixelsOf (after s i) is))
-reached-prepend n s i u (stop e at v) = refl
+rowReached-prepend n s i u (done is v) = ap (λ (b : List ℕ). whole b (u + v)) (bytes-cons n (pixelOf s i) (pixelsOf (after s i) is))
+rowReached-prepend n s i u (stop e at v) = refl
 
-on-none : (x : Reached) → x ≡ on [] 0 x
+on-none : (x : RowReached) → x ≡ on [] 0 x
 on-none (whole b u) = rw (zero-add u)
 on-none (halted e p) = rw (zero-add p)
 
-on-on : (b c : List ℕ) (at u : ℕ) (x : Reached) → on b at (on c u x) ≡ on (b ++ c) (at + u) x
+on-on : (b c : List ℕ) (at u : ℕ) (x : RowReached) → on b at (on c u x) ≡ on (b ++ c) (at + u) x
 on-on b c at u (whole d v) = rw (append-assoc b c d, add-assoc at u v)
 on-on b c at u (halted e p) = rw (add-assoc at u p)
 
@@ -81,63 +81,63 @@ module _
     (n : ℕ) (r : List ℕ) (size : ℕ) (room : 2 * n ≤ size) where
   pub partly-none : (out : List ℕ) (p : Progress) → length out ≡ size → p ≡ progress fresh → Partly g n r size out 0 p 0
   partly-none out p kept e =
-      let s : stateOf p ≡ fresh = ap stateOf e in
+      let s : rowState p ≡ fresh = ap rowState e in
       record {
         within = omega arith;
         kept = kept;
         place = omega arith;
         state = e ∙ ap progress (sym s);
-        so-far = rw (s, sub-zero n) (on-none (reached n fresh (readBy g fresh n r)));
+        so-far = rw (s, sub-zero n) (on-none (rowReached n fresh (readBy g fresh n r)));
       }
 
-  ended : (b : List ℕ) (at : ℕ) (s : State) (rest : List ℕ) → on b at (reached 0 s (readBy g s 0 rest)) ≡ whole b at
+  ended : (b : List ℕ) (at : ℕ) (s : State) (rest : List ℕ) → on b at (rowReached 0 s (readBy g s 0 rest)) ≡ whole b at
   unfolding readBy pixelsOf flat cut
   ended b at s rest = rw (append-nil b, add-zero at)
 
   module _ (out : List ℕ) (at : ℕ) (p : Progress) (i : ℕ) (q : Partly g n r size out at p i) where
-    from : ℕ → Run → Reached
-    from k y = on (take (2 * i) out) at (reached k (stateOf p) y)
+    from : ℕ → Run → RowReached
+    from k y = on (take (2 * i) out) at (rowReached k (rowState p) y)
 
     -- all items were read
-    pub partly-all : n ≤ i → RowIs n out (row-read.Done at) (reached n fresh (readBy g fresh n r))
+    pub partly-all : n ≤ i → RowIs n out (row-read.Done at) (rowReached n fresh (readBy g fresh n r))
     unfolding from
     partly-all h =
         let none : n - i ≡ 0 = omega arith in
         let same : i ≡ n = omega (arith, q .within) in
-        let e : reached n fresh (readBy g fresh n r) ≡ whole (take (2 * n) out) at =
+        let e : rowReached n fresh (readBy g fresh n r) ≡ whole (take (2 * n) out) at =
         q .so-far
-        ∙ ap (λ (k : ℕ). from k (readBy g (stateOf p) k (drop at r))) none
-        ∙ ended (take (2 * i) out) at (stateOf p) (drop at r)
+        ∙ ap (λ (k : ℕ). from k (readBy g (rowState p) k (drop at r))) none
+        ∙ ended (take (2 * i) out) at (rowState p) (drop at r)
         ∙ ap (λ (k : ℕ). whole (take (2 * k) out) at) same in
         subst⁻¹ (RowIs n out (row-read.Done at)) e (refl, refl)
 
-    module _ (h : i < n) (x : Read) (is : x ≡ answered (stateOf p) at (g (stateOf p) (drop at r))) where
+    module _ (h : i < n) (x : Read) (is : x ≡ answered (rowState p) at (g (rowState p) (drop at r))) where
       rest-of : row.Item → ℕ → Run
-      rest-of j u = readBy g (after (stateOf p) j) (n - (i + 1)) (drop u (drop at r))
+      rest-of j u = readBy g (after (rowState p) j) (n - (i + 1)) (drop u (drop at r))
 
       -- the reading from here on, by the next item
-      by-next : (y : Reading) → g (stateOf p) (drop at r) ≡ y
-          → reached n fresh (readBy g fresh n r) ≡ from (suc (n - (i + 1))) (follow y rest-of)
+      by-next : (y : Reading) → g (rowState p) (drop at r) ≡ y
+          → rowReached n fresh (readBy g fresh n r) ≡ from (suc (n - (i + 1))) (follow y rest-of)
       unfolding readBy from rest-of
       by-next y e =
           let left : n - i ≡ suc (n - (i + 1)) = omega arith in
           q .so-far
-          ∙ ap (λ (k : ℕ). from k (readBy g (stateOf p) k (drop at r))) left
+          ∙ ap (λ (k : ℕ). from k (readBy g (rowState p) k (drop at r))) left
           ∙ ap (λ (z : Reading). from (suc (n - (i + 1))) (follow z rest-of)) e
 
       -- the next item is refused
       pub partly-stop : (number place : ℕ) (out′ : List ℕ) → x ≡ Refused number place
-          → RowIs n out′ (row-read.Refused number place) (reached n fresh (readBy g fresh n r))
+          → RowIs n out′ (row-read.Refused number place) (rowReached n fresh (readBy g fresh n r))
       unfolding from
-      partly-stop number place out′ d = go (g (stateOf p) (drop at r)) refl
+      partly-stop number place out′ d = go (g (rowState p) (drop at r)) refl
         where
-          go : (y : Reading) → g (stateOf p) (drop at r) ≡ y
-              → RowIs n out′ (row-read.Refused number place) (reached n fresh (readBy g fresh n r))
+          go : (y : Reading) → g (rowState p) (drop at r) ≡ y
+              → RowIs n out′ (row-read.Refused number place) (rowReached n fresh (readBy g fresh n r))
           go (item j u) e =
-              let other : Refused number place ≡ answered (stateOf p) at (item j u) = sym d ∙ is ∙ ap (answered (stateOf p) at) e in
+              let other : Refused number place ≡ answered (rowState p) at (item j u) = sym d ∙ is ∙ ap (answered (rowState p) at) e in
               absurd (let z : _≡_ {A = ℕ} 0 1 = cc in omega arith)
           go (fault k u) e =
-              let same : Refused number place ≡ Refused k at = sym d ∙ is ∙ ap (answered (stateOf p) at) e in
+              let same : Refused number place ≡ Refused k at = sym d ∙ is ∙ ap (answered (rowState p) at) e in
               subst⁻¹ (RowIs n out′ (row-read.Refused number place)) (by-next (fault k u) e) (cc (add-zero at))
 
       -- the next item is there
@@ -146,7 +146,7 @@ module _
       unfolding from rest-of
       partly-more what pixel next p′ out′ d f written =
           subst⁻¹ (λ (l : List ℕ). Partly g n r size l next p′ (i + 1)) written
-          (go (g (stateOf p) (drop at r)) refl (most (stateOf p) (drop at r)))
+          (go (g (rowState p) (drop at r)) refl (most (rowState p) (drop at r)))
         where
           two : length (bytesOf 2 (digits 16 pixel)) ≡ 2
           two = length-cut 8 2 (digits 16 pixel)
@@ -157,16 +157,16 @@ module _
               let e : 2 * (i + 1) ≡ 2 * i + length (bytesOf 2 (digits 16 pixel)) = omega (arith, two) in
               rw e (take-overwritten out (2 * i) (bytesOf 2 (digits 16 pixel)) (omega (arith, q .kept)))
 
-          go : (y : Reading) → g (stateOf p) (drop at r) ≡ y → bitsOfReading y ≤ 43
+          go : (y : Reading) → g (rowState p) (drop at r) ≡ y → bitsOfReading y ≤ 43
               → Partly g n r size (overwritten out (2 * i) (bytesOf 2 (digits 16 pixel))) next p′ (i + 1)
           go (item j u) e few =
-              let same : Got what pixel next ≡ Got (coded j) (pixelOf (stateOf p) j) (at + u) =
-              sym d ∙ is ∙ ap (answered (stateOf p) at) e in
+              let same : Got what pixel next ≡ Got (coded j) (pixelOf (rowState p) j) (at + u) =
+              sym d ∙ is ∙ ap (answered (rowState p) at) e in
               let what-is : what ≡ coded j = cc in
-              let pixel-is : pixel ≡ pixelOf (stateOf p) j = cc in
+              let pixel-is : pixel ≡ pixelOf (rowState p) j = cc in
               let next-is : next ≡ at + u = cc in
-              let p-is : p′ ≡ progress (after (stateOf p) j) = f .next (stateOf p) j (q .state) what-is pixel-is in
-              let s-is : stateOf p′ ≡ after (stateOf p) j = ap stateOf p-is ∙ stateOf-progress (after (stateOf p) j) in
+              let p-is : p′ ≡ progress (after (rowState p) j) = f .next (rowState p) j (q .state) what-is pixel-is in
+              let s-is : rowState p′ ≡ after (rowState p) j = ap rowState p-is ∙ rowState-progress (after (rowState p) j) in
               record {
                 within = omega arith;
                 kept = length-overwritten out (2 * i) (bytesOf 2 (digits 16 pixel)) (omega (arith, two, q .kept)) ∙ q .kept;
@@ -174,11 +174,11 @@ module _
                 state = p-is ∙ ap progress (sym s-is);
                 so-far =
                     by-next (item j u) e
-                    ∙ ap (on (take (2 * i) out) at) (reached-prepend (n - (i + 1)) (stateOf p) j u (rest-of j u))
-                    ∙ on-on (take (2 * i) out) (bytesOf 2 (digits 16 (pixelOf (stateOf p) j))) at u
-                    (reached (n - (i + 1)) (after (stateOf p) j) (rest-of j u))
+                    ∙ ap (on (take (2 * i) out) at) (rowReached-prepend (n - (i + 1)) (rowState p) j u (rest-of j u))
+                    ∙ on-on (take (2 * i) out) (bytesOf 2 (digits 16 (pixelOf (rowState p) j))) at u
+                    (rowReached (n - (i + 1)) (after (rowState p) j) (rest-of j u))
                     ∙ rw (front, ← pixel-is, drop-drop u at r, s-is, next-is);
               }
           go (fault k u) e few =
-              let other : Got what pixel next ≡ Refused k at = sym d ∙ is ∙ ap (answered (stateOf p) at) e in
+              let other : Got what pixel next ≡ Refused k at = sym d ∙ is ∙ ap (answered (rowState p) at) e in
               absurd (let z : _≡_ {A = ℕ} 0 1 = cc in omega arith)

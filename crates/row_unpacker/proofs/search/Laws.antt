@@ -20,7 +20,7 @@ use Rattle.row_format.specs.Theorems.Search.{find-only}
 use Rattle.code_table.specs.Check.Laws.{length-words}
 use Rattle.row_unpacker.specs.View.{Seen}
 use Rattle.row_unpacker.proofs.view.Laws.{low-window}
-use Rattle.row_unpacker.specs.Search.{hit, Finds, CutShort, begun, Tested}
+use Rattle.row_unpacker.specs.Search.{hit, Finds, CutShort, begunBy, Tested}
 use Rattle.row_unpacker.specs.declared.view.View.{View}
 use Rattle.row_unpacker.specs.declared.search.Hit.the-variants.{At, Nowhere}
 
@@ -71,11 +71,11 @@ numOf-take-codeword w n h =
 
 -- ---- whether it begins the rest
 module _ (w : ℕ) (v : View) where
-  pub begun-short : v .left < w % 32 → Tested begun w v false
-  begun-short h = record { is = λ r seen. sym (begins-short (codeword w) r (omega (arith, seen .left, length-codeword w))) }
+  pub begunBy-short : v .left < w % 32 → Tested begunBy w v false
+  begunBy-short h = record { is = λ r seen. sym (begins-short (codeword w) r (omega (arith, seen .left, length-codeword w))) }
 
-  pub begun-low : (x y : ℕ) → w % 32 ≤ v .left → x ≡ v .window % 2 ^ (w % 32) → y ≡ w / 32 % 2 ^ (w % 32) → Tested begun w v (eqb x y)
-  begun-low x y h ex ey = record {
+  pub begunBy-low : (x y : ℕ) → w % 32 ≤ v .left → x ≡ v .window % 2 ^ (w % 32) → y ≡ w / 32 % 2 ^ (w % 32) → Tested begunBy w v (eqb x y)
+  begunBy-low x y h ex ey = record {
     is = λ r seen.
         let front : x ≡ numOf (take (length (codeword w)) r) =
         ex ∙ low-window r v seen (w % 32) (omega arith) ∙ ap (λ (k : ℕ). numOf (take k r)) (sym (length-codeword w)) in
@@ -144,7 +144,7 @@ module _ (t : List ℕ) (v : View) where
   place i h = let e : 3 + (i - 3) ≡ i = omega arith in getD-codewords t (i - 3) ∙ ap (λ (k : ℕ). codeword (getD t k 0)) e
 
   module _ (i w : ℕ) (h : i < length t) (is : w ≡ getD t i 0) where
-    pub finds-here : Passed begun t v i → {b : Bool} → Tested begun w v b → b ≡ true → Finds t v (At (i - 3))
+    pub finds-here : Passed begunBy t v i → {b : Bool} → Tested begunBy w v b → b ≡ true → Finds t v (At (i - 3))
     finds-here p b yes′ = record {
       is = λ r seen.
           let least : 3 ≤ i = p .least in
@@ -163,8 +163,8 @@ module _ (t : List ℕ) (v : View) where
           (rw (place i least, ← is) (sym (b .is r seen) ∙ yes′)));
     }
 
-  pub finds-nowhere : (i : ℕ) → Passed begun t v i → length t ≤ i → Finds t v Nowhere
-  finds-nowhere i p h = record { is = λ r seen. sym (ap hit (find-none (codewords t) r (all-passed begun t v i p h r seen))) }
+  pub finds-nowhere : (i : ℕ) → Passed begunBy t v i → length t ≤ i → Finds t v Nowhere
+  finds-nowhere i p h = record { is = λ r seen. sym (ap hit (find-none (codewords t) r (all-passed begunBy t v i p h r seen))) }
 
   pub short-nowhere : (i : ℕ) → Passed begins t v i → length t ≤ i → CutShort t v false
   short-nowhere i p h = record { is = λ r seen. sym (any-false (begins r) (codewords t) [] (all-passed begins t v i p h r seen)) }
@@ -178,7 +178,7 @@ module _ (t : List ℕ) (v : View) where
 
 -- ---- under an accepted table the codeword that begins the rest is the only one, however it was come by
 pub finds-only : (tb : List ℕ) (v : View) → tableNumber tb ≡ 0 → (i w : ℕ) → 3 ≤ i → i < length tb / 4 → w ≡ getD (wordsOf tb) i 0
-    → {b : Bool} → Tested begun w v b → b ≡ true → Finds (wordsOf tb) v (At (i - 3))
+    → {b : Bool} → Tested begunBy w v b → b ≡ true → Finds (wordsOf tb) v (At (i - 3))
 finds-only tb v ok i w least h is b yes′ = record {
   is = λ r seen.
       let t = wordsOf tb in

@@ -24,7 +24,7 @@ use Rattle.row_format.specs.Calls.Laws.{answer-number}
 use Rattle.row_format.specs.Theorems.Bounds.{readItems-uses}
 use Rattle.row_unpacker.specs.View.{Seen}
 use Rattle.row_unpacker.proofs.view.Laws.{low-window}
-use Rattle.row_unpacker.specs.Row.{reached, RowIs}
+use Rattle.row_unpacker.specs.Row.{rowReached, RowIs}
 use Rattle.row_unpacker.proofs.row.Laws.{maxItemBits-any}
 use Rattle.row_unpacker.specs.declared.view.View.{View}
 use Rattle.row_unpacker.specs.declared.row.RowRead.{RowRead}
@@ -59,12 +59,12 @@ module _ (r : List ℕ) (used : ℕ) where
 -- ---- the ways out after a row was read: x is the code's answer, out the row's memory
 module _ (r : List ℕ) (n : ℕ) (m out : List ℕ) (x : RowRead) where
   module _ (used : ℕ) (e : x ≡ Done used) where
-    pub row-stray : (run : Run) → RowIs n out x (reached n fresh run) → true ≡ stray used r
+    pub row-stray : (run : Run) → RowIs n out x (rowReached n fresh run) → true ≡ stray used r
         → refused 10 m ≡ rowOutcome m (withoutStray r run)
     row-stray (done is u) h b = let same : u ≡ used = cc (h .0) in rw (same, ← b)
     row-stray (stop k at u) h b = absurd (let z : _≡_ {A = ℕ} 0 1 = cc in omega arith)
 
-    whole-row : (run : Run) → Counted n run → RowIs n out x (reached n fresh run) → false ≡ stray used r → (m′ : List ℕ)
+    whole-row : (run : Run) → Counted n run → RowIs n out x (rowReached n fresh run) → false ≡ stray used r → (m′ : List ℕ)
         → m′ ≡ take (2 * n) out ++ drop (2 * n) m → outcome (answerOf 0 used) m′ ≡ rowOutcome m (withoutStray r run)
     whole-row (done is u) count h b m′ copied =
         let same : u ≡ used = cc (h .0) in
@@ -72,19 +72,19 @@ module _ (r : List ℕ) (n : ℕ) (m out : List ℕ) (x : RowRead) where
         rw (same, ← b, size, length-cut 8 (2 * n) (flat 16 (pixelsOf fresh is)), copied, h .1)
     whole-row (stop k at u) count h b m′ copied = absurd (let z : _≡_ {A = ℕ} 0 1 = cc in omega arith)
 
-    pub row-done : (t : List ℕ) → RowIs n out x (reached n fresh (readItems t n r)) → false ≡ stray used r → (m′ : List ℕ)
+    pub row-done : (t : List ℕ) → RowIs n out x (rowReached n fresh (readItems t n r)) → false ≡ stray used r → (m′ : List ℕ)
         → m′ ≡ take (2 * n) out ++ drop (2 * n) m → outcome (answerOf 0 used) m′ ≡ rowOutcome m (withoutStray r (readItems t n r))
     unfolding readItems
     row-done t = whole-row (readItems t n r) (readBy-counted (readItem t) fresh n r)
 
-    used-by : (run : Run) → RowIs n out x (reached n fresh run) → used ≡ bitsOfRun run
+    used-by : (run : Run) → RowIs n out x (rowReached n fresh run) → used ≡ bitsOfRun run
     used-by (done is u) h = cc (h .0)
     used-by (stop k at u) h = absurd (let z : _≡_ {A = ℕ} 0 1 = cc in omega arith)
 
-    pub row-used : (t : List ℕ) → RowIs n out x (reached n fresh (readItems t n r)) → used ≤ n * 43
+    pub row-used : (t : List ℕ) → RowIs n out x (rowReached n fresh (readItems t n r)) → used ≤ n * 43
     row-used t h = omega (arith, used-by (readItems t n r) h, readItems-uses t n r, mul-le-mul-left n (maxItemBits-any t))
 
-  pub row-refused : (number place : ℕ) → x ≡ Refused number place → (run : Run) → RowIs n out x (reached n fresh run)
+  pub row-refused : (number place : ℕ) → x ≡ Refused number place → (run : Run) → RowIs n out x (rowReached n fresh run)
       → refused number m ≡ rowOutcome m (withoutStray r run)
   row-refused number place e (done is u) h = absurd (let z : _≡_ {A = ℕ} 0 1 = cc (h .0) in omega arith)
   row-refused number place e (stop k at u) h = let same : k ≡ number = cc in rw same

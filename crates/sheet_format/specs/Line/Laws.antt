@@ -14,7 +14,7 @@ use borrow.Author.Tests.{lt-ltb, le-ltb, le-leb}
 use Rattle.bitstream.specs.Bits.{flat, bitsOf, bytesOf, wordsOf, Below}
 use Rattle.bitstream.specs.Bits.Laws.{below-head, below-tail, below-take, below-flat, length-flat, length-cut, flat-take, flat-cut}
 use Rattle.row_format.specs.BitLaws.{pad-within, cut-flat-all}
-use Rattle.adaptive.specs.Number.{Reading, accepted, rejected, signed, readAs, shortest}
+use Rattle.adaptive.specs.Number.{NumberReading, accepted, rejected, signedType, readAs, shortest}
 use Rattle.adaptive.specs.Number.Lawful.{signed-lawful, signed-range}
 use Rattle.adaptive.specs.Number.Read.{readAs-shortest, readAs-used, readAs-rejected, shortest-count}
 use Rattle.sheet_format.specs.Line.{wordOf, signedOf, lineBytes, Line, numbers, faulty, prepend, follow, readLine}
@@ -31,7 +31,7 @@ wordOf-signedOf w h = by-cases (decLt w 2147483648)
     (λ low. rw (low-word w low))
     (λ high. rw (high-word w (omega arith)) (omega arith))
 
-pub signedOf-range : (w : ℕ) → w < 4294967296 → signed .inRange (signedOf w) ≡ true
+pub signedOf-range : (w : ℕ) → w < 4294967296 → signedType .inRange (signedOf w) ≡ true
 signedOf-range w h = signed-range (signedOf w) ∙ by-cases (decLt w 2147483648)
     (λ low. rw (low-word w low) (le-leb w 2147483647 (omega arith)))
     (λ high. rw (high-word w (omega arith)) (le-leb (4294967295 - w) 2147483647 (omega arith)))
@@ -58,7 +58,7 @@ bytesOf-wordsOf s bytes =
 -- ---- adaptive numbers, one after another
 abbrev pub InRange : List ℤ → Type 0
 InRange [] = Unit {0}
-InRange (v ∷ vs) = (signed .inRange v ≡ true) × InRange vs
+InRange (v ∷ vs) = (signedType .inRange v ≡ true) × InRange vs
 
 pub in-range-signedOf : (ws : List ℕ) → Below 4294967296 ws → InRange (map signedOf ws)
 in-range-signedOf [] low = tt
@@ -70,11 +70,11 @@ pub readLine-lineBytes : (vs : List ℤ) (r : List ℕ) → InRange vs
 unfolding readLine lineBytes
 readLine-lineBytes [] r ok = refl
 readLine-lineBytes (v ∷ vs) r ok =
-    let b = shortest signed v in
+    let b = shortest signedType v in
     let rest = lineBytes vs ++ r in
     rw (
       append-assoc b (lineBytes vs) r,
-      readAs-shortest signed signed-lawful v (ok .0) rest,
+      readAs-shortest signedType signed-lawful v (ok .0) rest,
       drop-append-seam b rest,
       readLine-lineBytes vs r (ok .1),
       length-append b (lineBytes vs),
@@ -84,8 +84,8 @@ pub length-lineBytes : (vs : List ℤ) → length (lineBytes vs) ≤ 5 * length 
 unfolding lineBytes
 length-lineBytes [] = omega arith
 length-lineBytes (v ∷ vs) =
-    rw (length-append (shortest signed v) (lineBytes vs), mul-suc 5 (length vs))
-    (omega (arith, shortest-count signed v .1, length-lineBytes vs))
+    rw (length-append (shortest signedType v) (lineBytes vs), mul-suc 5 (length vs))
+    (omega (arith, shortest-count signedType v .1, length-lineBytes vs))
 
 -- ---- what a reading of n numbers of the bytes s gives
 pub record Numbers (n : ℕ) (s : List ℕ) (vs : List ℤ) (u : ℕ) : Type 0 where
@@ -105,9 +105,9 @@ prepend-gives n s v u (faulty e) h g = g
 pub readLine-gives : (n : ℕ) (s : List ℕ) → GivesLine n s (readLine n s)
 unfolding readLine
 readLine-gives zero s = record { count = refl; there = omega arith }
-readLine-gives (suc n) s = by-reading (readAs signed s) refl (λ u. readLine-gives n (drop u s))
+readLine-gives (suc n) s = by-reading (readAs signedType s) refl (λ u. readLine-gives n (drop u s))
   where
-    by-reading : (x : Reading ℤ) → readAs signed s ≡ x → ((u : ℕ) → GivesLine n (drop u s) (readLine n (drop u s)))
+    by-reading : (x : NumberReading ℤ) → readAs signedType s ≡ x → ((u : ℕ) → GivesLine n (drop u s) (readLine n (drop u s)))
         → GivesLine (suc n) s (follow x (λ u. readLine n (drop u s)))
-    by-reading (accepted v u) e ih = prepend-gives n s v u (readLine n (drop u s)) (readAs-used signed s v u e .2) (ih u)
-    by-reading (rejected e) q ih = readAs-rejected signed s e q
+    by-reading (accepted v u) e ih = prepend-gives n s v u (readLine n (drop u s)) (readAs-used signedType s v u e .2) (ih u)
+    by-reading (rejected e) q ih = readAs-rejected signedType s e q

@@ -9,7 +9,7 @@ use lib.Seq.{drop-drop}
 use lib.IntN.{ℤ}
 use Rattle.bitstream.specs.Bits.{digits, flat, bytesOf}
 use Rattle.bitstream.specs.Bits.Laws.{length-flat, flat-append, cut-append}
-use Rattle.adaptive.specs.Number.{Reading, accepted, rejected, signed, readAs, shortest}
+use Rattle.adaptive.specs.Number.{NumberReading, accepted, rejected, signedType, readAs, shortest}
 use Rattle.adaptive.specs.Calls.{signedRead, signedAnswer}
 use Rattle.adaptive.specs.Number.Read.{readAs-rejected}
 use Rattle.sheet_format.specs.Line.{wordOf, lineBytes, Line, numbers, faulty, prepend, readLine}
@@ -21,18 +21,18 @@ afterNumbers vs u (numbers ws w) = numbers (vs ++ ws) (u + w)
 afterNumbers vs u (faulty e) = faulty e
 
 -- by the call that reads one number
-readLine-one : (n : ℕ) (s : List ℕ) (x : Reading ℤ) → readAs signed s ≡ x → signedAnswer x .number ≡ 0
+readLine-one : (n : ℕ) (s : List ℕ) (x : NumberReading ℤ) → readAs signedType s ≡ x → signedAnswer x .number ≡ 0
     → readLine (suc n) s ≡ prepend (signedAnswer x .value) (signedAnswer x .used) (readLine n (drop (signedAnswer x .used) s))
 unfolding readLine
 readLine-one n s (accepted v u) e ok = rw e
-readLine-one n s (rejected k) e ok = absurd (omega (arith, readAs-rejected signed s k e))
+readLine-one n s (rejected k) e ok = absurd (omega (arith, readAs-rejected signedType s k e))
 
 pub readLine-suc : (n : ℕ) (s : List ℕ) → signedRead s .number ≡ 0
     → readLine (suc n) s ≡ prepend (signedRead s .value) (signedRead s .used) (readLine n (drop (signedRead s .used) s))
 unfolding signedRead
-readLine-suc n s ok = readLine-one n s (readAs signed s) refl ok
+readLine-suc n s ok = readLine-one n s (readAs signedType s) refl ok
 
-readLine-none : (n : ℕ) (s : List ℕ) (x : Reading ℤ) → readAs signed s ≡ x → (signedAnswer x .number ≡ 0 → ⊥)
+readLine-none : (n : ℕ) (s : List ℕ) (x : NumberReading ℤ) → readAs signedType s ≡ x → (signedAnswer x .number ≡ 0 → ⊥)
     → readLine (suc n) s ≡ faulty (signedAnswer x .number)
 unfolding readLine
 readLine-none n s (accepted v u) e wrong = absurd (wrong refl)
@@ -41,7 +41,7 @@ readLine-none n s (rejected k) e wrong = rw e
 pub readLine-fault : (n : ℕ) (s : List ℕ) → (signedRead s .number ≡ 0 → ⊥)
     → readLine (suc n) s ≡ faulty (signedRead s .number)
 unfolding signedRead
-readLine-fault n s wrong = readLine-none n s (readAs signed s) refl wrong
+readLine-fault n s wrong = readLine-none n s (readAs signedType s) refl wrong
 
 afterNumbers-prepend : (vs : List ℤ) (u : ℕ) (v : ℤ) (w : ℕ) (x : Line)
     → afterNumbers vs u (prepend v w x) ≡ afterNumbers (vs ++ (v ∷ [])) (u + w) x
@@ -99,4 +99,4 @@ pub lineBytes-append : (vs ws : List ℤ) → lineBytes (vs ++ ws) ≡ lineBytes
 unfolding lineBytes
 lineBytes-append [] ws = refl
 lineBytes-append (v ∷ vs) ws =
-    rw (lineBytes-append vs ws) (sym (append-assoc (shortest signed v) (lineBytes vs) (lineBytes ws)))
+    rw (lineBytes-append vs ws) (sym (append-assoc (shortest signedType v) (lineBytes vs) (lineBytes ws)))

@@ -23,7 +23,7 @@ use Rattle.row_format.specs.Reading.Laws.{rowReading-room}
 use Rattle.row_format.specs.Calls.{rowOutcome, unpacked}
 use Rattle.row_format.specs.Calls.Laws.{rowOutcome-number}
 use Rattle.row_format.specs.Theorems.Numbers.{StopIn, rowReading-stops}
-use Rattle.row_format.specs.Theorems.Done.{Gives, rowReading-gives, rowReading-reads}
+use Rattle.row_format.specs.Theorems.Done.{GivesRow, rowReading-gives, rowReading-reads}
 use Rattle.sheet_format.specs.declared.SheetState.{SheetState}
 use Rattle.sheet_format.specs.declared.RecordRead.{RecordRead}
 use Rattle.sheet_format.specs.Context.{Context, tableFor, stateOf, contextOf}
@@ -132,7 +132,8 @@ module _ {room : ℕ} {tb b : List ℕ} {a : Answer} {out : List ℕ} (u : Unpac
     pixels-size : length (pixelBytes (pixelsOf fresh (whole .items))) ≡ 2 * pixelCount b
     pixels-size =
         let ps = pixelsOf fresh (whole .items) in
-        let given = subst (Gives (lent room) (pixelCount b)) (whole .is) (rowReading-gives (lent room) tb (pixelCount b) (rowContent b)) in
+        let given =
+        subst (GivesRow (lent room) (pixelCount b)) (whole .is) (rowReading-gives (lent room) tb (pixelCount b) (rowContent b)) in
         length-cut 8 (2 * length ps) (flat 16 ps) ∙ ap (2 *_) (length-pixelsOf fresh (whole .items) ∙ given .count)
 
     pub row-done : length (partFrom 4 b) ≤ 4 * ((a .count + 31) / 32) → (rest : List ℕ)

@@ -12,7 +12,7 @@ use Rattle.bitstream.specs.Bits.{numberOf, wordsOf}
 use Rattle.answer.specs.declared.Answer.{Answer}
 use Rattle.answer.specs.Outcome.{outcome}
 use Rattle.code_table.specs.Check.Laws.{length-words, getD-words}
-use Rattle.adaptive.specs.Number.{signed, shortest}
+use Rattle.adaptive.specs.Number.{signedType, shortest}
 use Rattle.adaptive.specs.Calls.{written, signedWritten}
 use Rattle.adaptive.specs.Calls.Laws.{written-done}
 use Rattle.sheet_format.specs.Line.{signedOf}
@@ -33,12 +33,12 @@ given-at x i w h e = ap signedOf (e ∙ sym (getD-words x i h)) ∙ sym (List·g
 
 -- ---- a number that has room: v is written to the front of the memory m, which is then y
 pub record Wrote (v : ℤ) (m : List ℕ) (r : Answer) (y : List ℕ) : Type 0 where
-  pub count : r .count ≡ length (shortest signed v)
-  pub memory : y ≡ shortest signed v ++ drop (length (shortest signed v)) m
+  pub count : r .count ≡ length (shortest signedType v)
+  pub memory : y ≡ shortest signedType v ++ drop (length (shortest signedType v)) m
 
 pub wrote-number : (v : ℤ) (m y : List ℕ) (r : Answer) → mag v < 2147483648 → outcome r y ≡ signedWritten (toZ w32 (ofZ w32 v)) m
-    → length (shortest signed v) ≤ length m → Wrote v m r y
+    → length (shortest signedType v) ≤ length m → Wrote v m r y
 unfolding signedWritten
 wrote-number v m y r small e fits =
-    let done = e ∙ ap (λ z. written (shortest signed z) m) (same-i32 v small) ∙ written-done (shortest signed v) m fits in
+    let done = e ∙ ap (λ z. written (shortest signedType z) m) (same-i32 v small) ∙ written-done (shortest signedType v) m fits in
     record { count = ap (λ x. x .answer .count) done; memory = ap (λ x. x .memory) done }

@@ -7,14 +7,14 @@ use mathlib.Core.List.{List, [], _∷_, _++_, append-nil}
 use lib.ListN.{length, take, drop, getD, length-append, take-append-drop}
 use lib.Seq.{take-suc, take-all, length-take-le}
 use lib.IntN.{ℤ, pos}
-use Rattle.adaptive.specs.Number.{signed, shortest}
+use Rattle.adaptive.specs.Number.{signedType, shortest}
 use Rattle.sheet_format.specs.Line.{lineBytes}
 use Rattle.sheet_format.specs.Line.Laws.{length-lineBytes}
 use Rattle.sheet_format.specs.Line.Steps.{lineBytes-append}
 
 -- the bytes of number i
 abbrev pub bytesAt : List ℤ → ℕ → List ℕ
-bytesAt vs i = shortest signed (getD vs i (pos 0))
+bytesAt vs i = shortest signedType (getD vs i (pos 0))
 
 -- the first i of the numbers vs take so many bytes
 pub record NumbersReached (vs : List ℤ) (bytes i : ℕ) : Type 0 where

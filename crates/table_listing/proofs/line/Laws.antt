@@ -4,7 +4,7 @@ use native.Mathlib.Omega.{arith}
 use mathlib.Core.Path.{_≡_, refl, sym, ap, _∙_}
 use mathlib.Core.List.{List, map}
 use lib.ListN.{length, getD}
-use Rattle.row_format.specs.Table.{codeword, codewordAt, signed, entryDifference}
+use Rattle.row_format.specs.Table.{codeword, codewordAt, signedDifference, entryDifference}
 use Rattle.row_format.specs.Table.Laws.{length-codeword}
 use Rattle.prefix_free.specs.Branch.Laws.{getD-codeword}
 use Rattle.text.specs.Put.{Put}
@@ -27,10 +27,10 @@ module _ (t : List ℕ) (p : ℕ) where
   unfolding name
   name-bias e = rw e
 
-  pub name-entry : 3 ≤ p → integer (signed (entryDifference t (p - 3))) ≡ name t p
+  pub name-entry : 3 ≤ p → integer (signedDifference (entryDifference t (p - 3))) ≡ name t p
   name-entry h = go p h
     where
-      go : (q : ℕ) → 3 ≤ q → integer (signed (entryDifference t (q - 3))) ≡ name t q
+      go : (q : ℕ) → 3 ≤ q → integer (signedDifference (entryDifference t (q - 3))) ≡ name t q
       go zero l = absurd (omega arith)
       go (suc zero) l = absurd (omega arith)
       go (suc (suc zero)) l = absurd (omega arith)

@@ -10,7 +10,7 @@ use lib.ListN.{length, getD, length-map, length-append}
 use Rattle.text.specs.Text.{ascii, digit}
 use Rattle.text.specs.Text.Laws.{length-integer}
 use Rattle.row_format.specs.Lists.Laws.{by-test}
-use Rattle.row_format.specs.Table.{codeword, codewordAt, signed, entryDifference}
+use Rattle.row_format.specs.Table.{codeword, codewordAt, signedDifference, entryDifference}
 use Rattle.row_format.specs.Table.Laws.{length-codeword}
 use Rattle.table_listing.specs.Line.{name, line}
 
@@ -24,7 +24,7 @@ pub length-bits : (w : ℕ) → length (map digit (codeword w)) ≡ w % 32
 length-bits w = length-map (codeword w) digit ∙ length-codeword w
 
 -- ---- a line is short
-natAbs-signed : (k : ℕ) → k ≤ 8186 → natAbs (signed k) < 10 ^ 4
+natAbs-signed : (k : ℕ) → k ≤ 8186 → natAbs (signedDifference k) < 10 ^ 4
 natAbs-signed k h = by-test (ltb k 4093) (λ e. rw e (omega arith)) (λ e. rw e (omega arith))
 
 name-most : (t : List ℕ) (p : ℕ) → ((i : ℕ) → p ≡ 3 + i → entryDifference t i ≤ 8186) → length (name t p) ≤ 9
@@ -33,7 +33,7 @@ name-most t zero small = omega arith
 name-most t (suc zero) small = omega arith
 name-most t (suc (suc zero)) small = omega arith
 name-most t (suc (suc (suc i))) small =
-    omega (arith, length-integer 3 (signed (entryDifference t i)) (natAbs-signed (entryDifference t i) (small i (omega arith))))
+    omega (arith, length-integer 3 (signedDifference (entryDifference t i)) (natAbs-signed (entryDifference t i) (small i (omega arith))))
 
 pub line-most : (t : List ℕ) (p : ℕ) → ((i : ℕ) → p ≡ 3 + i → entryDifference t i ≤ 8186) → length (line t p) ≤ 128
 unfolding line codewordAt

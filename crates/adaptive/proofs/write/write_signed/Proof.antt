@@ -2,8 +2,8 @@
 use mathlib.Core.Path.{_≡_, _∙_, ap}
 use lib.Signed.{mag}
 use borrow.Author.Needs.{needs}
-use Rattle.adaptive.specs.Number.{signed, twos, laterBytes, fewest}
-use Rattle.adaptive.specs.Number.Read.{bytesOf-shortest}
+use Rattle.adaptive.specs.Number.{signedType, twos, laterBytes, fewest}
+use Rattle.adaptive.specs.Number.Read.{dataBytes-shortest}
 use Rattle.adaptive.specs.Number.Laws.{laterBytes-le}
 use Rattle.adaptive.specs.Calls.{written, signedWritten}
 use Rattle.adaptive.proofs.sign.Laws.{passed}
@@ -34,11 +34,11 @@ returns c =
     let at-start = at-magnitude .before .before in
     let v = at-start .args .value in
     let f = at-start .fits .value in
-    let few : at-later .later-bytes .result ≡ fewest signed v =
+    let few : at-later .later-bytes .result ≡ fewest signedType v =
     at-later .later-bytes .ensures ∙ ap (laterBytes 4 64) (passed mag f (at-magnitude .magnitude .ensures)) in
     c .before .before .write-bytes .ensures
     ∙ ap (λ b. written b (at-start .args .out .now))
-    (bytesOf-shortest signed v few (passed twos f (at-data .data-bits .ensures)))
+    (dataBytes-shortest signedType v few (passed twos f (at-data .data-bits .ensures)))
 
 pub write-signed-spec : {M : Type 1} → statement M
 write-signed-spec =

@@ -1,7 +1,7 @@
 -- `code_table::check::judge` meets its contract: the prefix test decides. Assumes nothing.
 use mathlib.Core.Path.{sym, _∙_}
 use borrow.Author.Needs.{needs}
-use Rattle.code_table.proofs.check.Laws.{judged-free, judged-clash}
+use Rattle.code_table.proofs.check.Laws.{codewordsJudged-free, codewordsJudged-clash}
 use Rattle.code_table.proofs.check.judge.Statement.{statement}
 use Rattle.code_table.proofs.check.judge.Tie as tie
 
@@ -22,7 +22,7 @@ returns c =
     let at-prefix-free = c .before .before .before .before in
     let at-start = at-prefix-free .before .before .before in
     rw (c .greater .ensures)
-    (judged-free (at-start .args .words .now) (at-start .args .longest) (at-start .args .escape)
+    (codewordsJudged-free (at-start .args .words .now) (at-start .args .longest) (at-start .args .escape)
     (sym (at-prefix-free .prefix-free .ensures) ∙ c .before .if1 .taken))
 
 same-length-2 : tie.Need-same-length-2
@@ -32,7 +32,7 @@ returns-2 : tie.Need-returns-2
 returns-2 c =
     let at-prefix-free = c .before .before .before in
     let at-start = at-prefix-free .before .before .before in
-    judged-clash (at-start .args .words .now) (at-start .args .longest) (at-start .args .escape)
+    codewordsJudged-clash (at-start .args .words .now) (at-start .args .longest) (at-start .args .escape)
     (sym (at-prefix-free .prefix-free .ensures) ∙ c .if1 .left)
 
 pub judge-spec : {M : Type 1} → statement M

@@ -3,7 +3,7 @@ use Prim.Native.Nat.{ℕ, _+_}
 use native.Mathlib.Omega.{arith}
 use mathlib.Core.Path.{ap, _∙_}
 use mir.Facts.{toZ-ofZ}
-use Rattle.row_format.specs.Table.{signed}
+use Rattle.row_format.specs.Table.{signedDifference}
 use Rattle.code_table.specs.SignedLaws.{signed-fits}
 use Rattle.code_table.specs.Check.Laws.{whole-table-words}
 use Rattle.code_table.proofs.entry.difference_of.Statement.{statement}
@@ -26,7 +26,7 @@ returns c =
     (signed-fits (at-start .args .i + c .before .low-limit .result)
     (omega (arith, whole-table-words (at-start .args .table .now) (at-start .pre .0)))))
     ∙ c .signed-of .ensures
-    ∙ ap (λ (k : ℕ). signed (at-start .args .i + k)) (c .before .low-limit .ensures)
+    ∙ ap (λ (k : ℕ). signedDifference (at-start .args .i + k)) (c .before .low-limit .ensures)
 
 pub difference-of-spec : {M : Type 1} → statement M
 difference-of-spec =

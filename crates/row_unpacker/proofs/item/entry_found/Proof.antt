@@ -1,7 +1,7 @@
 -- `item::entry_found`: 8 where the difference leads below 0 or above 4093. Assumes nothing.
 use borrow.Author.Needs.{needs}
 use Rattle.bitstream.specs.Bits.{wordsOf}
-use Rattle.row_item.specs.Coded.{stateOf}
+use Rattle.row_item.specs.Coded.{rowState}
 use Rattle.row_unpacker.proofs.item.Laws.{entry-below, entry-above, entry-got}
 use Rattle.row_unpacker.proofs.item.entry_found.Statement.{statement}
 use Rattle.row_unpacker.proofs.item.entry_found.Tie as tie
@@ -29,7 +29,7 @@ returns c =
     let args = c .before .before .before .before .args in
     let the-low-limit = c .before .before .low-limit in
     let the-previous-of = c .before .previous-of in
-    entry-below (wordsOf (args .table .now)) (stateOf (args .p)) (args .at) (args .i) (args .len) (the-low-limit .result)
+    entry-below (wordsOf (args .table .now)) (rowState (args .p)) (args .at) (args .i) (args .len) (the-low-limit .result)
     (the-previous-of .result) (the-low-limit .ensures) (the-previous-of .ensures) (c .if1 .taken)
 
 returns-2 : tie.Need-returns-2
@@ -37,7 +37,7 @@ returns-2 c =
     let args = c .before .before .before .before .before .args in
     let the-low-limit = c .before .before .before .low-limit in
     let the-previous-of = c .before .before .previous-of in
-    entry-above (wordsOf (args .table .now)) (stateOf (args .p)) (args .at) (args .i) (args .len) (the-low-limit .result)
+    entry-above (wordsOf (args .table .now)) (rowState (args .p)) (args .at) (args .i) (args .len) (the-low-limit .result)
     (the-previous-of .result) (the-low-limit .ensures) (the-previous-of .ensures) (c .before .if1 .left) (c .if2 .taken)
 
 cast-signed-of : tie.Need-cast-signed-of
@@ -58,7 +58,7 @@ returns-3 c =
     let the-low-limit = c .before .before .before .before .low-limit in
     let the-previous-of = c .before .before .before .previous-of in
     let the-signed-of = c .signed-of in
-    entry-got (wordsOf (args .table .now)) (stateOf (args .p)) (args .at) (args .i) (args .len) (the-low-limit .result)
+    entry-got (wordsOf (args .table .now)) (rowState (args .p)) (args .at) (args .i) (args .len) (the-low-limit .result)
     (the-previous-of .result) (the-low-limit .ensures) (the-previous-of .ensures) (c .before .before .if1 .left)
     (c .before .if2 .left) (the-signed-of .result) (the-signed-of .ensures)
 

@@ -2,14 +2,14 @@
 -- lowest. Assumes nothing.
 use native.Mathlib.Omega.{arith}
 use borrow.Author.Needs.{needs}
-use Rattle.row_unpacker.proofs.search.Laws.{begun-short, begun-low}
+use Rattle.row_unpacker.proofs.search.Laws.{begunBy-short, begunBy-low}
 use Rattle.row_unpacker.proofs.search.begins_rest.Statement.{statement}
 use Rattle.row_unpacker.proofs.search.begins_rest.Tie as tie
 
 returns : tie.Need-returns
 returns c =
     let args = c .before .before .args in
-    begun-short (args .word) (args .v) (omega arith)
+    begunBy-short (args .word) (args .v) (omega arith)
 
 low-bits-requires : tie.Need-low-bits-requires
 low-bits-requires c κs = search needs
@@ -22,7 +22,7 @@ returns-2 c =
     let args = c .before .before .before .before .args in
     let the-low-bits = c .before .low-bits in
     let the-low-bits2 = c .low-bits2 in
-    begun-low (args .word) (args .v) (the-low-bits .result) (the-low-bits2 .result) (omega arith) (the-low-bits .ensures)
+    begunBy-low (args .word) (args .v) (the-low-bits .result) (the-low-bits2 .result) (omega arith) (the-low-bits .ensures)
     (the-low-bits2 .ensures)
 
 pub begins-rest-spec : {M : Type 1} → statement M

@@ -6,13 +6,13 @@ use lib.ListN.{length}
 use borrow.Author.Needs.{needs}
 use Rattle.bitstream.specs.Bits.{wordsOf}
 use Rattle.code_table.specs.Check.Laws.{length-words}
-use Rattle.row_unpacker.specs.Search.{begun}
+use Rattle.row_unpacker.specs.Search.{begunBy}
 use Rattle.row_unpacker.proofs.search.Laws.{passed-none, passed-more, finds-here, finds-nowhere, Passed}
 use Rattle.row_unpacker.proofs.search.search.Statement.{statement}
 use Rattle.row_unpacker.proofs.search.search.Tie as tie
 
 abbrev Inv-loop : tie.InvT-loop
-Inv-loop table v words i₀ i = Passed begun (wordsOf table) v i
+Inv-loop table v words i₀ i = Passed begunBy (wordsOf table) v i
 
 abbrev μ-loop : tie.MeasureT-loop
 μ-loop table v words i₀ i = length table / 4 - i
@@ -20,7 +20,7 @@ abbrev μ-loop : tie.MeasureT-loop
 loop-holds : tie.Need-loop-holds Inv-loop μ-loop
 loop-holds c =
     let args = c .before .args in
-    passed-none begun (wordsOf (args .table .now)) (args .v)
+    passed-none begunBy (wordsOf (args .table .now)) (args .v)
 
 word-at-requires : tie.Need-word-at-requires Inv-loop μ-loop
 word-at-requires c κs = search needs
@@ -53,7 +53,7 @@ loop-again c =
     let args = c .before .before .before .before .before .before .args in
     let the-loop = c .before .before .before .before .loop in
     let the-word-at = c .before .before .word-at in
-    passed-more begun (wordsOf (args .table .now)) (args .v) (the-loop .i) (the-word-at .result) (the-loop .inv)
+    passed-more begunBy (wordsOf (args .table .now)) (args .v) (the-loop .i) (the-word-at .result) (the-loop .inv)
     (the-word-at .ensures) (c .before .begins-rest .ensures) (c .if1 .left)
 
 returns-2 : tie.Need-returns-2 Inv-loop μ-loop

@@ -5,16 +5,16 @@ use native.Mathlib.Omega.{arith}
 use mathlib.Core.Path.{_≡_, refl, sym, ap, _∙_}
 use mathlib.Core.List.{List, [], _∷_, _++_, append-nil, map}
 use lib.ListN.{length, drop, length-append, length-map}
-use lib.Dec.{ltb, leb}
+use lib.Dec.{ltb}
 use lib.IntN.{ℤ}
 use Rattle.bitstream.specs.Bits.{flat, bitsOf, wordsOf, Below}
 use Rattle.bitstream.specs.Bits.Laws.{below-flat, below-cut, length-cut}
 use Rattle.answer.specs.Outcome.{_orElse_, refuseIf, Lent, nothing, roomNumber}
 use Rattle.answer.specs.Outcome.Laws.{lessNumber-none, refuseIf-in, orElse-in, orElse-none, orElse-zero-left, orElse-zero-right}
-use Rattle.row_format.specs.Lists.Laws.{by-test}
 use Rattle.row_format.specs.Row.{tooMany}
 use Rattle.row_format.specs.Row.Laws.{tooMany-zero}
-use Rattle.adaptive.specs.Number.{Front, whole, fault, before, front, Reading, accepted, rejected, signed, judged, readAs}
+use Rattle.adaptive.specs.Number.{NumberReading, accepted, rejected, signedType, readAs}
+use Rattle.adaptive.specs.Number.Read.{RejectedIn, readAs-in}
 use Rattle.sheet_format.specs.Context.{Heading, Context}
 use Rattle.sheet_format.specs.Fields.{twoBytes}
 use Rattle.sheet_format.specs.Fields.Laws.{numberOf-twoBytes, length-twoBytes, take-twoBytes, drop-twoBytes}
@@ -106,46 +106,18 @@ line-back h c x bytes given = line-written h c x bytes (tooMany-zero (length (gi
 
 -- ---- numbers: 12 or 13 at a number
 module _ (P : ℕ → Type 0) (p0 : P 0) (p12 : P 12) (p13 : P 13) where
-  abbrev FrontIn : Front → Type 0
-  FrontIn (whole bs) = Unit {0}
-  FrontIn (fault e) = P e
-
-  abbrev RejectedIn : Reading ℤ → Type 0
-  RejectedIn (accepted v n) = Unit {0}
-  RejectedIn (rejected e) = P e
-
-  before-in : (b : ℕ) (f : Front) → FrontIn f → FrontIn (before b f)
-  before-in b (whole bs) h = tt
-  before-in b (fault e) h = h
-
-  front-in : (n : ℕ) (s : List ℕ) → FrontIn (front n s)
-  unfolding front
-  front-in zero s = p13
-  front-in (suc n) [] = p12
-  front-in (suc n) (b ∷ s) =
-      let more = before-in b (front n s) (front-in n s) in
-      by-test (leb 128 b) (λ e. rw e more) (λ e. rw e tt)
-
-  judged-in : (f : Front) → FrontIn f → RejectedIn (judged signed f)
-  judged-in (whole bs) h = by-test (signed .inRange (signed .valueOf bs)) (λ e. rw e tt) (λ e. rw e p13)
-  judged-in (fault e) h = h
-
-  readAs-in : (s : List ℕ) → RejectedIn (readAs signed s)
-  unfolding readAs
-  readAs-in s = judged-in (front 5 s) (front-in 5 s)
-
   prepend-in : (v : ℤ) (u : ℕ) (x : Line) → P (faultNumber x) → P (faultNumber (prepend v u x))
   prepend-in v u (numbers vs w) h = p0
   prepend-in v u (faulty e) h = h
 
-  follow-in : (x : Reading ℤ) (f : ℕ → Line) → RejectedIn x → ((u : ℕ) → P (faultNumber (f u))) → P (faultNumber (follow x f))
+  follow-in : (x : NumberReading ℤ) (f : ℕ → Line) → RejectedIn P x → ((u : ℕ) → P (faultNumber (f u))) → P (faultNumber (follow x f))
   follow-in (accepted v u) f h rest = prepend-in v u (f u) (rest u)
   follow-in (rejected e) f h rest = h
 
   readLine-in : (n : ℕ) (s : List ℕ) → P (faultNumber (readLine n s))
   unfolding readLine
   readLine-in zero s = p0
-  readLine-in (suc n) s = follow-in (readAs signed s) _ (readAs-in s) (λ u. readLine-in n (drop u s))
+  readLine-in (suc n) s = follow-in (readAs signedType s) _ (readAs-in signedType P p12 p13 s) (λ u. readLine-in n (drop u s))
 
 lineOwn-in : (P : ℕ → Type 0) → ListedBody P → (m : Lent) → ((n : ℕ) → P (roomNumber m n)) → (c : Context) (b : List ℕ)
     → P (lineOwn m c b)

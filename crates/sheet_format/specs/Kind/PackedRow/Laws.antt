@@ -18,7 +18,7 @@ use Rattle.row_format.specs.Row.{fresh, pixelsOf, itemsFor, rowBits, rowBytes, 
 use Rattle.row_format.specs.Row.Laws.{length-pixelsOf, tooMany-zero}
 use Rattle.row_format.specs.Reading.{Run, done, stop, runNumber, pixelsOfRun, readItems, withoutStray, firstNumber, rowReading}
 use Rattle.row_format.specs.Theorems.Bounds.{length-rowBits}
-use Rattle.row_format.specs.Theorems.Done.{Gives, rowReading-gives}
+use Rattle.row_format.specs.Theorems.Done.{GivesRow, rowReading-gives}
 use Rattle.row_format.specs.Theorems.Numbers.{StopIn, tableNumber-in, rowReading-stops, rowReading-number-in}
 use Rattle.row_format.specs.Theorems.RoundTrip.{rowReading-rowBytes, pixelsOf-itemsFor}
 use Rattle.row_format.specs.Theorems.Words.{bytesOf-halvesOf}
@@ -68,7 +68,7 @@ packed-most c b e =
     omega (arith, tooMany-zero (pixelCount b) (orElse-zero-right (tableNumber (tableFor c (rowHeading b))) (tooMany (pixelCount b)) e))
 
 -- ---- the pixels that are read
-run-size : (n : ℕ) (x : Run) → StopIn (λ e. 0 < e) x → Gives nothing n x → runNumber x ≡ 0
+run-size : (n : ℕ) (x : Run) → StopIn (λ e. 0 < e) x → GivesRow nothing n x → runNumber x ≡ 0
     → length (pixelBytes (pixelsOfRun x)) ≡ 2 * n
 run-size n (done is u) real given e =
     let ps = pixelsOf fresh is in

@@ -5,7 +5,7 @@ use native.Mathlib.Omega.{arith}
 use mathlib.Core.Path.{_∙_, ap}
 use lib.ListN.{length}
 use borrow.Author.Needs.{needs}
-use Rattle.adaptive.specs.Number.{signed, shortest}
+use Rattle.adaptive.specs.Number.{signedType, shortest}
 use Rattle.sheet_format.specs.Kind.ContourLine.{givenNumbers}
 use Rattle.sheet_writer.proofs.number.Laws.{same-i32, length-given}
 use Rattle.sheet_writer.proofs.numbers.Laws.{NumbersReached, reached-none, reached-more, reached-most, reached-all}
@@ -35,7 +35,7 @@ loop-again c =
     let number = c .before .number-at in
     let size =
     c .number-bytes .ensures
-    ∙ ap (λ z. length (shortest signed z)) (same-i32 (number .result) (number .ok) ∙ number .ensures) in
+    ∙ ap (λ z. length (shortest signedType z)) (same-i32 (number .result) (number .ok) ∙ number .ensures) in
     reached-more (givenNumbers s) (at-loop .loop .i) (omega (arith, length-given s)) (at-loop .loop .bytes) (at-loop .loop .inv)
     (c .number-bytes .result) size
 

@@ -9,13 +9,13 @@ use lib.ListN.{length, drop, getD, drop-of-length-le}
 use lib.Seq.{drop-cons}
 use lib.Dec.{lit<}
 use lib.Arith.{digits-lt}
-use Rattle.adaptive.specs.Number.{Front, whole, fault, before, front, dataOf}
+use Rattle.adaptive.specs.Number.{NumberFront, whole, fault, byteBefore, front, dataOf}
 use Rattle.adaptive.specs.Number.Laws.{pow-128-le, front-more, front-last}
 use Rattle.adaptive.specs.Gather.{gatheredOf}
 use Rattle.adaptive.specs.declared.gather.Gathered.{Gathered}
 
 -- the answer where i bytes with the data bits d stand before a front
-abbrev pub after : ℕ → ℕ → Front → Gathered
+abbrev pub after : ℕ → ℕ → NumberFront → Gathered
 after d i (whole bs) =
     record {
       number = 0;
@@ -25,11 +25,11 @@ after d i (whole bs) =
     }
 after d i (fault e) = gatheredOf (fault e)
 
-after-none : (f : Front) → gatheredOf f ≡ after 0 0 f
+after-none : (f : NumberFront) → gatheredOf f ≡ after 0 0 f
 after-none (whole bs) = rw (zero-mul (128 ^ length bs), zero-add (dataOf bs), zero-add (length bs))
 after-none (fault e) = refl
 
-after-more : (d i b : ℕ) (f : Front) → after d i (before b f) ≡ after (d * 128 + b % 128) (i + 1) f
+after-more : (d i b : ℕ) (f : NumberFront) → after d i (byteBefore b f) ≡ after (d * 128 + b % 128) (i + 1) f
 unfolding dataOf
 after-more d i b (whole bs) =
     let n = length bs in
@@ -79,7 +79,7 @@ module _ {s : List ℕ} {d span i : ℕ} (t : Taken s d span i) where
       → Taken s (d * 128 + getD s i 0 % 128) (span * 128) (i + 1)
   taken-more h g b =
       let rest = front (5 - (i + 1)) (drop (i + 1) s) in
-      let turn : front (5 - i) (drop i s) ≡ before (getD s i 0) rest =
+      let turn : front (5 - i) (drop i s) ≡ byteBefore (getD s i 0) rest =
       next s i h g ∙ front-more (5 - (i + 1)) (getD s i 0) (drop (i + 1) s) b in
       record {
         most = omega arith;

@@ -6,7 +6,7 @@ use mathlib.Core.Path.{_≡_, sym, _∙_}
 use mathlib.Core.List.{List, [], _∷_, _++_, append-assoc}
 use lib.ListN.{length, drop, set, length-set}
 use lib.Seq.{drop-cons, drop-set-lt, getD-set-same}
-use Rattle.adaptive.specs.Number.{continued, bytesOf}
+use Rattle.adaptive.specs.Number.{continued, dataBytes}
 
 drop-set : (l : List ℕ) (i a : ℕ) → i < length l → drop i (set l i a) ≡ a ∷ drop (suc i) l
 drop-set l i a h =
@@ -15,8 +15,8 @@ drop-set l i a h =
 
 -- the last byte is written
 pub put-last : (k d : ℕ) (l : List ℕ) → k < length l
-    → continued k (d / 128) ++ drop k (set l k (d % 128)) ≡ bytesOf k d ++ drop (suc k) l
-unfolding bytesOf
+    → continued k (d / 128) ++ drop k (set l k (d % 128)) ≡ dataBytes k d ++ drop (suc k) l
+unfolding dataBytes
 put-last k d l h =
     rw (drop-set l k (d % 128) h) (sym (append-assoc (continued k (d / 128)) (d % 128 ∷ []) (drop (suc k) l)))
 

@@ -7,7 +7,7 @@ use lib.ListN.{length, take, drop, getD, take-append-drop}
 use lib.Seq.{drop-drop, length-take-le}
 use Rattle.bitstream.specs.Bits.{digits, flat, bytesOf, wordsFor, Below, pad}
 use Rattle.bitstream.specs.Bits.Laws.{below-cut, below-take, length-cut, flat-cut}
-use Rattle.bitstream.specs.Writer.{held, Ready, Closable, Put, Finished, Good}
+use Rattle.bitstream.specs.Writer.{heldBits, Ready, Closable, FieldPut, Finished, Good}
 use Rattle.bitstream.specs.declared.writer.Writer.{Writer}
 use Rattle.row_format.specs.BitLaws.{bitsOf-inj}
 use Rattle.row_format.specs.Row.{fresh, rowBits}
@@ -24,7 +24,7 @@ use Rattle.row_packer.specs.declared.encode.Encoded.{Encoded}
 pub record Writing (t ps m o : List ℕ) (w : Writer) (p : Progress) (i : ℕ) : Type 0 where
   pub within : i ≤ length ps
   pub sound : Sound p
-  pub whole : held o w ++ remaining t ps p i ≡ rowBits t ps
+  pub whole : heldBits o w ++ remaining t ps p i ≡ rowBits t ps
   pub good : Good w
   pub sum : 32 * (w .words) + (w .count + length (remaining t ps p i)) ≡ length (rowBits t ps)
   pub size : length o ≡ length m
@@ -65,7 +65,7 @@ module _
           fits = omega (arith, s .sum, s .size, length-remaining-more t ps i h e en);
         }
 
-    pub writing-more : {o′ : List ℕ} {w′ : Writer} → Put o w (r .field .bits) (r .field .len) o′ w′ → length o′ ≡ length o
+    pub writing-more : {o′ : List ℕ} {w′ : Writer} → FieldPut o w (r .field .bits) (r .field .len) o′ w′ → length o′ ≡ length o
         → Writing t ps m o′ w′ (r .next) (i + 1)
     writing-more {o′} {w′} put same =
         let bits = digits (r .field .len) (r .field .bits) in
@@ -76,8 +76,8 @@ module _
           sound = en .sound;
           whole =
               ap (_++ left) (put .bits)
-              ∙ append-assoc (held o w) bits left
-              ∙ ap (held o w ++_) (sym (remaining-more t ps i h e en))
+              ∙ append-assoc (heldBits o w) bits left
+              ∙ ap (heldBits o w ++_) (sym (remaining-more t ps i h e en))
               ∙ s .whole;
           good = put .good;
           sum = omega (arith, put .size, s .sum, length-remaining-more t ps i h e en);
@@ -93,8 +93,8 @@ module _
     pub written-bits : 32 * (w .words) + w .count ≡ length (rowBits t ps)
     written-bits = omega (arith, s .sum, ap length end)
 
-    held-all : held o w ≡ rowBits t ps
-    held-all = sym (append-nil (held o w)) ∙ ap (held o w ++_) (sym end) ∙ s .whole
+    held-all : heldBits o w ≡ rowBits t ps
+    held-all = sym (append-nil (heldBits o w)) ∙ ap (heldBits o w ++_) (sym end) ∙ s .whole
 
     pub written-closable : Closable o w
     written-closable = record { good = s .good; fits = rw written-bits (omega (arith, s .size)) }

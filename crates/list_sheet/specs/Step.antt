@@ -31,7 +31,7 @@ abbrev pub tableAfter : RecordRead → List ℕ → List ℕ → List ℕ
 tableAfter a kept b = tableKept (holdsOf a) kept (take (a .length - 6) (drop 6 b))
 
 -- the table is within its memory, and there are no more rows than records, so that no sum runs over
-pub record Fits (p : Progress) (table : List ℕ) : Type 0 where
+pub record CarriedFits (p : Progress) (table : List ℕ) : Type 0 where
   pub kept : p .kept ≤ length table
   pub rows : p .rows ≤ p .index
 

@@ -16,7 +16,7 @@ ghost use Rattle.sheet_format.specs.Kinds.{kindOf};
 ghost use Rattle.sheet_listing.specs.Line.{lastLine};
 ghost use Rattle.sheet_listing.specs.Listing.{rowsOf};
 ghost use Rattle.sheet_listing.specs.Turns.{endNumber, turnOf};
-ghost use Rattle.list_sheet.specs.Step.{carriedBy, turnedBy, endTurn, tableAfter, Fits, TurnMade};
+ghost use Rattle.list_sheet.specs.Step.{carriedBy, turnedBy, endTurn, tableAfter, CarriedFits, TurnMade};
 
 // What is carried from record to record.
 // state    what the sheet holds so far
@@ -70,10 +70,10 @@ pub fn take_turn(
     requires { ⌜ 32772 ≤ length (now table) ⌝ }
     requires { ⌜ 128 ≤ length (now line) ⌝ }
     requires { ⌜ at .index < 18446744073709551615 ⌝ }
-    requires { ⌜ Fits at (now table) ⌝ }
+    requires { ⌜ CarriedFits at (now table) ⌝ }
     ensures taken { λ r. ⌜ r .taken ≤ 32778 ⌝ }
     ensures line { λ r. ⌜ r .count ≤ length (now (line .exit)) ⌝ }
-    ensures fits { λ r. ⌜ Fits (r .next) (now (table .exit)) ⌝ }
+    ensures fits { λ r. ⌜ CarriedFits (r .next) (now (table .exit)) ⌝ }
     ensures made { λ r. ⌜ (r .failed ≡ false → TurnMade (take (r .taken) (now (bytes .exit))) at (now (table .entry)) r (now (table .exit)) (now (line .exit))) ⌝ }
 {
     let got = fill_record(file, name, bytes);
@@ -130,10 +130,10 @@ fn list_one(bytes: &[u8], table: &mut [u8], line: &mut [u8], at: Progress) -> Tu
     requires { ⌜ 32772 ≤ length (now table) ⌝ }
     requires { ⌜ 128 ≤ length (now line) ⌝ }
     requires { ⌜ at .index < 18446744073709551615 ⌝ }
-    requires { ⌜ Fits at (now table) ⌝ }
+    requires { ⌜ CarriedFits at (now table) ⌝ }
     ensures taken { λ r. ⌜ r .taken ≡ length (now (bytes .entry)) ⌝ }
     ensures line { λ r. ⌜ r .count ≤ length (now (line .exit)) ⌝ }
-    ensures fits { λ r. ⌜ Fits (r .next) (now (table .exit)) ⌝ }
+    ensures fits { λ r. ⌜ CarriedFits (r .next) (now (table .exit)) ⌝ }
     ensures made { λ r. ⌜ turnedBy r (now (table .exit)) (now (line .exit)) ≡ turnOf (carriedBy at (now (table .entry))) (now (bytes .entry)) ⌝ }
 {
     let kept = at.kept;

@@ -55,11 +55,11 @@ givenItem r =
     record { number = 0; kind = itemKind (r .item); step = itemStep (r .item); pixel = r .pixel; place = flatPlace (r .place) }
 
 -- the table, as at every call; then 11 for a begun that no reading has: it is 0 or 1
-abbrev pub nextNumber : List ℕ → ReaderPlace → ℕ
-nextNumber tb p = tableNumber tb orElse refuseIf (ltb 1 (p .begun)) 11
+abbrev pub itemFirstNumber : List ℕ → ReaderPlace → ℕ
+itemFirstNumber tb p = tableNumber tb orElse refuseIf (ltb 1 (p .begun)) 11
 
 -- the item at a place, "1, 2, 3" first; then what a reader under this table gives at that place
 unfoldable pub nextItem : List ℕ → List ℕ → ReaderPlace → ItemAnswer
 nextItem tb wb p =
     let r : ItemRead = itemRead tb wb (placeOf p) in
-    unless (nextNumber tb p orElse r .number) (refusedItem p) (givenItem r)
+    unless (itemFirstNumber tb p orElse r .number) (refusedItem p) (givenItem r)

@@ -5,7 +5,7 @@ use row_item::Progress;
 use row_reader::step::Place;
 ghost use mathlib.Core.Path.{_≡_};
 ghost use Prim.Native.Nat.{_≤_};
-ghost use Rattle.tahliruz.specs.Items.{nextNumber, placeOf, flatPlace, itemKind, itemStep, refusedItem};
+ghost use Rattle.tahliruz.specs.Items.{itemFirstNumber, placeOf, flatPlace, itemKind, itemStep, refusedItem};
 
 // A reader's place. at: the bit place of the next item; count: the items given; previous: the previous height; begun: 0 where
 // no pixel has become previous, else 1. Numbers of one size, so that no bytes lie unused between or after them.
@@ -36,7 +36,7 @@ pub struct ItemAnswer {
 
 // What refuses before a place is looked at as Rattle has it: the table, as at every call; then a begun that is neither 0 nor 1.
 pub fn next_number(table: &[u8], p: ReaderPlace) -> u32
-    ensures { λ r. ⌜ r ≡ nextNumber (now (table .entry)) p ⌝ }
+    ensures { λ r. ⌜ r ≡ itemFirstNumber (now (table .entry)) p ⌝ }
 {
     let number = check(table).number;
     if number != 0 {

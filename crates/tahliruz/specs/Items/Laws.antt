@@ -18,19 +18,19 @@ use Rattle.row_reader.specs.Step.Laws.{possible, itemRead-in}
 use Rattle.row_reader.specs.Theorems.{reader-possible}
 use Rattle.tahliruz.specs.declared.item.ReaderPlace.{ReaderPlace}
 use Rattle.tahliruz.specs.declared.item.ItemAnswer.{ItemAnswer}
-use Rattle.tahliruz.specs.Items.{placeOf, bitOf, flatPlace, itemKind, itemStep, refusedItem, givenItem, nextNumber, nextItem}
+use Rattle.tahliruz.specs.Items.{placeOf, bitOf, flatPlace, itemKind, itemStep, refusedItem, givenItem, itemFirstNumber, nextItem}
 
 module _ (tb wb : List ℕ) (p : ReaderPlace) where
   abbrev read : ItemRead
   read = itemRead tb wb (placeOf p)
 
   -- before the place is looked at
-  pub next-first : (n : ℕ) → n ≡ nextNumber tb p → (n ≡ 0 → ⊥) → refusedItem p n ≡ nextItem tb wb p
+  pub next-first : (n : ℕ) → n ≡ itemFirstNumber tb p → (n ≡ 0 → ⊥) → refusedItem p n ≡ nextItem tb wb p
   unfolding nextItem
   next-first n is h = rw (← is) (sym (unless-first n (read .number) (refusedItem p) (givenItem read) h))
 
   -- x is the reading, as it was had
-  module _ (none : 0 ≡ nextNumber tb p) (x : ItemRead) (e : x ≡ read) where
+  module _ (none : 0 ≡ itemFirstNumber tb p) (x : ItemRead) (e : x ≡ read) where
     -- the place after an item is a possible one, so that its bits fit 32 bits
     pub next-at : x .number ≡ 0 → x .place .at ≤ 4294967295
     next-at h =
@@ -55,7 +55,7 @@ pub nextItem-kept : (tb wb : List ℕ) (p : ReaderPlace) → (nextItem tb wb p .
 unfolding nextItem
 nextItem-kept tb wb p =
     let r = itemRead tb wb (placeOf p) in
-    unless-in (λ (a : ItemAnswer). (a .number ≡ 0 → ⊥) → a ≡ refusedItem p (a .number)) (nextNumber tb p orElse r .number)
+    unless-in (λ (a : ItemAnswer). (a .number ≡ 0 → ⊥) → a ≡ refusedItem p (a .number)) (itemFirstNumber tb p orElse r .number)
     (refusedItem p) (givenItem r) (λ k e h. refl) (λ e h. absurd (h refl))
 
 bit-small : (b : Bool) → bitOf b ≤ 1
@@ -89,5 +89,5 @@ module _ (P : ℕ → Type 0) (p0 : P 0) (p1 : P 1) (p2 : P 2) (p3 : P 3) (p11 :
   nextItem-in tb wb p p6 p7 p8 p9 =
       let r = itemRead tb wb (placeOf p) in
       let first = orElse-in P (tableNumber tb) _ (tableNumber-in P tb p0 p1 p2 p3) (refuseIf-in P (ltb 1 (p .begun)) 11 p0 p11) in
-      rw (unless-number (λ (a : ItemAnswer). a .number) (refusedItem p) (givenItem r) (λ k. refl) (nextNumber tb p orElse r .number) refl)
-      (orElse-in P (nextNumber tb p) (r .number) first (itemRead-in P p0 p1 p2 p3 p11 tb wb (placeOf p) p6 p7 p8 p9))
+      rw (unless-number (λ (a : ItemAnswer). a .number) (refusedItem p) (givenItem r) (λ k. refl) (itemFirstNumber tb p orElse r .number) refl)
+      (orElse-in P (itemFirstNumber tb p) (r .number) first (itemRead-in P p0 p1 p2 p3 p11 tb wb (placeOf p) p6 p7 p8 p9))

@@ -9,7 +9,7 @@ use lib.Seq.{length-take-le}
 use borrow.Author.Needs.{needs}
 use Rattle.row_format.specs.Lists.Laws.{true-false}
 use Rattle.list_sheet.specs.declared.turn.Turn.{Turn}
-use Rattle.list_sheet.specs.Step.{carriedBy, Fits, Underway}
+use Rattle.list_sheet.specs.Step.{carriedBy, CarriedFits, Underway}
 use Rattle.list_sheet.specs.Step.Laws.{line-next, line-last, next-index, underway-next, underway-first}
 use Rattle.list_sheet.proofs.list.list_records.Statement.{statement}
 use Rattle.list_sheet.proofs.list.list_records.Tie as tie
@@ -17,7 +17,7 @@ use Rattle.list_sheet.proofs.list.list_records.Tie as tie
 abbrev Inv-loop : tie.InvT-loop
 Inv-loop file name bytes₀ table₀ line₀ at₀ bytes table line at =
     (length bytes ≡ length bytes₀) × (length table ≡ length table₀) × (length line ≡ length line₀)
-    × (at .index ≤ 18446744073709551615) × Fits at table × Underway (carriedBy at table)
+    × (at .index ≤ 18446744073709551615) × CarriedFits at table × Underway (carriedBy at table)
 
 abbrev μ-loop : tie.MeasureT-loop
 μ-loop file name bytes₀ table₀ line₀ at₀ bytes table line at = 18446744073709551615 - at .index

@@ -89,5 +89,6 @@ module _ (P : ℕ → Type 0) (p0 : P 0) (p1 : P 1) (p2 : P 2) (p3 : P 3) (p11 :
   nextItem-in tb wb p p6 p7 p8 p9 =
       let r = itemRead tb wb (placeOf p) in
       let first = orElse-in P (tableNumber tb) _ (tableNumber-in P tb p0 p1 p2 p3) (refuseIf-in P (ltb 1 (p .begun)) 11 p0 p11) in
-      rw (unless-number (λ (a : ItemAnswer). a .number) (refusedItem p) (givenItem r) (λ k. refl) (itemFirstNumber tb p orElse r .number) refl)
+      let number = itemFirstNumber tb p orElse r .number in
+      rw (unless-number (λ (a : ItemAnswer). a .number) (refusedItem p) (givenItem r) (λ k. refl) number refl)
       (orElse-in P (itemFirstNumber tb p) (r .number) first (itemRead-in P p0 p1 p2 p3 p11 tb wb (placeOf p) p6 p7 p8 p9))

@@ -256,7 +256,8 @@ struct tahliruz_opened tahliruz_open(const uint8_t *table, size_t table_len);
  *   1, 2, 3     the table, as in tahliruz_check
  *   11          4096 items are given; or no reading can have this place: count is
  *               above 4096, at above 27 * count, previous above 4093 or begun
- *               above 1, or begun is 0 and previous is not
+ *               above 1, or begun is 0 and previous is not; any other place is
+ *               read as it stands
  *   6, 7, 8, 9  the item is faulty, as in tahliruz_unpack
  *   0           done
  *

@@ -27,7 +27,8 @@
  *
  * Number 0 is done: the call has written the bytes that its comment names, and
  * the rest of the lent memory is as it was. Any other number is a refusal:
- * every count and value in the answer is 0, and all lent memory is as it was.
+ * every count and value in the answer is 0, but for the place that tahliruz_next
+ * was given, which it gives back, and all lent memory is as it was.
  * Where several numbers apply, the first in the order of the call's comment is
  * answered.
  */
@@ -239,7 +240,8 @@ struct tahliruz_item {
 
 /*
  * Opens a reader of the items packed under a table: checks the table, and gives
- * the place of a row's first item.
+ * the place of a row's first item. Numbers: 0, 1, 2, 3, as in tahliruz_check.
+ * Writes nothing.
  */
 struct tahliruz_opened tahliruz_open(const uint8_t *table, size_t table_len);
 
@@ -254,7 +256,8 @@ struct tahliruz_opened tahliruz_open(const uint8_t *table, size_t table_len);
  *   1, 2, 3     the table, as in tahliruz_check
  *   11          4096 items are given; or no reading can have this place: count is
  *               above 4096, at above 27 * count, previous above 4093 or begun
- *               above 1, or begun is 0 and previous is not
+ *               above 1, or begun is 0 and previous is not; any other place is
+ *               read as it stands
  *   6, 7, 8, 9  the item is faulty, as in tahliruz_unpack
  *   0           done
  *

@@ -38,7 +38,7 @@ noHeight p = ltb 4093 (p .previous)
 abbrev unbegun : Progress → Bool
 unbegun p = not (p .begun) && ltb 0 (p .previous)
 
--- no reading has this place
+-- a field of this place is none that a reading has; any other place is read as it stands
 unfoldable pub impossible : Place → Bool
 impossible pl = manyGiven pl || (farOn pl || (noHeight (pl .progress) || unbegun (pl .progress)))
 
@@ -46,7 +46,7 @@ impossible pl = manyGiven pl || (farOn pl || (noHeight (pl .progress) || unbegun
 abbrev pub openingNumber : ℕ → ℕ
 openingNumber o = cond (ltb 3 o) 11 o
 
--- what refuses before an item is read: opening's number; a place that no reading has; "after 4096 items it answers 11"
+-- what refuses before an item is read: opening's number; an impossible place; "after 4096 items it answers 11"
 unfoldable pub placeNumber : Place → ℕ
 placeNumber pl = openingNumber (pl .opening) orElse refuseIf (impossible pl) 11 orElse row.tooMany (pl .count + 1)
 

@@ -72,7 +72,7 @@ reader-unopened tb wb pl h o =
 pub reader-full : (tb wb : List ℕ) (pl : Place) → pl .opening ≡ 0 → 4096 ≤ pl .count → itemRead tb wb pl .number ≡ 11
 reader-full tb wb pl o h = itemRead-number tb wb pl 11 (placeNumber-given pl o h) (λ z. omega arith)
 
--- a place that no reading has is answered 11; where a reader opened with an accepted table stands, none of these is
+-- an impossible place is answered 11; where a reader opened with an accepted table stands is none of these
 pub reader-impossible : (tb wb : List ℕ) (pl : Place) → pl .opening ≡ 0 → impossible pl ≡ true
     → itemRead tb wb pl .number ≡ 11
 reader-impossible tb wb pl o e = itemRead-number tb wb pl 11 (placeNumber-impossible pl o e) (λ z. omega arith)

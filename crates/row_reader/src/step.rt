@@ -12,7 +12,8 @@ ghost use Rattle.row_reader.specs.Step.{startPlace, impossible, placeNum
 // at         the bit place of the next item, from bit 0 of word 0
 // count      the items given so far
 // progress   what the row has come to
-// opening    the number that opening answered: where it is not 0, every later call answers it too
+// opening    the number that opening answered: where it is not 0, every later call answers it too, and 11 where it is none of
+//            the check's
 pub struct Place {
     pub at: usize,
     pub count: u32,
@@ -81,8 +82,8 @@ fn refused(number: u32, place: Place) -> ItemRead
     }
 }
 
-// What refuses before an item is read, in this order: opening's number; 11 for a place that no reading has; "after 4096 items
-// it answers 11".
+// What refuses before an item is read, in this order: opening's number, and 11 for one that no opening comes to; 11 for a place
+// that no reading has; "after 4096 items it answers 11".
 fn place_number(place: Place) -> u32
     ensures { λ r. ⌜ r ≡ placeNumber place ⌝ }
 {

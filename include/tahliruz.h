@@ -27,9 +27,11 @@
  *
  * Number 0 is done: the call has written the bytes that its comment names, and
  * the rest of the lent memory is as it was. Any other number is a refusal:
- * every count and value in the answer is 0, and all lent memory is as it was.
- * Where several numbers apply, the first in the order of the call's comment is
- * answered.
+ * every count and value in the answer is 0, and all lent memory is as it was;
+ * only tahliruz_next gives the place back that it was given. Where several
+ * numbers apply, the first in the order of the call's comment is answered.
+ *
+ * For C99 and later and for C++11 and later.
  */
 #ifndef TAHLIRUZ_H
 #define TAHLIRUZ_H
@@ -76,12 +78,12 @@ enum tahliruz_number {
     TAHLIRUZ_STEP_OUTSIDE = 8,  /* a difference leads outside 0 to 4093 */
     TAHLIRUZ_RAW_HEIGHT = 9,    /* a height after the escape is 4094 or 4095 */
     TAHLIRUZ_UNUSED_BIT = 10,   /* an unused bit of the last used word is set */
-    TAHLIRUZ_TOO_MANY = 11,     /* more than 4096 pixels or numbers */
+    TAHLIRUZ_TOO_MANY = 11,     /* more than 4096 pixels or numbers, or a place that no reading has */
     TAHLIRUZ_BYTES_END = 12,    /* the bytes end before an adaptive-precision number does */
     TAHLIRUZ_NUMBER_RANGE = 13, /* a number's fifth byte asks for a sixth, or its value is outside its range */
     TAHLIRUZ_RECORD = 14,       /* length, fixed fields, word alignment or leftover of a record is wrong */
     TAHLIRUZ_KIND = 15,         /* the record's kind is unknown */
-    TAHLIRUZ_PLACE = 16         /* no table first, a second table, or a row number not risen */
+    TAHLIRUZ_PLACE = 16         /* no table first, a second table, or a row number not risen or above 65535 */
 };
 
 /* A number's text, in the words of the list above; "no such number" for any other. */
@@ -99,12 +101,12 @@ static inline const char *tahliruz_number_text(uint32_t number)
     case TAHLIRUZ_STEP_OUTSIDE: return "a difference leads outside 0 to 4093";
     case TAHLIRUZ_RAW_HEIGHT: return "a height after the escape is 4094 or 4095";
     case TAHLIRUZ_UNUSED_BIT: return "an unused bit of the last used word is set";
-    case TAHLIRUZ_TOO_MANY: return "more than 4096 pixels or numbers";
+    case TAHLIRUZ_TOO_MANY: return "more than 4096 pixels or numbers, or a place that no reading has";
     case TAHLIRUZ_BYTES_END: return "the bytes end before an adaptive-precision number does";
     case TAHLIRUZ_NUMBER_RANGE: return "a number's fifth byte asks for a sixth, or its value is outside its range";
     case TAHLIRUZ_RECORD: return "length, fixed fields, word alignment or leftover of a record is wrong";
     case TAHLIRUZ_KIND: return "the record's kind is unknown";
-    case TAHLIRUZ_PLACE: return "no table first, a second table, or a row number not risen";
+    case TAHLIRUZ_PLACE: return "no table first, a second table, or a row number not risen or above 65535";
     default: return "no such number";
     }
 }
@@ -239,7 +241,8 @@ struct tahliruz_item {
 
 /*
  * Opens a reader of the items packed under a table: checks the table, and gives
- * the place of a row's first item.
+ * the place of a row's first item. Numbers: 0, 1, 2, 3, as in tahliruz_check.
+ * Writes nothing.
  */
 struct tahliruz_opened tahliruz_open(const uint8_t *table, size_t table_len);
 

@@ -36,7 +36,8 @@ static unsigned pixel_at(const uint8_t *bytes, size_t i)
 static int done(const char *step, struct tahliruz_answer answer)
 {
     if (answer.number != TAHLIRUZ_DONE)
-        printf("%s: refused %u\n", step, (unsigned)answer.number);
+        printf("%s: refused %u: %s\n", step, (unsigned)answer.number,
+               tahliruz_number_text(answer.number));
     return answer.number == TAHLIRUZ_DONE;
 }
 

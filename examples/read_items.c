@@ -31,6 +31,14 @@ static void print_item(const struct tahliruz_item *item)
     printf(", next item at bit %" PRIu32 "\n", item->place.at);
 }
 
+/* Says on standard error why not, if refused. */
+static int done(const char *step, uint32_t number)
+{
+    if (number != TAHLIRUZ_DONE)
+        fprintf(stderr, "read_items: %s: refused %" PRIu32 ": %s\n", step, number, tahliruz_number_text(number));
+    return number == TAHLIRUZ_DONE;
+}
+
 int main(void)
 {
     static const uint16_t row[PIXELS] = { 766, 767, 4095, 765, 1900, 766 };
@@ -39,19 +47,20 @@ int main(void)
         pixels[2 * i] = (uint8_t)row[i];
         pixels[2 * i + 1] = (uint8_t)(row[i] >> 8);
     }
-    tahliruz_plain_table(table, sizeof table);
-    struct tahliruz_answer packed = tahliruz_pack(table, sizeof table, pixels, sizeof pixels, words, sizeof words);
-    if (packed.number != TAHLIRUZ_DONE)
+    if (!done("plain table", tahliruz_plain_table(table, sizeof table).number))
         return 1;
+    struct tahliruz_answer packed = tahliruz_pack(table, sizeof table, pixels, sizeof pixels, words, sizeof words);
+    if (!done("pack", packed.number))
+        return 1;
+    size_t words_len = 4 * (((size_t)packed.count + 31) / 32);
 
     struct tahliruz_opened opened = tahliruz_open(table, sizeof table);
-    if (opened.number != TAHLIRUZ_DONE)
+    if (!done("open", opened.number))
         return 1;
     struct tahliruz_place place = opened.place;
     while (place.count < PIXELS) {
-        struct tahliruz_item item =
-            tahliruz_next(table, sizeof table, words, 4 * ((packed.count + 31) / 32), place);
-        if (item.number != TAHLIRUZ_DONE)
+        struct tahliruz_item item = tahliruz_next(table, sizeof table, words, words_len, place);
+        if (!done("next", item.number))
             return 1;
         print_item(&item);
         place = item.place;

@@ -132,7 +132,7 @@ int main(int argc, char **argv)
     else
         printf("record %" PRIu64 " is refused %" PRIu32 ": %s\n", records, number,
                tahliruz_number_text(number));
-    if (fflush(stdout) != 0) {
+    if (fflush(stdout) != 0 || ferror(stdout)) {
         perror("read_sheet: standard output");
         return EXIT_FAILURE;
     }

@@ -27,8 +27,8 @@ static int append(uint32_t kind, uint32_t row_number, const uint8_t *content, si
                               sheet + sheet_len, sizeof sheet - sheet_len);
     /* A refusal answers no state: the sheet's is kept as it is. */
     if (written.number != TAHLIRUZ_DONE) {
-        fprintf(stderr, "write_sheet: record of kind %u: refused %u\n", (unsigned)kind,
-                (unsigned)written.number);
+        fprintf(stderr, "write_sheet: record of kind %u: refused %u: %s\n", (unsigned)kind,
+                (unsigned)written.number, tahliruz_number_text(written.number));
         return 0;
     }
     sheet_len += written.count;

@@ -27,10 +27,11 @@
  *
  * Number 0 is done: the call has written the bytes that its comment names, and
  * the rest of the lent memory is as it was. Any other number is a refusal:
- * every count and value in the answer is 0, but for the place that tahliruz_next
- * was given, which it gives back, and all lent memory is as it was.
- * Where several numbers apply, the first in the order of the call's comment is
- * answered.
+ * every count and value in the answer is 0, and all lent memory is as it was;
+ * only tahliruz_next gives the place back that it was given. Where several
+ * numbers apply, the first in the order of the call's comment is answered.
+ *
+ * For C99 and later and for C++11 and later.
  */
 #ifndef TAHLIRUZ_H
 #define TAHLIRUZ_H
@@ -77,12 +78,12 @@ enum tahliruz_number {
     TAHLIRUZ_STEP_OUTSIDE = 8,  /* a difference leads outside 0 to 4093 */
     TAHLIRUZ_RAW_HEIGHT = 9,    /* a height after the escape is 4094 or 4095 */
     TAHLIRUZ_UNUSED_BIT = 10,   /* an unused bit of the last used word is set */
-    TAHLIRUZ_TOO_MANY = 11,     /* more than 4096 pixels or numbers */
+    TAHLIRUZ_TOO_MANY = 11,     /* more than 4096 pixels or numbers, or a place that no reading has */
     TAHLIRUZ_BYTES_END = 12,    /* the bytes end before an adaptive-precision number does */
     TAHLIRUZ_NUMBER_RANGE = 13, /* a number's fifth byte asks for a sixth, or its value is outside its range */
     TAHLIRUZ_RECORD = 14,       /* length, fixed fields, word alignment or leftover of a record is wrong */
     TAHLIRUZ_KIND = 15,         /* the record's kind is unknown */
-    TAHLIRUZ_PLACE = 16         /* no table first, a second table, or a row number not risen */
+    TAHLIRUZ_PLACE = 16         /* no table first, a second table, or a row number not risen or above 65535 */
 };
 
 /* A number's text, in the words of the list above; "no such number" for any other. */
@@ -100,12 +101,12 @@ static inline const char *tahliruz_number_text(uint32_t number)
     case TAHLIRUZ_STEP_OUTSIDE: return "a difference leads outside 0 to 4093";
     case TAHLIRUZ_RAW_HEIGHT: return "a height after the escape is 4094 or 4095";
     case TAHLIRUZ_UNUSED_BIT: return "an unused bit of the last used word is set";
-    case TAHLIRUZ_TOO_MANY: return "more than 4096 pixels or numbers";
+    case TAHLIRUZ_TOO_MANY: return "more than 4096 pixels or numbers, or a place that no reading has";
     case TAHLIRUZ_BYTES_END: return "the bytes end before an adaptive-precision number does";
     case TAHLIRUZ_NUMBER_RANGE: return "a number's fifth byte asks for a sixth, or its value is outside its range";
     case TAHLIRUZ_RECORD: return "length, fixed fields, word alignment or leftover of a record is wrong";
     case TAHLIRUZ_KIND: return "the record's kind is unknown";
-    case TAHLIRUZ_PLACE: return "no table first, a second table, or a row number not risen";
+    case TAHLIRUZ_PLACE: return "no table first, a second table, or a row number not risen or above 65535";
     default: return "no such number";
     }
 }
@@ -264,7 +265,8 @@ struct tahliruz_opened tahliruz_open(const uint8_t *table, size_t table_len);
  * Where n items are given, tahliruz_unpack of n pixels with room for them gives
  * the same pixels, or refuses 10; where it is done, n items are given; where an
  * item is refused 6 to 9, it gives that number for every n that reaches the item.
- * Writes nothing.
+ * Writes nothing. The check of the table takes most of a call's time: for whole
+ * rows tahliruz_unpack, which checks once, is much quicker.
  */
 struct tahliruz_item tahliruz_next(const uint8_t *table, size_t table_len,
                                    const uint8_t *words, size_t words_len,

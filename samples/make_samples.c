@@ -62,7 +62,7 @@ static void make_row(int y, uint8_t *pixels)
 }
 
 /* Appends a record to the sheet; a refusal ends the program. */
-static void append(FILE *f, struct tahliruz_sheet *state, uint32_t kind, uint16_t row, const uint8_t *content, size_t len)
+static void append(FILE *f, struct tahliruz_sheet *state, uint32_t kind, uint32_t row, const uint8_t *content, size_t len)
 {
     static uint8_t record[TAHLIRUZ_MAX_RECORD_BYTES];
     struct tahliruz_written w = tahliruz_write_record(kind, row, content, len, plain, sizeof plain, *state, record, sizeof record);
@@ -115,7 +115,7 @@ static void make_sheet(const char *folder)
     append(f, &state, TAHLIRUZ_KIND_TABLE, 0, plain, sizeof plain);
     for (int y = 0; y < ROWS; y++) {
         make_row(y, pixels);
-        append(f, &state, y == 40 ? TAHLIRUZ_KIND_PLAIN : TAHLIRUZ_KIND_PACKED, (uint16_t)y, pixels, sizeof pixels);
+        append(f, &state, y == 40 ? TAHLIRUZ_KIND_PLAIN : TAHLIRUZ_KIND_PACKED, (uint32_t)y, pixels, sizeof pixels);
     }
     append_contour(f, &state);
     finish(f);
@@ -131,10 +131,10 @@ static void make_damaged(const char *folder)
     for (int y = 0; y < 3; y++) {
         make_row(100 + y, pixels);
         if (y < 2) {
-            append(f, &state, TAHLIRUZ_KIND_PACKED, (uint16_t)y, pixels, sizeof pixels);
+            append(f, &state, TAHLIRUZ_KIND_PACKED, (uint32_t)y, pixels, sizeof pixels);
             continue;
         }
-        tahliruz_write_record(TAHLIRUZ_KIND_PACKED, (uint16_t)y, pixels, sizeof pixels, plain, sizeof plain, state, record,
+        tahliruz_write_record(TAHLIRUZ_KIND_PACKED, (uint32_t)y, pixels, sizeof pixels, plain, sizeof plain, state, record,
                               sizeof record);
         record[0] = 2 + 4 + 8;
         record[1] = 0;
@@ -155,7 +155,7 @@ static void make_small(const char *folder)
             memcpy(few + 2 * x, pixels + 20 * x, 2);
         if (y == 220)
             memcpy(few + 14, (const uint8_t[2]){ TAHLIRUZ_BAD_PIXEL & 255, TAHLIRUZ_BAD_PIXEL >> 8 }, 2);
-        append(f, &state, y == 180 ? TAHLIRUZ_KIND_PLAIN : TAHLIRUZ_KIND_PACKED, (uint16_t)y, few, sizeof few);
+        append(f, &state, y == 180 ? TAHLIRUZ_KIND_PLAIN : TAHLIRUZ_KIND_PACKED, (uint32_t)y, few, sizeof few);
         for (int b = 0; b < 4; b++)
             edges[y / 40 * 4 + b] = (uint8_t)((uint32_t)(PIXELS / 2 - half_width(y)) >> (8 * b));
     }

@@ -33,8 +33,9 @@ fn list_sheet(file: i32, name: &[u8], bytes: &mut [u8], table: &mut [u8], line: 
         if turn.failed {
             return true;
         }
+        let taken = turn.taken;
         let count = turn.count;
-        if print_last(&line[..count]) {
+        if print_last(&bytes[..taken], &line[..count]) {
             hint_table(file, name, bytes, turn);
             return true;
         }
@@ -68,7 +69,7 @@ fn list_records(
     requires { ⌜ 128 ≤ length (now line) ⌝ }
     ensures taken { λ r. ⌜ r .turn .taken ≤ 32778 ⌝ }
     ensures line { λ r. ⌜ r .turn .count ≤ length (now (line .exit)) ⌝ }
-    ensures ends { λ r. ⌜ (r .written ≡ true → r .turn .failed ≡ false → EndLine (take (r .turn .count) (now (line .exit)))) ⌝ }
+    ensures ends { λ r. ⌜ (r .written ≡ true → r .turn .failed ≡ false → EndLine (take (r .turn .taken) (now (bytes .exit))) (take (r .turn .count) (now (line .exit)))) ⌝ }
 {
     let mut at = begin();
     while at.index < u64::MAX {
@@ -85,8 +86,9 @@ fn list_records(
                 turn,
             };
         }
+        let taken = turn.taken;
         let count = turn.count;
-        if print_line(&line[..count]) {
+        if print_line(&bytes[..taken], &line[..count]) {
             at = turn.next;
         } else {
             return Records {
@@ -101,18 +103,19 @@ fn list_records(
     }
 }
 
-// Writes the next line of a listing; nothing else of it goes out.
-fn print_line(line: &[u8]) -> bool
-    requires { ⌜ NextLine (now line) ⌝ }
+// Writes the next line of a listing; nothing else of it goes out. `held`, the bytes that its turn read, says what the line
+// must be; nothing else is done with them.
+fn print_line(held: &[u8], line: &[u8]) -> bool
+    requires { ⌜ NextLine (now held) (now line) ⌝ }
 {
     print(&PROGRAM, line)
 }
 
 // The same of its last line.
-fn print_last(line: &[u8]) -> bool
-    requires { ⌜ EndLine (now line) ⌝ }
+fn print_last(held: &[u8], line: &[u8]) -> bool
+    requires { ⌜ EndLine (now held) (now line) ⌝ }
 {
-    print_line(line)
+    print_line(held, line)
 }
 
 // Where the first record is refused: says so if the input is a table. A table has at most 32772 bytes: with four more that

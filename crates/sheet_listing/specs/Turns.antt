@@ -93,16 +93,15 @@ pub record Carries (s : List ℕ) (p : Carried) : Type 0 where
   pub index : p .index ≡ length (records newSheet s .records)
   pub rows : p .rows ≡ length (rowNumbers (records newSheet s .records))
 
--- l is the line of the next turn, for some bytes that were taken before and some that are held now
-pub record NextLine (l : List ℕ) : Type 0 where
+-- l is the line of the next turn, with these bytes held, for some that were taken before
+pub record NextLine (bytes l : List ℕ) : Type 0 where
   pub taken : List ℕ
   pub carried : Carried
-  pub bytes : List ℕ
   pub carries : Carries taken carried
   pub held : bytes ≡ heldOf bytes
   pub line : l ≡ turnOf carried bytes .line
 
 -- l is so, and is the last line of the listing of all these bytes
-pub record EndLine (l : List ℕ) : Type 0 where
-  pub next : NextLine l
-  pub last : l ≡ lastOf (sheetRead (next .taken ++ next .bytes))
+pub record EndLine (bytes l : List ℕ) : Type 0 where
+  pub next : NextLine bytes l
+  pub last : l ≡ lastOf (sheetRead (next .taken ++ bytes))

@@ -181,19 +181,18 @@ end-made {t} at table bytes is-number is-turn is-line =
 module _ {b : List ℕ} {p : Progress} {table : List ℕ} {t : Turn} {table′ line′ : List ℕ} (at : Underway (carriedBy p table))
     (turn : TurnMade b p table t table′ line′) where
   -- what is printed is the next line
-  pub line-next : NextLine (take (t .count) line′)
+  pub line-next : NextLine b (take (t .count) line′)
   line-next =
       record {
         taken = at .taken;
         carried = carriedBy p table;
-        bytes = b;
         carries = at .carries;
         held = turn .held;
         line = ap (λ (x : Turned). x .line) (turn .made);
       }
 
   -- and after the last turn the last
-  pub line-last : t .last ≡ true → EndLine (take (t .count) line′)
+  pub line-last : t .last ≡ true → EndLine b (take (t .count) line′)
   line-last last =
       end-line (at .carries) b (turn .held) (ap (λ (x : Turned). x .line) (turn .made))
       (sym (ap (λ (x : Turned). x .last) (turn .made)) ∙ last)

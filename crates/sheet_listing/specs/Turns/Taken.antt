@@ -195,10 +195,10 @@ turns-line n p t =
     (λ e. rw e (take-all (length line) line (omega arith)))
     (λ e. rw e (begins line _ refl))
 
-pub next-line : {l : List ℕ} (x : NextLine l) (t : List ℕ) → heldOf t ≡ x .bytes
+pub next-line : {b l : List ℕ} (x : NextLine b l) (t : List ℕ) → heldOf t ≡ b
     → let front = recordLines (records newSheet (x .taken) .records) in
     take (length (front ++ l)) (listing (x .taken ++ t)) ≡ front ++ l
-next-line {l} x t same =
+next-line {b} {l} x t same =
     let front = recordLines (records newSheet (x .taken) .records) in
     let line : l ≡ turnOf (x .carried) (heldOf t) .line = x .line ∙ rw same in
     let rest = turns (length t + 1) (x .carried) t in
@@ -262,9 +262,9 @@ end-is at (x ∷ b) last = end-refused at x b last
 
 -- the line of the last turn is the last line of the listing of all that was taken
 pub end-line : {l s : List ℕ} {p : Carried} → Carries s p → (b : List ℕ) → b ≡ heldOf b → l ≡ turnOf p b .line
-    → turnOf p b .last ≡ true → EndLine l
+    → turnOf p b .last ≡ true → EndLine b l
 end-line {l} {s} {p} at b held line last =
     record {
-      next = record { taken = s; carried = p; bytes = b; carries = at; held = held; line = line };
+      next = record { taken = s; carried = p; carries = at; held = held; line = line };
       last = line ∙ end-is at b last;
     }

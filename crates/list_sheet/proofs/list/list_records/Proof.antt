@@ -78,18 +78,31 @@ slice-aggregate-print-line : tie.Need-slice-aggregate-print-line Inv-loop μ-loo
 slice-aggregate-print-line c =
     let listed = c .before .before in
     let taken = listed .before .before .before .before .before .before .before in
-    sym (length-take-le (taken .take-turn .result .count) (taken .take-turn .last .1 .1 .1 .1 .0) (taken .take-turn .ensures .1 .0))
+    let turn = taken .take-turn in
+    let at-loop = taken .before .before .before .before .before .before in
+    let start = at-loop .before .before .before .before .before .before in
+    let held = turn .last .1 .1 .0 in
+    sym (length-take-le (turn .result .taken) held (omega (arith, turn .ensures .0, turn .kept, at-loop .loop .inv .0, start .pre)))
+
+slice-reshare-prefix-print-line-2 : tie.Need-slice-reshare-prefix-print-line-2 Inv-loop μ-loop
+slice-reshare-prefix-print-line-2 c = search needs
+
+slice-aggregate-print-line-2 : tie.Need-slice-aggregate-print-line-2 Inv-loop μ-loop
+slice-aggregate-print-line-2 c =
+    let listed = c .before .before .before in
+    let turn = listed .before .before .before .before .before .before .before .take-turn in
+    sym (length-take-le (turn .result .count) (turn .last .1 .1 .1 .1 .0) (turn .ensures .1 .0))
 
 print-line-requires : tie.Need-print-line-requires Inv-loop μ-loop
 print-line-requires c κs =
-    let listed = c .before .before in
+    let listed = c .before .before .before in
     let taken = listed .before .before .before .before .before .before .before in
     let at-loop = taken .before .before .before .before .before .before in
     line-next (at-loop .loop .inv .5) (taken .take-turn .ensures .1 .1 .1 (listed .if2 .left))
 
 loop-less : tie.Need-loop-less Inv-loop μ-loop
 loop-less c =
-    let on = c .before .before .before .before in
+    let on = c .before .before .before .before .before in
     let taken = on .before .before .before .before .before .before .before .before in
     let at-loop = taken .before .before .before .before .before .before in
     let turn = taken .take-turn .ensures .1 .1 .1 (on .before .if2 .left) in
@@ -98,7 +111,7 @@ loop-less c =
 
 loop-again : tie.Need-loop-again Inv-loop μ-loop
 loop-again c =
-    let on = c .before .before .before .before in
+    let on = c .before .before .before .before .before in
     let taken = on .before .before .before .before .before .before .before .before in
     let at-loop = taken .before .before .before .before .before .before in
     let turn = taken .take-turn .ensures .1 .1 .1 (on .before .if2 .left) in
@@ -123,7 +136,7 @@ same-length-9 c = search needs
 
 returns-3 : tie.Need-returns-3 Inv-loop μ-loop
 returns-3 c =
-    let listed = c .before .before .before in
+    let listed = c .before .before .before .before in
     let taken = listed .before .before .before .before .before .before .before .before in
     (taken .take-turn .ensures .0, (taken .take-turn .ensures .1 .0, λ w f. true-false w refl))
 
@@ -163,6 +176,8 @@ list-records-spec =
     returns-2
     slice-reshare-prefix-print-line
     slice-aggregate-print-line
+    slice-reshare-prefix-print-line-2
+    slice-aggregate-print-line-2
     print-line-requires
     loop-less
     loop-again

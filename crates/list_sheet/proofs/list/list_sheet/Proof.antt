@@ -1,4 +1,5 @@
 -- `list_sheet::list::list_sheet` is safe: what it prints last is the listing's last line. Assumes nothing.
+use native.Mathlib.Omega.{arith}
 use mathlib.Core.Path.{sym}
 use lib.Seq.{length-take-le}
 use borrow.Author.Needs.{needs}
@@ -28,13 +29,25 @@ slice-aggregate-print-last c =
     let turn = c .before .before in
     let listed = turn .before .before .before .before .before .before .before .before in
     let records = listed .list-records in
+    let held = records .last .1 .1 .0 in
+    sym (length-take-le (records .result .turn .taken) held (omega (arith, records .ensures .0, records .kept)))
+
+slice-reshare-prefix-print-last-2 : tie.Need-slice-reshare-prefix-print-last-2
+slice-reshare-prefix-print-last-2 c = search needs
+
+slice-aggregate-print-last-2 : tie.Need-slice-aggregate-print-last-2
+slice-aggregate-print-last-2 c =
+    let turn = c .before .before .before in
+    let listed = turn .before .before .before .before .before .before .before .before in
+    let records = listed .list-records in
     sym (length-take-le (records .result .turn .count) (records .last .1 .1 .1 .1 .0) (records .ensures .1 .0))
 
 print-last-requires : tie.Need-print-last-requires
 print-last-requires c κs =
-    let written = c .before .before .before in
+    let turn = c .before .before in
+    let written = turn .before .before in
     let listed = written .before .before .before .before .before .before .before in
-    listed .list-records .ensures .1 .1 (written .if1 .taken) (c .before .if2 .left)
+    listed .list-records .ensures .1 .1 (written .if1 .taken) (turn .if2 .left)
 
 hint-table-requires : tie.Need-hint-table-requires
 hint-table-requires c κs = search needs
@@ -86,6 +99,8 @@ list-sheet-spec =
     returns
     slice-reshare-prefix-print-last
     slice-aggregate-print-last
+    slice-reshare-prefix-print-last-2
+    slice-aggregate-print-last-2
     print-last-requires
     hint-table-requires
     same-length-4

@@ -58,7 +58,12 @@ extern "C" {
 #define TAHLIRUZ_MAX_NUMBER_BYTES 5         /* an adaptive-precision number */
 #define TAHLIRUZ_MAX_CONTENT_BYTES 16384    /* the pixels or numbers of any record */
 #define TAHLIRUZ_MAX_RECORD_BYTES 32778     /* any record of a sheet */
-#define TAHLIRUZ_TABLE_OFFSET 6             /* where a table's bytes begin in its record */
+
+/* Where a table's bytes begin in its record. */
+#define TAHLIRUZ_TABLE_OFFSET 6
+
+/* The greatest row number. */
+#define TAHLIRUZ_MAX_ROW 65535
 
 /* Pixels: 0 to 4093 are heights, two more mark bad spots. */
 #define TAHLIRUZ_MAX_HEIGHT 4093

@@ -40,16 +40,17 @@ static void written(uint32_t kind, uint32_t row, const uint8_t *content, size_t 
 
 int main(void)
 {
-    static const struct tahliruz_sheet none = { 0, 0 }, begun = { 1, 5 }, last = { 1, 65535 }, full = { 1, 65536 };
-    static const uint32_t rows[] = { 4, 5, 65535, 65536, 65541, 70000, UINT32_MAX };
+    static const struct tahliruz_sheet none = { 0, 0 }, begun = { 1, 5 };
+    static const struct tahliruz_sheet last = { 1, TAHLIRUZ_MAX_ROW }, full = { 1, TAHLIRUZ_MAX_ROW + 1 };
+    static const uint32_t rows[] = { 4, 5, TAHLIRUZ_MAX_ROW, TAHLIRUZ_MAX_ROW + 1, 65541, 70000, UINT32_MAX };
     if (tahliruz_plain_table(table, sizeof table).number != TAHLIRUZ_DONE)
         return 1;
     for (uint32_t kind = TAHLIRUZ_KIND_PACKED; kind <= TAHLIRUZ_KIND_PLAIN; kind++)
         for (size_t i = 0; i < sizeof rows / sizeof rows[0]; i++)
             written(kind, rows[i], pixel, sizeof pixel, begun, 2);
     /* the last row, and none after it */
-    written(TAHLIRUZ_KIND_PLAIN, 65535, pixel, sizeof pixel, last, 2);
-    written(TAHLIRUZ_KIND_PLAIN, 65535, pixel, sizeof pixel, full, 2);
+    written(TAHLIRUZ_KIND_PLAIN, TAHLIRUZ_MAX_ROW, pixel, sizeof pixel, last, 2);
+    written(TAHLIRUZ_KIND_PLAIN, TAHLIRUZ_MAX_ROW, pixel, sizeof pixel, full, 2);
     /* a number that is not looked at */
     written(TAHLIRUZ_KIND_TABLE, 70000, table, sizeof table, none, 2);
     written(TAHLIRUZ_KIND_LINE, 70000, table, 0, full, 2);

@@ -7,7 +7,7 @@ ghost use Rattle.row_format.specs.Table.{tableSize, signedDifference, entryDiff
 ghost use Rattle.code_table.specs.Check.{WholeTable};
 
 // The signed difference that is counted k from -4093.
-pub fn signed_of(k: u32) -> i32
+pub fn signed_difference(k: u32) -> i32
     requires { ⌜ k ≤ 8186 ⌝ }
     ensures { λ r. ⌜ r ≡ signedDifference k ⌝ }
 {
@@ -20,5 +20,5 @@ pub fn difference_of(table: &[u8], i: u32) -> i32
     requires { ⌜ i < tableSize (wordsOf (now table)) ⌝ }
     ensures { λ r. ⌜ r ≡ signedDifference (entryDifference (wordsOf (now (table .entry))) i) ⌝ }
 {
-    signed_of(i + low_limit(table))
+    signed_difference(i + low_limit(table))
 }

@@ -9,12 +9,12 @@ use Rattle.sheet_format.specs.declared.RecordRead.{RecordRead}
 use Rattle.sheet_format.specs.Kind.{tableKept}
 use Rattle.sheet_listing.specs.Line.{lastLine}
 use Rattle.sheet_listing.specs.Turns.{heldOf, holdsOf, Carried, Turned, turnOf, Carries}
-use Rattle.list_sheet.specs.declared.turn.Progress.{Progress}
+use Rattle.list_sheet.specs.declared.turn.ListProgress.{ListProgress}
 use Rattle.list_sheet.specs.declared.turn.Turn.{Turn}
 pub mod Laws
 
 -- what is carried: the sheet's table is at the front of the memory for it
-abbrev pub carriedBy : Progress → List ℕ → Carried
+abbrev pub carriedBy : ListProgress → List ℕ → Carried
 carriedBy p table = record { table = take (p .kept) table; state = p .state; index = p .index; rows = p .rows }
 
 -- what a turn comes to: its line is at the front of the memory for it
@@ -22,7 +22,7 @@ abbrev pub turnedBy : Turn → List ℕ → List ℕ → Turned
 turnedBy t table line = record { line = take (t .count) line; last = t .last; next = carriedBy (t .next) table }
 
 -- the last turn: the line with such a number
-abbrev pub endTurn : ℕ → ℕ → Progress → Turn
+abbrev pub endTurn : ℕ → ℕ → ListProgress → Turn
 endTurn taken number p =
     record { failed = false; last = true; taken = taken; count = length (lastLine number (p .index) (p .rows)); next = p }
 
@@ -31,12 +31,12 @@ abbrev pub tableAfter : RecordRead → List ℕ → List ℕ → List ℕ
 tableAfter a kept b = tableKept (holdsOf a) kept (take (a .length - 6) (drop 6 b))
 
 -- the table is within its memory, and there are no more rows than records, so that no sum runs over
-pub record CarriedFits (p : Progress) (table : List ℕ) : Type 0 where
+pub record CarriedFits (p : ListProgress) (table : List ℕ) : Type 0 where
   pub kept : p .kept ≤ length table
   pub rows : p .rows ≤ p .index
 
 -- with the bytes b, which are what is held of a record, the turn was made that the definition has
-pub record TurnMade (b : List ℕ) (p : Progress) (table : List ℕ) (t : Turn) (table′ line′ : List ℕ) : Type 0 where
+pub record TurnMade (b : List ℕ) (p : ListProgress) (table : List ℕ) (t : Turn) (table′ line′ : List ℕ) : Type 0 where
   pub held : b ≡ heldOf b
   pub made : turnedBy t table′ line′ ≡ turnOf (carriedBy p table) b
 

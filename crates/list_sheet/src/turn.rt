@@ -23,7 +23,7 @@ ghost use Rattle.list_sheet.specs.Step.{carriedBy, turnedBy, endTurn, ta
 // kept     the bytes of its table
 // index    the records listed so far
 // rows     the rows among them
-pub struct Progress {
+pub struct ListProgress {
     pub state: SheetState,
     pub kept: usize,
     pub index: u64,
@@ -40,13 +40,13 @@ pub struct Turn {
     pub last: bool,
     pub taken: usize,
     pub count: usize,
-    pub next: Progress,
+    pub next: ListProgress,
 }
 
-pub fn begin() -> Progress
+pub fn begin() -> ListProgress
     ensures { λ r. ⌜ r ≡ record { state = stateOf newSheet; kept = 0; index = 0; rows = 0 } ⌝ }
 {
-    Progress {
+    ListProgress {
         state: SheetState {
             has_table: 0,
             least_row: 0,
@@ -64,7 +64,7 @@ pub fn take_turn(
     bytes: &mut [u8],
     table: &mut [u8],
     line: &mut [u8],
-    at: Progress,
+    at: ListProgress,
 ) -> Turn
     requires { ⌜ 32778 ≤ length (now bytes) ⌝ }
     requires { ⌜ 32772 ≤ length (now table) ⌝ }
@@ -95,7 +95,7 @@ fn number_at_end(index: u64) -> u32
 }
 
 // Reading failed.
-pub fn unread(at: Progress) -> Turn
+pub fn unread(at: ListProgress) -> Turn
     ensures { λ r. ⌜ r ≡ record { failed = true; last = true; taken = 0; count = 0; next = at } ⌝ }
 {
     Turn {
@@ -108,7 +108,7 @@ pub fn unread(at: Progress) -> Turn
 }
 
 // The last line.
-fn end(taken: usize, number: u32, at: Progress, line: &mut [u8]) -> Turn
+fn end(taken: usize, number: u32, at: ListProgress, line: &mut [u8]) -> Turn
     requires { ⌜ 128 ≤ length (now line) ⌝ }
     ensures turn { λ r. ⌜ r ≡ endTurn taken number at ⌝ }
     ensures within { λ r. ⌜ r .count ≤ length (now (line .exit)) ⌝ }
@@ -125,7 +125,7 @@ fn end(taken: usize, number: u32, at: Progress, line: &mut [u8]) -> Turn
 }
 
 // The record's line goes to `line`, and a table to `table`.
-fn list_one(bytes: &[u8], table: &mut [u8], line: &mut [u8], at: Progress) -> Turn
+fn list_one(bytes: &[u8], table: &mut [u8], line: &mut [u8], at: ListProgress) -> Turn
     requires { ⌜ 0 < length (now bytes) ⌝ }
     requires { ⌜ 32772 ≤ length (now table) ⌝ }
     requires { ⌜ 128 ≤ length (now line) ⌝ }
@@ -153,7 +153,7 @@ fn list_one(bytes: &[u8], table: &mut [u8], line: &mut [u8], at: Progress) -> Tu
         last: false,
         taken: bytes.len(),
         count,
-        next: Progress {
+        next: ListProgress {
             state,
             kept,
             index: at.index + 1,

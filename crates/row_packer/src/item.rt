@@ -1,7 +1,7 @@
 // Which item a pixel gets: the one place where document 01's rule is applied. A difference is the document's step, an escape
 // its raw item.
 use crate::header::Header;
-use code_table::entry::signed_of;
+use code_table::entry::signed_difference;
 use row_item::Item;
 use row_item::Progress;
 ghost use Prim.Native.Nat.{_≤_};
@@ -25,7 +25,7 @@ pub fn item_for(header: Header, p: Progress, pixel: u32) -> Item
         return Item::Escape(pixel);
     }
     if k - header.low < header.size {
-        Item::Difference(signed_of(k))
+        Item::Difference(signed_difference(k))
     } else {
         Item::Escape(pixel)
     }

@@ -21,7 +21,7 @@ use Rattle.row_format.specs.Theorems.Bounds.{readItem-uses}
 use Rattle.row_format.specs.Theorems.Done.{unpacked-accepts}
 use Rattle.row_format.specs.Theorems.Numbers.{tableNumber-in}
 use Rattle.row_reader.specs.declared.step.Place.{Place}
-use Rattle.row_reader.specs.Step.{startPlace, impossible, readingAt, itemRead}
+use Rattle.row_reader.specs.Step.{startPlace, impossible, refusedAt, readingAt, itemRead}
 use Rattle.row_reader.specs.Step.Laws.{placeNumber-unopened, placeNumber-impossible, placeNumber-given, itemRead-number, itemRead-in}
 use Rattle.row_reader.specs.Walk.{gave, ended, walk, Handed}
 use Rattle.row_reader.specs.Walk.Laws as laws
@@ -56,9 +56,9 @@ reader-numbers tb wb pl =
     itemRead-in (λ e. any (eqb e) (0 ∷ 1 ∷ 2 ∷ 3 ∷ 11 ∷ 6 ∷ 7 ∷ 8 ∷ 9 ∷ []) ≡ true) refl refl refl refl refl tb wb pl
     refl refl refl refl
 
--- "A refusal moves nothing"; the pixel is 0
+-- "A refusal moves nothing", and gives nothing but its number
 pub reader-stays : (tb wb : List ℕ) (pl : Place) → (itemRead tb wb pl .number ≡ 0 → ⊥)
-    → (itemRead tb wb pl .place ≡ pl) × (itemRead tb wb pl .pixel ≡ 0)
+    → itemRead tb wb pl ≡ refusedAt (itemRead tb wb pl .number) pl
 reader-stays = laws.stays
 
 -- "Opening it refuses 1, 2, 3", and a reader whose opening was refused never gives an item

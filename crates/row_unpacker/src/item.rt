@@ -6,7 +6,7 @@ use crate::search::cut_short;
 use crate::search::search;
 use crate::view::View;
 use crate::view::look_ahead;
-use code_table::entry::signed_of;
+use code_table::entry::signed_difference;
 use code_table::header::low_limit;
 use code_table::header::word_at;
 use row_item::Item;
@@ -147,7 +147,7 @@ fn entry_found(table: &[u8], at: usize, p: Progress, i: usize, len: usize) -> Re
         };
     }
     Read::Got {
-        item: Item::Difference(signed_of(count as u32)),
+        item: Item::Difference(signed_difference(count as u32)),
         pixel: (height - 4093) as u32,
         next: at + len,
     }

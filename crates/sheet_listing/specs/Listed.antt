@@ -11,7 +11,7 @@ use Rattle.sheet_format.specs.declared.RecordRead.{RecordRead}
 use Rattle.sheet_format.specs.Context.{Context}
 use Rattle.sheet_format.specs.Reading.{refusedRecord, recordJudged}
 use Rattle.sheet_format.specs.Sheet.{recordHere}
-use Rattle.sheet_listing.specs.declared.Listed.{Listed}
+use Rattle.sheet_listing.specs.declared.ListedRecord.{ListedRecord}
 use Rattle.sheet_listing.specs.Line.{recordLine}
 pub mod Laws
 
@@ -24,22 +24,22 @@ unfoldable pub lineGiven : List ℕ → List ℕ → Outcome Answer
 lineGiven l m = unless (noRoom l m) (λ e. refused e m) (wrote (length l) l m)
 
 -- ---- a record judged, and its line at the front of the memory
-abbrev pub notListed : ℕ → Listed
+abbrev pub notListed : ℕ → ListedRecord
 notListed e = record { read = refusedRecord e; count = 0 }
 
 -- by the number that it is refused with, the record's or 5, and what was judged
-abbrev pub judgedListed : ℕ → RecordRead → List ℕ → List ℕ → Outcome Listed
+abbrev pub judgedListed : ℕ → RecordRead → List ℕ → List ℕ → Outcome ListedRecord
 judgedListed e a l m = unless e (λ k. outcome (notListed k) m) (writes (record { read = a; count = length l }) l m)
 
 -- an accepted record with the line l
-abbrev pub lineListed : List ℕ → RecordRead → List ℕ → Outcome Listed
+abbrev pub lineListed : List ℕ → RecordRead → List ℕ → Outcome ListedRecord
 lineListed l a m = judgedListed (noRoom l m) a l m
 
 -- the line of an accepted record fits 128 bytes
 abbrev pub LineShort : Context → List ℕ → Type 0
 LineShort c r = recordJudged c r .number ≡ 0 → length (recordLine (recordHere c r)) ≤ 128
 
-unfoldable pub recordListed : Context → List ℕ → List ℕ → Outcome Listed
+unfoldable pub recordListed : Context → List ℕ → List ℕ → Outcome ListedRecord
 recordListed c r m =
     let l : List ℕ = recordLine (recordHere c r) in
     judgedListed (recordJudged c r .number orElse noRoom l m) (recordJudged c r) l m

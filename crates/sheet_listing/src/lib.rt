@@ -21,21 +21,21 @@ ghost use Rattle.sheet_listing.specs.Line.{answerLine, lastLine};
 ghost use Rattle.sheet_listing.specs.Listed.{lineGiven, lineListed, LineShort, recordListed};
 
 // What listing a record answers: what judging it answers, and the bytes of its line. A refusal, 5 among them, has no line.
-pub struct Listed {
+pub struct ListedRecord {
     pub read: RecordRead,
     pub count: u32,
 }
 
 // The record at the front of `sheet` is judged, and its line put at the front of `out`; 5 where it does not fit. `table` is
 // the bytes of the sheet's table, `state` what the sheet holds so far. A line has at most 128 bytes.
-pub fn list_record(table: &[u8], sheet: &[u8], state: SheetState, out: &mut [u8]) -> Listed
+pub fn list_record(table: &[u8], sheet: &[u8], state: SheetState, out: &mut [u8]) -> ListedRecord
     ensures listed { λ r. ⌜ outcome r (now (out .exit)) ≡ recordListed (contextOf (now (table .entry)) state) (now (sheet .entry)) (now (out .entry)) ⌝ }
     ensures most { λ r. ⌜ LineShort (contextOf (now (table .entry)) state) (now (sheet .entry)) ⌝ }
 {
     let read = judge_record(table, sheet, state);
     let number = read.number;
     if number != 0 {
-        return Listed { read, count: 0 };
+        return ListedRecord { read, count: 0 };
     }
     let end = read.length as usize;
     let body = &sheet[6..end];
@@ -43,7 +43,7 @@ pub fn list_record(table: &[u8], sheet: &[u8], state: SheetState, out: &mut [u8]
 }
 
 // The same of a record that is accepted.
-fn list_accepted(read: RecordRead, body: &[u8], out: &mut [u8]) -> Listed
+fn list_accepted(read: RecordRead, body: &[u8], out: &mut [u8]) -> ListedRecord
     requires { ⌜ (read .kind ≡ 1 → tableNumber (now body) ≡ 0) ⌝ }
     ensures listed { λ r. ⌜ outcome r (now (out .exit)) ≡ lineListed (answerLine read (now (body .entry))) read (now (out .entry)) ⌝ }
     ensures most { λ r. ⌜ length (answerLine read (now (body .entry))) ≤ 128 ⌝ }
@@ -54,12 +54,12 @@ fn list_accepted(read: RecordRead, body: &[u8], out: &mut [u8]) -> Listed
     let full = given.number;
     let count = given.count;
     if full != 0 {
-        return Listed {
+        return ListedRecord {
             read: refused(full),
             count,
         };
     }
-    Listed { read, count }
+    ListedRecord { read, count }
 }
 
 // The last line of a listing: `done rows N` where the number is 0, else `refused N at record K`, where K is the index. It is

@@ -11,7 +11,7 @@ use Rattle.row_format.specs.Table.{codewordAt, tableNumber}
 use Rattle.text.specs.Lines.{refusedLine}
 use Rattle.table_listing.specs.Order.{order, places}
 use Rattle.table_listing.specs.Line.{line}
-use Rattle.table_listing.specs.declared.Listed.{Listed}
+use Rattle.table_listing.specs.declared.ListedLines.{ListedLines}
 pub mod Laws
 pub mod Blocks
 pub mod Answers
@@ -55,18 +55,18 @@ unfoldable pub nextNumber : List (List ℕ) → ℕ → ℕ
 nextNumber [] room = 0
 nextNumber (l ∷ ls) room = roomNumber (lent room) (length l)
 
-abbrev pub listedOf : ℕ → ℕ → ℕ → Listed
+abbrev pub listedOf : ℕ → ℕ → ℕ → ListedLines
 listedOf e n k = record { number = e; lines = n; bytes = k }
 
-abbrev pub noLines : ℕ → Listed
+abbrev pub noLines : ℕ → ListedLines
 noLines e = listedOf e 0 0
 
 -- so many of some lines
-abbrev pub linesPut : ℕ → List (List ℕ) → List ℕ → Outcome Listed
+abbrev pub linesPut : ℕ → List (List ℕ) → List ℕ → Outcome ListedLines
 linesPut n ls m = writes (listedOf 0 n (length (joined (take n ls)))) (joined (take n ls)) m
 
 -- as many as fit, unless a number refuses the call; no lines where none are left
-unfoldable pub blockOf : ℕ → List (List ℕ) → List ℕ → Outcome Listed
+unfoldable pub blockOf : ℕ → List (List ℕ) → List ℕ → Outcome ListedLines
 blockOf e ls m = unless e (λ k. outcome (noLines k) m) (linesPut (fitting (length m) ls) ls m)
 
 -- the lines that a table has from the line `first` on
@@ -74,5 +74,5 @@ abbrev pub linesFrom : List ℕ → ℕ → List (List ℕ)
 linesFrom b first = drop first (stringLines (wordsOf b))
 
 -- "1, 2, 3" for the table, then 5
-unfoldable pub block : List ℕ → ℕ → List ℕ → Outcome Listed
+unfoldable pub block : List ℕ → ℕ → List ℕ → Outcome ListedLines
 block b first m = blockOf (tableNumber b orElse nextNumber (linesFrom b first) (length m)) (linesFrom b first) m

@@ -1,5 +1,5 @@
 // A block of lines in lent memory: as many whole lines as there is room for.
-use crate::Listed;
+use crate::ListedLines;
 use crate::line::put_line;
 use text::put::put_bytes;
 ghost use mathlib.Core.Path.{_≡_};
@@ -15,7 +15,7 @@ ghost use Rattle.table_listing.specs.Listing.{listedOf, nextNumber, bloc
 ghost use Rattle.table_listing.specs.Append.{Appended, stopNumber};
 
 // The lines of the strings at some places, from the place numbered `first` on.
-pub fn list_lines(table: &[u8], list: &[u16], first: usize, out: &mut [u8]) -> Listed
+pub fn list_lines(table: &[u8], list: &[u16], first: usize, out: &mut [u8]) -> ListedLines
     requires { ⌜ WholeTable (now table) ⌝ }
     requires { ⌜ Below (3 + tableSize (wordsOf (now table))) (now list) ⌝ }
     ensures { λ r. ⌜ outcome r (now (out .exit)) ≡
@@ -32,7 +32,7 @@ pub fn list_lines(table: &[u8], list: &[u16], first: usize, out: &mut [u8]) -> L
         at = next;
         i += 1;
     }
-    Listed {
+    ListedLines {
         number: 0,
         lines: i - first,
         bytes: at,
@@ -40,17 +40,17 @@ pub fn list_lines(table: &[u8], list: &[u16], first: usize, out: &mut [u8]) -> L
 }
 
 // What is answered where the next line does not fit: 5 where it is the first.
-fn stopped(lines: usize, bytes: usize) -> Listed
+fn stopped(lines: usize, bytes: usize) -> ListedLines
     ensures { λ r. ⌜ r ≡ listedOf (stopNumber lines) lines bytes ⌝ }
 {
     if lines == 0 {
-        return Listed {
+        return ListedLines {
             number: 5,
             lines,
             bytes,
         };
     }
-    Listed {
+    ListedLines {
         number: 0,
         lines,
         bytes,

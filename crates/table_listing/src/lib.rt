@@ -18,7 +18,7 @@ ghost use Rattle.table_listing.specs.Listing.{block};
 
 // A number of document 01's table, 0 for done; how many lines a call put, and how many bytes they take. A refusal has 0 for
 // both.
-pub struct Listed {
+pub struct ListedLines {
     pub number: u32,
     pub lines: usize,
     pub bytes: usize,
@@ -27,13 +27,13 @@ pub struct Listed {
 // Puts the lines of a table's strings from the line `first` on, counted from 0, at the front of `out`: as many as fit whole,
 // and none where the listing has ended. It refuses 1, 2, 3 for the table, and 5 where the first of these lines does not fit;
 // no line has more than 128 bytes.
-pub fn list_table(table: &[u8], first: usize, out: &mut [u8]) -> Listed
+pub fn list_table(table: &[u8], first: usize, out: &mut [u8]) -> ListedLines
     ensures { λ r. ⌜ outcome r (now (out .exit)) ≡ block (now (table .entry)) first (now (out .entry)) ⌝ }
 {
     let answer = check(table);
     let number = answer.number;
     if number != 0 {
-        return Listed {
+        return ListedLines {
             number,
             lines: 0,
             bytes: 0,
@@ -52,7 +52,7 @@ fn list_strings(
     scratch: &mut [u16],
     first: usize,
     out: &mut [u8],
-) -> Listed
+) -> ListedLines
     requires { ⌜ tableNumber (now table) ≡ 0 ⌝ }
     requires { ⌜ 8190 ≤ length (now list) ⌝ }
     requires { ⌜ 8190 ≤ length (now scratch) ⌝ }

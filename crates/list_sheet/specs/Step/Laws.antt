@@ -21,7 +21,7 @@ use Rattle.sheet_format.specs.Reading.{recordJudged}
 use Rattle.sheet_format.specs.Reading.Laws.{judged-body}
 use Rattle.sheet_format.specs.Sheet.{recordHere}
 use Rattle.sheet_format.specs.Theorems.{record-length}
-use Rattle.sheet_listing.specs.declared.Listed.{Listed}
+use Rattle.sheet_listing.specs.declared.ListedRecord.{ListedRecord}
 use Rattle.sheet_listing.specs.Line.{recordLine, lastLine}
 use Rattle.sheet_listing.specs.Listed.{lineGiven, LineShort, recordListed}
 use Rattle.sheet_listing.specs.Listed.Laws.{listed-refused, recordListed-fits}
@@ -30,7 +30,7 @@ use Rattle.sheet_listing.specs.Turns.{heldOf, holdsOf, Carried, contextBy, carr
 use Rattle.sheet_listing.specs.Turns.{turnOf, NextLine, EndLine}
 use Rattle.sheet_listing.specs.Turns.Laws.{span-least, turnOf-refused, turnOf-accepted, turnOf-goes-on}
 use Rattle.sheet_listing.specs.Turns.Taken.{carries-none, carries-more, end-line}
-use Rattle.list_sheet.specs.declared.turn.Progress.{Progress}
+use Rattle.list_sheet.specs.declared.turn.ListProgress.{ListProgress}
 use Rattle.list_sheet.specs.declared.turn.Turn.{Turn}
 use Rattle.list_sheet.specs.Step.{carriedBy, endTurn, tableAfter, TurnMade, Underway}
 
@@ -99,7 +99,7 @@ module _ (l m : List ℕ) (room : 128 ≤ length m) {a : Answer} {y : List ℕ} 
   given-within = rw (given-count, memory, length-append l (drop (length l) m)) (omega arith)
 
 -- the record r was listed in such memory
-module _ (p : Carried) (r m : List ℕ) (room : 128 ≤ length m) {x : Listed} {y : List ℕ}
+module _ (p : Carried) (r m : List ℕ) (room : 128 ≤ length m) {x : ListedRecord} {y : List ℕ}
     (listed : outcome x y ≡ recordListed (contextBy p) r m)
     (most : LineShort (contextBy p) r) where
   line : List ℕ
@@ -118,8 +118,8 @@ module _ (p : Carried) (r m : List ℕ) (room : 128 ≤ length m) {x : Listed} {
   read-is =
       let number = recordJudged (contextBy p) r .number in
       by-test (eqb number 0)
-      (λ e. ap (λ (o : Outcome Listed). o .answer .read) (as-fits (eqb-true number 0 e)))
-      (λ e. ap (λ (o : Outcome Listed). o .answer .read) (as-refused (eqb-false number 0 e)))
+      (λ e. ap (λ (o : Outcome ListedRecord). o .answer .read) (as-fits (eqb-true number 0 e)))
+      (λ e. ap (λ (o : Outcome ListedRecord). o .answer .read) (as-refused (eqb-false number 0 e)))
 
   same-number : x .read .number ≡ recordJudged (contextBy p) r .number
   same-number = ap (λ (a : RecordRead). a .number) read-is
@@ -137,10 +137,10 @@ module _ (p : Carried) (r m : List ℕ) (room : 128 ≤ length m) {x : Listed} {
     read-length = rw read-is (record-length (contextBy p) r fine)
 
     count-is : x .count ≡ length line
-    count-is = ap (λ (o : Outcome Listed). o .answer .count) (as-fits fine)
+    count-is = ap (λ (o : Outcome ListedRecord). o .answer .count) (as-fits fine)
 
     memory-is : y ≡ line ++ drop (length line) m
-    memory-is = ap (λ (o : Outcome Listed). o .memory) (as-fits fine)
+    memory-is = ap (λ (o : Outcome ListedRecord). o .memory) (as-fits fine)
 
     line-is : take (x .count) y ≡ recordLine (recordHere (contextBy p) r)
     unfolding line
@@ -164,7 +164,7 @@ pub turn-ended : (p : Carried) → turnOf p [] ≡ lastTurn p (endNumber (p .ind
 unfolding turnOf
 turn-ended p = refl
 
-pub end-made : {t : Turn} {number : ℕ} {line : List ℕ} (at : Progress) (table bytes : List ℕ) → number ≡ endNumber (at .index)
+pub end-made : {t : Turn} {number : ℕ} {line : List ℕ} (at : ListProgress) (table bytes : List ℕ) → number ≡ endNumber (at .index)
     → t ≡ endTurn 0 number at
     → take (t .count) line ≡ lastLine number (at .index) (at .rows)
     → TurnMade (take (t .taken) bytes) at table t table line
@@ -178,7 +178,7 @@ end-made {t} at table bytes is-number is-turn is-line =
     }
 
 -- ---- from turn to turn
-module _ {b : List ℕ} {p : Progress} {table : List ℕ} {t : Turn} {table′ line′ : List ℕ} (at : Underway (carriedBy p table))
+module _ {b : List ℕ} {p : ListProgress} {table : List ℕ} {t : Turn} {table′ line′ : List ℕ} (at : Underway (carriedBy p table))
     (turn : TurnMade b p table t table′ line′) where
   -- what is printed is the next line
   pub line-next : NextLine b (take (t .count) line′)

@@ -73,16 +73,15 @@ module _ (tb wb : List ℕ) where
       let give = given pl (rowState (pl .progress)) (readingAt tb wb pl) in
       unless-in P (placeNumber pl) (λ e. refusedAt e pl) give (λ k e. shut k) read
 
-  pub stays : (pl : Place) → (itemRead tb wb pl .number ≡ 0 → ⊥)
-      → (itemRead tb wb pl .place ≡ pl) × (itemRead tb wb pl .pixel ≡ 0)
-  stays pl = by-place Still pl (λ e h. (refl, refl)) (λ none. still (readingAt tb wb pl))
+  pub stays : (pl : Place) → (itemRead tb wb pl .number ≡ 0 → ⊥) → itemRead tb wb pl ≡ refusedAt (itemRead tb wb pl .number) pl
+  stays pl = by-place Still pl (λ e h. refl) (λ none. still (readingAt tb wb pl))
     where
       Still : ItemRead → Type 0
-      Still r = (r .number ≡ 0 → ⊥) → (r .place ≡ pl) × (r .pixel ≡ 0)
+      Still r = (r .number ≡ 0 → ⊥) → r ≡ refusedAt (r .number) pl
 
       still : (rd : Reading) → Still (given pl (rowState (pl .progress)) rd)
       still (item i u) h = absurd (h refl)
-      still (fault e u) h = (refl, refl)
+      still (fault e u) h = refl
 
   pub moves : (pl : Place) → itemRead tb wb pl .place .at ≤ pl .at + maxItemBits (wordsOf tb)
   moves pl =

@@ -15,7 +15,7 @@ use Rattle.row_format.specs.Table.{codewordAt}
 use Rattle.text.specs.Put.{Put}
 use Rattle.text.specs.Put.Laws.{put-none, put-put, put-start}
 use Rattle.text.specs.Text.{ascii, digit}
-use Rattle.table_listing.specs.declared.Listed.{Listed}
+use Rattle.table_listing.specs.declared.ListedLines.{ListedLines}
 use Rattle.table_listing.specs.Listing.{joined, fitting, nextNumber, listedOf, blockOf}
 use Rattle.table_listing.specs.Listing.Answers.{next-fits, next-all, next-not, blockOf-refused, blockOf-done}
 use Rattle.table_listing.specs.Line.{line, name}
@@ -79,7 +79,7 @@ filling-none ls m =
     }
 
 -- what a call answers that put k lines and stops there
-abbrev pub BlockIs : List (List ℕ) → List ℕ → Listed → List ℕ → Type 0
+abbrev pub BlockIs : List (List ℕ) → List ℕ → ListedLines → List ℕ → Type 0
 BlockIs ls m r m′ = outcome r m′ ≡ blockOf (nextNumber ls (length m)) ls m
 
 module _ {ls : List (List ℕ)} {m m′ : List ℕ} {k at : ℕ} (f : Filling ls m k at m′) where

@@ -27,7 +27,7 @@ use Rattle.answer.specs.Outcome.Laws.{
 use Rattle.row_format.specs.Lists.Laws.{by-test}
 use Rattle.row_format.specs.Table.{tableNumber}
 use Rattle.row_format.specs.Theorems.Numbers.{tableNumber-in}
-use Rattle.table_listing.specs.declared.Listed.{Listed}
+use Rattle.table_listing.specs.declared.ListedLines.{ListedLines}
 use Rattle.table_listing.specs.Listing.{
   stringLines,
   lines,
@@ -112,14 +112,14 @@ module _ (b : List ℕ) (first : ℕ) (m : List ℕ) where
   abbrev most : ℕ
   most = fitting (length m) (linesFrom b first)
 
-  abbrev done : Outcome Listed
+  abbrev done : Outcome ListedLines
   done = linesPut most (linesFrom b first) m
 
   pub block-number : block b first m .answer .number ≡ tableNumber b orElse next
   unfolding block blockOf
   block-number =
-      unless-number (λ (o : Outcome Listed). o .answer .number) (λ k. outcome (noLines k) m) done (λ k. refl) (tableNumber b orElse next)
-      refl
+      unless-number (λ (o : Outcome ListedLines). o .answer .number) (λ k. outcome (noLines k) m) done (λ k. refl)
+      (tableNumber b orElse next) refl
 
   pub block-in : (P : ℕ → Type 0) → P 0 → P 1 → P 2 → P 3 → P 5 → P (block b first m .answer .number)
   block-in P p0 p1 p2 p3 p5 =
@@ -129,20 +129,20 @@ module _ (b : List ℕ) (first : ℕ) (m : List ℕ) where
   pub block-kept : (block b first m .answer .number ≡ 0 → ⊥) → Kept (noLines (block b first m .answer .number)) m (block b first m)
   unfolding block blockOf
   block-kept =
-      unless-kept noLines m done (λ (a : Listed). a .number) (λ k. refl) (tableNumber b orElse next) (λ some. absurd (some refl))
+      unless-kept noLines m done (λ (a : ListedLines). a .number) (λ k. refl) (tableNumber b orElse next) (λ some. absurd (some refl))
 
   pub block-within : Within (block b first m .answer .bytes) m (block b first m)
   unfolding block blockOf
   block-within =
       let text = joined (take most (linesFrom b first)) in
-      unless-in (λ (o : Outcome Listed). Within (o .answer .bytes) m o) (tableNumber b orElse next) (λ k. outcome (noLines k) m) done
+      unless-in (λ (o : Outcome ListedLines). Within (o .answer .bytes) m o) (tableNumber b orElse next) (λ k. outcome (noLines k) m) done
       (λ k e. record { size = refl; rest = refl })
       (λ e. writes-within (done .answer) (length text) text m refl (fitting-room (length m) (linesFrom b first)))
 
   pub block-bytes : block b first m .answer .bytes ≤ length m
   unfolding block blockOf
   block-bytes =
-      unless-in (λ (o : Outcome Listed). o .answer .bytes ≤ length m) (tableNumber b orElse next) (λ k. outcome (noLines k) m) done
+      unless-in (λ (o : Outcome ListedLines). o .answer .bytes ≤ length m) (tableNumber b orElse next) (λ k. outcome (noLines k) m) done
       (λ k e. omega arith) (λ e. fitting-room (length m) (linesFrom b first))
 
   pub block-text : take (block b first m .answer .bytes) (block b first m .memory)
@@ -150,7 +150,7 @@ module _ (b : List ℕ) (first : ℕ) (m : List ℕ) where
   unfolding block blockOf joined
   block-text =
       let text = joined (take most (linesFrom b first)) in
-      unless-in (λ (o : Outcome Listed). take (o .answer .bytes) (o .memory) ≡ joined (take (o .answer .lines) (drop first (lines b))))
+      unless-in (λ (o : Outcome ListedLines). take (o .answer .bytes) (o .memory) ≡ joined (take (o .answer .lines) (drop first (lines b))))
       (tableNumber b orElse next) (λ k. outcome (noLines k) m) done
       (λ k e. refl)
       (λ e. rw (lines-accepted b (orElse-zero-left (tableNumber b) next e)) (take-append-seam text (drop (length text) m)))

@@ -5,22 +5,22 @@ use mathlib.Core.List.{List}
 use lib.ListN.{length, take, drop}
 use Rattle.answer.specs.Outcome.{Outcome, outcome}
 use Rattle.row_format.specs.Table.{tableNumber}
-use Rattle.table_listing.specs.declared.Listed.{Listed}
+use Rattle.table_listing.specs.declared.ListedLines.{ListedLines}
 use Rattle.table_listing.specs.Listing.{lines, joined, block}
 use Rattle.table_listing.specs.Listing.Answers.{block-bytes, block-text, block-room, accepted-within, accepted-ended}
 
-module _ (b : List ℕ) (first : ℕ) (m : List ℕ) {r : Listed} {m′ : List ℕ} (e : outcome r m′ ≡ block b first m) where
+module _ (b : List ℕ) (first : ℕ) (m : List ℕ) {r : ListedLines} {m′ : List ℕ} (e : outcome r m′ ≡ block b first m) where
   answer : r ≡ block b first m .answer
-  answer = ap (λ (o : Outcome Listed). o .answer) e
+  answer = ap (λ (o : Outcome ListedLines). o .answer) e
 
   number : r .number ≡ block b first m .answer .number
-  number = ap (λ (a : Listed). a .number) answer
+  number = ap (λ (a : ListedLines). a .number) answer
 
   pub told-bytes : r .bytes ≤ length m
   told-bytes = rw answer (block-bytes b first m)
 
   pub told-text : take (r .bytes) m′ ≡ joined (take (r .lines) (drop first (lines b)))
-  told-text = rw (answer, ap (λ (o : Outcome Listed). o .memory) e) (block-text b first m)
+  told-text = rw (answer, ap (λ (o : Outcome ListedLines). o .memory) e) (block-text b first m)
 
   module _ (room : 128 ≤ length m) where
     pub told-number : r .number ≡ tableNumber b
@@ -36,4 +36,4 @@ module _ (b : List ℕ) (first : ℕ) (m : List ℕ) {r : Listed} {m′ : List �
 
       pub told-ended : r .lines ≡ 0 → length (lines b) ≤ first
       told-ended z =
-          accepted-ended b first m ok .0 (sym number ∙ none, sym (ap (λ (a : Listed). a .lines) answer) ∙ z)
+          accepted-ended b first m ok .0 (sym number ∙ none, sym (ap (λ (a : ListedLines). a .lines) answer) ∙ z)

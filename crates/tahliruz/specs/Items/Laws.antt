@@ -1,21 +1,24 @@
 -- The ways out of the item call, and its numbers. Assumes nothing.
-use Prim.Native.Nat.{ℕ, _≤_}
+use Prim.Native.Nat.{ℕ, _≤_, _<_}
 use native.Mathlib.Omega.{arith}
 use mathlib.Core.Path.{_≡_, refl, sym, ap, _∙_}
 use mathlib.Core.Bool.{Bool, true, false, not}
+use mathlib.Core.Logic.{_⊎_, ⊎-elim}
 use mathlib.Core.List.{List}
 use lib.IntN.{ℤ}
 use lib.Dec.{ltb, eqb}
-use borrow.Author.Tests.{le-ltb}
+use borrow.Author.Tests.{lt-ltb, le-ltb}
 use Rattle.answer.specs.Outcome.{_orElse_, unless}
 use Rattle.answer.specs.Outcome.Laws.{orElse-in, refuseIf-in, unless-in, unless-first, unless-refused, unless-number, orElse-zero-left}
+use Rattle.answer.specs.Outcome.Laws.{given-first, given-next}
+use Rattle.row_format.specs.Lists.Laws.{by-test}
 use Rattle.row_format.specs.Table.{tableNumber}
 use Rattle.row_format.specs.Theorems.Numbers.{tableNumber-in}
 use Rattle.row_reader.specs.declared.step.Place.{Place}
 use Rattle.row_reader.specs.declared.step.ItemRead.{ItemRead}
-use Rattle.row_reader.specs.Step.{itemRead}
+use Rattle.row_reader.specs.Step.{impossible, itemRead}
 use Rattle.row_reader.specs.Step.Laws.{possible, itemRead-in}
-use Rattle.row_reader.specs.Theorems.{reader-possible}
+use Rattle.row_reader.specs.Theorems.{reader-impossible, reader-possible}
 use Rattle.tahliruz.specs.declared.item.ReaderPlace.{ReaderPlace}
 use Rattle.tahliruz.specs.declared.item.ItemAnswer.{ItemAnswer}
 use Rattle.tahliruz.specs.Items.{placeOf, bitOf, flatPlace, itemKind, itemStep, refusedItem, givenItem, itemFirstNumber, nextItem}
@@ -48,6 +51,24 @@ module _ (tb wb : List ℕ) (p : ReaderPlace) where
         → _≡_ {A = ItemAnswer} (record { number = 0; kind = k; step = z; pixel = x .pixel; place = q }) (nextItem tb wb p)
     unfolding nextItem
     next-given k z q h ek ez eq = rw (ek, ez, eq, ← none, ← e, h)
+
+-- ---- a refused table; a place that no reading has
+module _ (tb wb : List ℕ) (p : ReaderPlace) where
+  pub nextItem-table : (tableNumber tb ≡ 0 → ⊥) → nextItem tb wb p ≡ refusedItem p (tableNumber tb)
+  nextItem-table some = sym (next-first tb wb p (tableNumber tb) (given-first (tableNumber tb) _ refl some) some)
+
+  pub nextItem-impossible : tableNumber tb ≡ 0 → (1 < p .begun) ⊎ (impossible (placeOf p) ≡ true) → nextItem tb wb p ≡ refusedItem p 11
+  nextItem-impossible ok =
+      ⊎-elim (λ many. begun (lt-ltb 1 (p .begun) many)) (λ odd. by-test (ltb 1 (p .begun)) begun (unread odd))
+    where
+      begun : ltb 1 (p .begun) ≡ true → nextItem tb wb p ≡ refusedItem p 11
+      begun many = sym (next-first tb wb p 11 (given-next ok (rw many)) (λ z. omega arith))
+
+      unread : impossible (placeOf p) ≡ true → ltb 1 (p .begun) ≡ false → nextItem tb wb p ≡ refusedItem p 11
+      unread odd few =
+          let eleven = reader-impossible tb wb (placeOf p) refl odd in
+          let none : 0 ≡ itemFirstNumber tb p = given-next ok (rw few) in
+          rw eleven at (sym (next-refused tb wb p none (itemRead tb wb (placeOf p)) refl (λ z. omega arith)))
 
 -- ---- a refusal, and a step
 pub nextItem-kept : (tb wb : List ℕ) (p : ReaderPlace) → (nextItem tb wb p .number ≡ 0 → ⊥)

@@ -12,22 +12,22 @@ use Rattle.code_table.proofs.entry.difference_of.Tie as tie
 low-limit-requires : tie.Need-low-limit-requires
 low-limit-requires c κs = omega (arith, whole-table-words (c .before .args .table .now) (c .before .pre .0))
 
-add-signed-of : tie.Need-add-signed-of
-add-signed-of c = omega (arith, whole-table-words (c .before .before .args .table .now) (c .before .before .pre .0))
+add-signed-difference : tie.Need-add-signed-difference
+add-signed-difference c = omega (arith, whole-table-words (c .before .before .args .table .now) (c .before .before .pre .0))
 
-signed-of-requires : tie.Need-signed-of-requires
-signed-of-requires c κs = omega (arith, whole-table-words (c .before .before .args .table .now) (c .before .before .pre .0))
+signed-difference-requires : tie.Need-signed-difference-requires
+signed-difference-requires c κs = omega (arith, whole-table-words (c .before .before .args .table .now) (c .before .before .pre .0))
 
 returns : tie.Need-returns
 returns c =
     let at-start = c .before .before .before in
     toZ-ofZ
-    (rw (c .signed-of .ensures)
+    (rw (c .signed-difference .ensures)
     (signed-fits (at-start .args .i + c .before .low-limit .result)
     (omega (arith, whole-table-words (at-start .args .table .now) (at-start .pre .0)))))
-    ∙ c .signed-of .ensures
+    ∙ c .signed-difference .ensures
     ∙ ap (λ (k : ℕ). signedDifference (at-start .args .i + k)) (c .before .low-limit .ensures)
 
 pub difference-of-spec : {M : Type 1} → statement M
 difference-of-spec =
-    tie.close (tie.spec low-limit-requires add-signed-of signed-of-requires returns)
+    tie.close (tie.spec low-limit-requires add-signed-difference signed-difference-requires returns)

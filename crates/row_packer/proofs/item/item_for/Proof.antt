@@ -21,14 +21,14 @@ returns-3 c =
     let height = c .before .before .before in
     chosen-below (height .before .if1 .left) (height .if2 .left) (c .if3 .taken)
 
-signed-of-requires : tie.Need-signed-of-requires
-signed-of-requires c κs = search needs
+signed-difference-requires : tie.Need-signed-difference-requires
+signed-difference-requires c κs = search needs
 
 returns-4 : tie.Need-returns-4
 returns-4 c =
     let low = c .before .before .before .before in
     let height = low .before .before .before in
-    chosen-difference (height .before .if1 .left) (height .if2 .left) (c .signed-of .ensures) (height .before .before .pre .1)
+    chosen-difference (height .before .if1 .left) (height .if2 .left) (c .signed-difference .ensures) (height .before .before .pre .1)
     (low .if3 .left) (c .before .if4 .taken)
 
 returns-5 : tie.Need-returns-5
@@ -40,4 +40,4 @@ returns-5 c =
 pub item-for-spec : {M : Type 1} → statement M
 item-for-spec =
     tie.close
-    (tie.spec returns returns-2 add-k sub-k returns-3 signed-of-requires returns-4 returns-5)
+    (tie.spec returns returns-2 add-k sub-k returns-3 signed-difference-requires returns-4 returns-5)

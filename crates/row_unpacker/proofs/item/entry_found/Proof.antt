@@ -40,11 +40,11 @@ returns-2 c =
     entry-above (wordsOf (args .table .now)) (rowState (args .p)) (args .at) (args .i) (args .len) (the-low-limit .result)
     (the-previous-of .result) (the-low-limit .ensures) (the-previous-of .ensures) (c .before .if1 .left) (c .if2 .taken)
 
-cast-signed-of : tie.Need-cast-signed-of
-cast-signed-of c = search needs
+cast-signed-difference : tie.Need-cast-signed-difference
+cast-signed-difference c = search needs
 
-signed-of-requires : tie.Need-signed-of-requires
-signed-of-requires c κs = search needs
+signed-difference-requires : tie.Need-signed-difference-requires
+signed-difference-requires c κs = search needs
 
 cast-t14 : tie.Need-cast-t14
 cast-t14 c = search needs
@@ -57,10 +57,10 @@ returns-3 c =
     let args = c .before .before .before .before .before .before .args in
     let the-low-limit = c .before .before .before .before .low-limit in
     let the-previous-of = c .before .before .before .previous-of in
-    let the-signed-of = c .signed-of in
+    let the-signed-difference = c .signed-difference in
     entry-got (wordsOf (args .table .now)) (rowState (args .p)) (args .at) (args .i) (args .len) (the-low-limit .result)
     (the-previous-of .result) (the-low-limit .ensures) (the-previous-of .ensures) (c .before .before .if1 .left)
-    (c .before .if2 .left) (the-signed-of .result) (the-signed-of .ensures)
+    (c .before .if2 .left) (the-signed-difference .result) (the-signed-difference .ensures)
 
 pub entry-found-spec : {M : Type 1} → statement M
 entry-found-spec =
@@ -74,8 +74,8 @@ entry-found-spec =
     add-height
     returns
     returns-2
-    cast-signed-of
-    signed-of-requires
+    cast-signed-difference
+    signed-difference-requires
     cast-t14
     add-t15
     returns-3)

@@ -1,11 +1,12 @@
 -- What an argument of a command line is, by its bytes, while options may still come. Definitions only; their laws are in
 -- Argument/Laws.antt. Assumes nothing.
 use Prim.Native.Nat.{ℕ, _-_}
-use mathlib.Core.Bool.{Bool, true, false, cond}
-use mathlib.Core.List.{List, [], _∷_}
+use mathlib.Core.Bool.{cond}
+use mathlib.Core.List.{List}
 use lib.ListN.{getD}
 use lib.Dec.{eqb, ltb}
 use Rattle.text.specs.Text.{ascii}
+use Rattle.text.specs.Same.{sameBytes}
 use Rattle.command.specs.declared.argument.Argument.{Argument}
 use Rattle.command.specs.declared.argument.Argument.the-variants.{Help, Version, End, Input, Unknown, Name}
 pub mod Laws
@@ -13,13 +14,6 @@ pub mod Laws
 -- how many of so many arguments are files, where `--` stands at a place: all but the program's own name and the `--`
 abbrev pub fileCount : ℕ → ℕ → ℕ
 fileCount arguments end = cond (ltb end arguments) (arguments - 2) (arguments - 1)
-
--- whether two runs of bytes are the same
-unfoldable pub sameBytes : List ℕ → List ℕ → Bool
-sameBytes [] [] = true
-sameBytes [] (y ∷ t) = false
-sameBytes (x ∷ s) [] = false
-sameBytes (x ∷ s) (y ∷ t) = cond (eqb x y) (sameBytes s t) false
 
 -- `-` alone is standard input; any other word that begins with it, byte 45, but for the options, is unknown; the
 -- rest name files

@@ -1,6 +1,7 @@
 // What an argument is, by its bytes.
+use text::same::same_bytes;
 ghost use mathlib.Core.Path.{_≡_};
-ghost use Rattle.command.specs.Argument.{sameBytes, dashedOf, argumentOf};
+ghost use Rattle.command.specs.Argument.{dashedOf, argumentOf};
 
 // Help, Version   the two options
 // End             `--`, which ends the options
@@ -45,20 +46,4 @@ fn dashed(word: &[u8]) -> Argument
         return Argument::Unknown;
     }
     Argument::Name
-}
-
-fn same_bytes(a: &[u8], b: &[u8]) -> bool
-    ensures { λ r. ⌜ r ≡ sameBytes (now (a .entry)) (now (b .entry)) ⌝ }
-{
-    if a.len() != b.len() {
-        return false;
-    }
-    let mut i = 0;
-    while i < a.len() {
-        if a[i] != b[i] {
-            return false;
-        }
-        i += 1;
-    }
-    true
 }

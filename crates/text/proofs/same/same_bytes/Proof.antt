@@ -1,14 +1,14 @@
--- `command::argument::same_bytes` meets its contract: the bytes before i are the same, so that what is left decides; the
+-- `text::same::same_bytes` meets its contract: the bytes before i are the same, so that what is left decides; the
 -- measure is what is left. Assumes nothing.
 use Prim.Native.Nat.{_-_, _≤_}
 use native.Mathlib.Omega.{arith}
 use mathlib.Core.Path.{_≡_, refl, sym, _∙_}
 use lib.ListN.{length, drop}
 use borrow.Author.Needs.{needs}
-use Rattle.command.specs.Argument.{sameBytes}
-use Rattle.command.specs.Argument.Laws as laws
-use Rattle.command.proofs.argument.same_bytes.Statement.{statement}
-use Rattle.command.proofs.argument.same_bytes.Tie as tie
+use Rattle.text.specs.Same.{sameBytes}
+use Rattle.text.specs.Same.Laws as laws
+use Rattle.text.proofs.same.same_bytes.Statement.{statement}
+use Rattle.text.proofs.same.same_bytes.Tie as tie
 
 abbrev Inv-loop : tie.InvT-loop
 Inv-loop a b i₀ i = (i ≤ length a) × (length a ≡ length b) × (sameBytes a b ≡ sameBytes (drop i a) (drop i b))

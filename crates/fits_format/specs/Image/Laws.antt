@@ -1,0 +1,1 @@
+-- The laws of Image. Assumes nothing.

@@ -1,0 +1,3 @@
+pub mod Card
+pub mod Header
+pub mod Image

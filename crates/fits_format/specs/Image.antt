@@ -14,15 +14,22 @@ use Rattle.row_format.specs.Row.{pixelBytes}
 use Rattle.sheet_format.specs.Context.{Context}
 use Rattle.sheet_format.specs.Writing.{recordFor}
 pub mod Laws
+pub mod Call
 
 -- ---- "big-endian signed pixels": two bytes, the higher one first, in two's complement
 unfoldable pub twosComplement : ℕ → ℤ
 twosComplement v = cond (ltb v 32768) (pos v) (negsuc (65535 - v))
 
--- the pixels at the front of some bytes, n of them; bytes past the end count as 0
-unfoldable pub signedPixels : ℕ → List ℕ → List ℤ
-signedPixels zero s = []
-signedPixels (suc n) s = twosComplement (256 * getD s 0 0 + getD s 1 0) ∷ signedPixels n (drop 2 s)
+-- the 16-bit number at a place, and n of them from the front of some bytes; bytes past the end count as 0
+unfoldable pub numberAt : ℕ → List ℕ → ℕ
+numberAt at s = 256 * getD s at 0 + getD s (at + 1) 0
+
+unfoldable pub bigEndian : ℕ → List ℕ → List ℕ
+bigEndian zero s = []
+bigEndian (suc n) s = numberAt 0 s ∷ bigEndian n (drop 2 s)
+
+abbrev pub signedPixels : ℕ → List ℕ → List ℤ
+signedPixels w s = map twosComplement (bigEndian w s)
 
 -- ---- "a pixel below 0 or above 4095 refused with 4, since masking would invent a height"
 abbrev pub noHeight : ℤ → Bool
@@ -44,14 +51,18 @@ imageContext r = record { tables = plainBytes ∷ []; least = r }
 unfoldable pub rowRecord : ℕ → ℕ → List ℕ → List ℕ
 rowRecord w r s = recordFor 2 (record { row = r }) (imageContext r) (pixelBytes (rowHeights w s))
 
--- ---- the call: "at each row, 18 if its bytes are cut short, then 4, then 5"; before these, what no header that is accepted
--- has: a width of 0, as an axis below 1, and more pixels or rows than 4096, as an axis above it
-unfoldable pub imageRowNumber : ℕ → ℕ → List ℕ → ℕ → ℕ
-imageRowNumber w r s roomBytes =
+-- ---- the call: "at each row, 18 if its bytes are cut short, then 4, then 5"; before these, what no accepted header has: a
+-- width of 0, refused as an axis below 1, and a width or a row past 4096, as an axis above it. n is how many bytes there are
+unfoldable pub beforePixels : ℕ → ℕ → ℕ → ℕ
+beforePixels w r n =
     refuseIf (eqb w 0) 17
     orElse refuseIf (ltb 4096 w) 11
     orElse refuseIf (ltb 4095 r) 11
-    orElse refuseIf (ltb (length s) (2 * w)) 18
+    orElse refuseIf (ltb n (2 * w)) 18
+
+unfoldable pub imageRowNumber : ℕ → ℕ → List ℕ → ℕ → ℕ
+imageRowNumber w r s roomBytes =
+    beforePixels w r (length s)
     orElse refuseIf (any noHeight (signedPixels w s)) 4
     orElse roomNumber (lent roomBytes) (length (rowRecord w r s))
 

@@ -7,7 +7,7 @@ use mathlib.Core.List.{List, [], _∷_, _++_, append-assoc, append-nil}
 use lib.ListN.{length, take, drop}
 use lib.Seq.{drop-drop}
 use Rattle.bitstream.specs.Bits.{digits, flat, cut, bytesOf}
-use Rattle.bitstream.specs.Bits.Laws.{length-cut, length-digits, cut-append}
+use Rattle.bitstream.specs.Bits.Laws.{length-cut}
 use Rattle.bitstream.specs.Memory.{overwritten}
 use Rattle.bitstream.specs.Memory.Laws.{take-overwritten, length-overwritten}
 use Rattle.row_format.specs.Table.{codewords, longest, maxItemBits}
@@ -16,6 +16,7 @@ use Rattle.row_format.specs.Row.{State, fresh, pixelOf, after, pixelsOf}
 use Rattle.row_format.specs.Row as row
 use Rattle.row_format.specs.Reading.{bitsOfReading, Reading, item, fault, Run, done, stop, prepend, follow, readBy, readItem}
 use Rattle.row_format.specs.Theorems.Bounds.{readItem-uses}
+use Rattle.row_pixels.specs.Laws.{bytes-cons}
 use Rattle.row_item.specs.declared.Item.{Item}
 use Rattle.row_item.specs.declared.Progress.{Progress}
 use Rattle.row_item.specs.Coded.{coded, progress, Followed, rowState}
@@ -41,13 +42,6 @@ pub record Partly
   pub state : p ≡ progress (rowState p)
   pub so-far : rowReached n fresh (readBy g fresh n r)
       ≡ on (take (2 * i) out) at (rowReached (n - i) (rowState p) (readBy g (rowState p) (n - i) (drop at r)))
-
--- the bytes of one pixel more
-bytes-cons : (n p : ℕ) (ps : List ℕ) → bytesOf (2 * suc n) (flat 16 (p ∷ ps)) ≡ bytesOf 2 (digits 16 p) ++ bytesOf (2 * n) (flat 16 ps)
-unfolding flat
-bytes-cons n p ps =
-    let e : 2 * suc n ≡ 2 + 2 * n = omega arith in
-    ap (λ (k : ℕ). bytesOf k (digits 16 p ++ flat 16 ps)) e ∙ cut-append 8 2 (2 * n) (digits 16 p) (flat 16 ps) (length-digits 16 p)
 
 -- ---- one item more
 rowReached-prepend : (n : ℕ) (s : State) (i : row.Item) (u : ℕ) (x : Run)

@@ -1,0 +1,134 @@
+-- The laws of the row call: what is asked before a pixel is looked at, and that the rest is what the record writer answers for
+-- a packed row under the plain table. Assumes nothing.
+use Prim.Native.Nat.{ℕ, zero, suc, _+_, _*_, _≤_, _<_}
+use native.Mathlib.Omega.{arith}
+use mathlib.Core.Path.{_≡_, refl, sym, ap, _∙_}
+use mathlib.Core.Bool.{false}
+use mathlib.Core.List.{List, [], _∷_, map}
+use lib.ListN.{length}
+use lib.Dec.{ltb, eqb}
+use borrow.Author.Tests.{le-ltb, eqb-false, ne-eqb, eq-eqb}
+use Rattle.bitstream.specs.Bits.{halvesOf, Below}
+use Rattle.answer.specs.Outcome.{Outcome, outcome, wrote, refused, answerOf, refuseIf, _orElse_, unless, lent, roomNumber}
+use Rattle.answer.specs.declared.Answer.{Answer}
+use Rattle.answer.specs.Outcome.Laws.{orElse-zero-left, orElse-zero-right, orElse-same, lessNumber-zero, lessNumber-none, lessNumber-given, refuseIf-zero, unless-part}
+use Rattle.row_format.specs.Lists.{any}
+use Rattle.row_format.specs.Row.{pixelBytes, tooMany, tooHigh}
+use Rattle.row_format.specs.Plain.{plainBytes}
+use Rattle.code_table.specs.Plain.Laws.{plain-accepted}
+use Rattle.sheet_format.specs.declared.RecordWritten.{RecordWritten}
+use Rattle.sheet_format.specs.Kind.Row.{rowPlace}
+use Rattle.sheet_format.specs.Kind.PackedRow.{packedGivenNumber}
+use Rattle.sheet_format.specs.Kinds.{kindOf}
+use Rattle.sheet_format.specs.Writing.{recordFor, recordWritten, writeNumber}
+use Rattle.fits_format.specs.Image.{twosComplement, bigEndian, signedPixels, noHeight, rowHeights, imageContext, rowRecord, beforePixels, imageRowNumber, imageRow}
+use Rattle.fits_format.specs.Image.Laws.{length-bigEndian, halvesOf-bigEndian, noHeight-any, heights-same}
+
+-- ---- before a pixel is looked at
+pub record RowStands (w r n : ℕ) : Type 0 where
+  pub some : 0 < w
+  pub narrow : w ≤ 4096
+  pub low : r ≤ 4095
+  pub there : 2 * w ≤ n
+
+module _ (w r n : ℕ) where
+  pub beforePixels-zero : beforePixels w r n ≡ 0 → RowStands w r n
+  unfolding beforePixels
+  beforePixels-zero e =
+      let e1 = orElse-zero-right (refuseIf (eqb w 0) 17) _ e in
+      let e2 = orElse-zero-right (refuseIf (ltb 4096 w) 11) _ e1 in
+      let e3 = orElse-zero-right (refuseIf (ltb 4095 r) 11) _ e2 in
+      let some : w ≡ 0 → ⊥ = eqb-false w 0 (refuseIf-zero (eqb w 0) 16 (orElse-zero-left (refuseIf (eqb w 0) 17) _ e)) in
+      record {
+        some = omega (arith, some);
+        narrow = lessNumber-zero 4096 w 10 (orElse-zero-left (refuseIf (ltb 4096 w) 11) _ e1);
+        low = lessNumber-zero 4095 r 10 (orElse-zero-left (refuseIf (ltb 4095 r) 11) _ e2);
+        there = lessNumber-zero n (2 * w) 17 e3;
+      }
+
+  pub beforePixels-stands : RowStands w r n → beforePixels w r n ≡ 0
+  unfolding beforePixels
+  beforePixels-stands h =
+      let some : eqb w 0 ≡ false = ne-eqb w 0 (λ e. absurd (omega (arith, e, h .some))) in
+      rw (some, lessNumber-none 4096 w 11 (h .narrow), lessNumber-none 4095 r 11 (h .low))
+      (lessNumber-none n (2 * w) 18 (h .there))
+
+  -- the ways out, in order
+  pub beforePixels-none : w ≡ 0 → beforePixels w r n ≡ 17
+  unfolding beforePixels
+  beforePixels-none e = rw (eq-eqb w 0 e)
+
+  module _ (some : w ≡ 0 → ⊥) where
+    pub beforePixels-wide : 4096 < w → beforePixels w r n ≡ 11
+    unfolding beforePixels
+    beforePixels-wide h = rw (ne-eqb w 0 some, lessNumber-given 4096 w 11 h)
+
+    module _ (narrow : w ≤ 4096) where
+      pub beforePixels-far : 4095 < r → beforePixels w r n ≡ 11
+      unfolding beforePixels
+      beforePixels-far h = rw (ne-eqb w 0 some, lessNumber-none 4096 w 11 narrow, lessNumber-given 4095 r 11 h)
+
+      module _ (low : r ≤ 4095) where
+        pub beforePixels-rest : beforePixels w r n ≡ refuseIf (ltb n (2 * w)) 18
+        unfolding beforePixels
+        beforePixels-rest = rw (ne-eqb w 0 some, lessNumber-none 4096 w 11 narrow, lessNumber-none 4095 r 11 low)
+
+-- ---- the record writer's answer, as the row call passes it on
+abbrev pub rowAnswer : Outcome RecordWritten → Outcome Answer
+rowAnswer o = outcome (answerOf (o .answer .number) (o .answer .count)) (o .memory)
+
+-- what differs after a refusal makes no difference
+unless-done : {A : Type 0} (e : ℕ) (refusal : ℕ → A) (x y : A) → (e ≡ 0 → x ≡ y) → unless e refusal x ≡ unless e refusal y
+unless-done zero refusal x y h = h refl
+unless-done (suc e) refusal x y h = refl
+
+module _ (w r : ℕ) (s m : List ℕ) (bytes : Below 256 s) (stands : RowStands w r (length s)) where
+  abbrev vs : List ℕ
+  vs = bigEndian w s
+
+  place-none : rowPlace (imageContext r) (record { row = r }) ≡ 0
+  unfolding rowPlace
+  place-none = rw (le-ltb r r (omega arith), le-ltb 65535 r (omega (arith, stands .low)))
+
+  given : packedGivenNumber (record { row = r }) (imageContext r) (pixelBytes vs) ≡ refuseIf (any noHeight (signedPixels w s)) 4
+  unfolding packedGivenNumber
+  given =
+      rw (
+        plain-accepted,
+        halvesOf-bigEndian w s bytes,
+        length-bigEndian w s,
+        lessNumber-none 4096 w 11 (stands .narrow),
+        noHeight-any vs,
+      )
+
+  -- a row whose pixels are heights has its record
+  own-record : refuseIf (any noHeight (signedPixels w s)) 4 ≡ 0
+      → recordFor 2 (record { row = r }) (imageContext r) (pixelBytes vs) ≡ rowRecord w r s
+  unfolding rowRecord
+  own-record e =
+      let none : any (ltb 4095) vs ≡ false = sym (noHeight-any vs) ∙ refuseIf-zero (any noHeight (signedPixels w s)) 3 e in
+      ap (λ (ps : List ℕ). recordFor 2 (record { row = r }) (imageContext r) (pixelBytes ps)) (sym (heights-same vs none))
+
+  numbers-same : writeNumber 2 (record { row = r }) (imageContext r) (pixelBytes vs) (length m)
+      ≡ imageRowNumber w r s (length m)
+  unfolding writeNumber imageRowNumber
+  numbers-same =
+      rw (place-none, given, beforePixels-stands w r (length s) stands)
+      (orElse-same (refuseIf (any noHeight (signedPixels w s)) 4) _ _
+      (λ e. ap (λ (b : List ℕ). roomNumber (lent (length m)) (length b)) (own-record e)))
+
+  right : imageRowNumber w r s (length m) ≡ 0 → refuseIf (any noHeight (signedPixels w s)) 4 ≡ 0
+  unfolding imageRowNumber
+  right e =
+      orElse-zero-left (refuseIf (any noHeight (signedPixels w s)) 4) _
+      (orElse-zero-right (beforePixels w r (length s)) _ e)
+
+  pub imageRow-written : rowAnswer (recordWritten 2 (record { row = r }) (imageContext r) (pixelBytes (bigEndian w s)) m)
+      ≡ imageRow w r s m
+  unfolding recordWritten imageRow
+  imageRow-written =
+      let x : List ℕ = recordFor 2 (record { row = r }) (imageContext r) (pixelBytes vs) in
+      unless-part rowAnswer (writeNumber 2 (record { row = r }) (imageContext r) (pixelBytes vs) (length m)) _ _
+      ∙ rw numbers-same
+      (unless-done (imageRowNumber w r s (length m)) (λ e. refused e m) (wrote (length x) x m) _
+      (λ e. ap (λ (b : List ℕ). wrote (length b) b m) (own-record (right e))))

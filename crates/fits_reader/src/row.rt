@@ -1,7 +1,7 @@
 // The row call.
 use crate::pixels::copy_pixels;
+use crate::plain::plain_bytes;
 use answer::Answer;
-use code_table::plain::plain_table;
 use sheet_format::SheetState;
 use sheet_writer::write_record;
 ghost use mathlib.Core.Path.{_≡_};
@@ -50,8 +50,7 @@ fn write_row(width: usize, row: u32, image: &[u8], out: &mut [u8]) -> Answer
 {
     let mut pixels = [0u8; 8192];
     copy_pixels(image, width, &mut pixels);
-    let mut table = [0u8; 2072];
-    plain_table(&mut table);
+    let table = plain_bytes();
     let state = SheetState {
         has_table: 1,
         least_row: row,

@@ -11,12 +11,13 @@ use borrow.Author.Tests.{le-ltb, eqb-false, ne-eqb, eq-eqb}
 use Rattle.bitstream.specs.Bits.{halvesOf, Below}
 use Rattle.answer.specs.Outcome.{Outcome, outcome, wrote, refused, answerOf, refuseIf, _orElse_, unless, lent, roomNumber}
 use Rattle.answer.specs.declared.Answer.{Answer}
-use Rattle.answer.specs.Outcome.Laws.{orElse-zero-left, orElse-zero-right, orElse-same, lessNumber-zero, lessNumber-none, lessNumber-given, refuseIf-zero, unless-part}
+use Rattle.answer.specs.Outcome.Laws.{orElse-zero-left, orElse-zero-right, orElse-same, lessNumber-zero, lessNumber-none, lessNumber-given, refuseIf-zero, unless-part, unless-first}
 use Rattle.row_format.specs.Lists.{any}
 use Rattle.row_format.specs.Row.{pixelBytes, tooMany, tooHigh}
 use Rattle.row_format.specs.Plain.{plainBytes}
 use Rattle.code_table.specs.Plain.Laws.{plain-accepted}
 use Rattle.sheet_format.specs.declared.RecordWritten.{RecordWritten}
+use Rattle.sheet_format.specs.Context.{contextOf}
 use Rattle.sheet_format.specs.Kind.Row.{rowPlace}
 use Rattle.sheet_format.specs.Kind.PackedRow.{packedGivenNumber}
 use Rattle.sheet_format.specs.Kinds.{kindOf}
@@ -72,6 +73,12 @@ module _ (w r n : ℕ) where
         pub beforePixels-rest : beforePixels w r n ≡ refuseIf (ltb n (2 * w)) 18
         unfolding beforePixels
         beforePixels-rest = rw (ne-eqb w 0 some, lessNumber-none 4096 w 11 narrow, lessNumber-none 4095 r 11 low)
+
+-- such a refusal is the row's
+pub imageRow-before : (w r : ℕ) (s m : List ℕ) → (beforePixels w r (length s) ≡ 0 → ⊥)
+    → imageRow w r s m ≡ refused (beforePixels w r (length s)) m
+unfolding imageRow imageRowNumber
+imageRow-before w r s m some = unless-first (beforePixels w r (length s)) _ (λ e. refused e m) _ some
 
 -- ---- the record writer's answer, as the row call passes it on
 abbrev pub rowAnswer : Outcome RecordWritten → Outcome Answer
@@ -132,3 +139,9 @@ module _ (w r : ℕ) (s m : List ℕ) (bytes : Below 256 s) (stands : RowStands 
       ∙ rw numbers-same
       (unless-done (imageRowNumber w r s (length m)) (λ e. refused e m) (wrote (length x) x m) _
       (λ e. ap (λ (b : List ℕ). wrote (length b) b m) (own-record (right e))))
+
+  -- of a table and pixels that are the plain table's bytes and the row's pixels
+  pub imageRow-given : {o : Outcome RecordWritten} {tb x : List ℕ} → tb ≡ plainBytes → x ≡ pixelBytes (bigEndian w s)
+      → o ≡ recordWritten 2 (record { row = r }) (contextOf tb (record { «has_table» = 1; «least_row» = r })) x m
+      → rowAnswer o ≡ imageRow w r s m
+  imageRow-given table pixels e = ap rowAnswer e ∙ rw (table, pixels) imageRow-written

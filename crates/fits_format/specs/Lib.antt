@@ -1,3 +1,4 @@
 pub mod Card
 pub mod Header
 pub mod Image
+pub mod Conversion

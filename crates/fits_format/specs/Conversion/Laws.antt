@@ -1,1 +1,76 @@
--- The laws of a whole scan. Assumes nothing.
+-- The laws of rows one after another: what is written is the records before the first faulty row. Assumes nothing.
+use Prim.Native.Nat.{ℕ, zero, suc, _+_, _*_, _≤_, _<_}
+use native.Mathlib.Nat.{add-zero, not-suc-le-zero, le-of-suc-le-suc}
+use native.Mathlib.Omega.{arith}
+use mathlib.Core.Path.{_≡_, refl, sym, ap, _∙_}
+use mathlib.Core.List.{List, [], _++_}
+use lib.ListN.{length, take, drop}
+use lib.Seq.{drop-drop}
+use Rattle.answer.specs.Outcome.{Outcome, unless}
+use Rattle.answer.specs.Outcome.Laws.{unless-in}
+use Rattle.fits_format.specs.Image.{rowRecord, imageRowNumber, imageRow}
+use Rattle.fits_format.specs.Image.Call.{imageRow-number, imageRow-counted}
+use Rattle.fits_format.specs.Conversion.{RowsWritten, rowsEnd, rowFirst, bytesCounted, rowCalls, rowAt, inOrder, UpToFault}
+
+-- the image's bytes from the next row on
+pub rowAt-next : (w : ℕ) (image : List ℕ) (r : ℕ) → drop (2 * w) (rowAt w image r) ≡ rowAt w image (suc r)
+rowAt-next w image r =
+    let e : 2 * w * r + 2 * w ≡ 2 * w * suc r = omega arith in
+    drop-drop (2 * w) (2 * w * r) image ∙ ap (λ (k : ℕ). drop k image) e
+
+module _ (numbers : ℕ → ℕ) (records : ℕ → List ℕ) (r n : ℕ) where
+  fault-first : (k : ℕ) → numbers r ≡ suc k → UpToFault numbers records r (suc n) (rowsEnd (suc k))
+  unfolding inOrder
+  fault-first k e = record {
+    within = omega arith;
+    before = λ i h. absurd (not-suc-le-zero h);
+    faulty = λ h. (sym e ∙ ap numbers (sym (add-zero r)), λ z. absurd (omega (arith, z)));
+    whole = λ h. absurd (omega (arith, h));
+    bytes = refl;
+  }
+
+  fault-later : (x : RowsWritten) → numbers r ≡ 0 → UpToFault numbers records (suc r) n x
+      → UpToFault numbers records r (suc n) (rowFirst (records r) x)
+  unfolding inOrder
+  fault-later x e u = record {
+    within = omega (arith, u .within);
+    before = first;
+    faulty = λ h.
+      let f = u .faulty (le-of-suc-le-suc h) in
+      (f .0 ∙ ap numbers (on (x .rows)), f .1);
+    whole = λ h. u .whole (omega (arith, h));
+    bytes = ap (λ (b : List ℕ). records r ++ b) (u .bytes);
+  }
+    where
+      on : (i : ℕ) → suc r + i ≡ r + suc i
+      on i = omega arith
+      first : (i : ℕ) → i < suc (x .rows) → numbers (r + i) ≡ 0
+      first zero h = ap numbers (add-zero r) ∙ e
+      first (suc i) h = ap numbers (sym (on i)) ∙ u .before i (le-of-suc-le-suc h)
+
+module _ (lends : ℕ → List ℕ) (w : ℕ) (image : List ℕ) where
+  -- the number that row i has, and its record
+  abbrev pub numberOfRow : ℕ → ℕ
+  numberOfRow i = imageRowNumber w i (rowAt w image i) (length (lends i))
+
+  abbrev pub recordOfRow : ℕ → List ℕ
+  recordOfRow i = rowRecord w i (rowAt w image i)
+
+  pub rowCalls-up-to : (n r : ℕ) → UpToFault numberOfRow recordOfRow r n (rowCalls lends w n r (rowAt w image r))
+  unfolding rowCalls inOrder
+  rowCalls-up-to zero r = record {
+    within = omega arith;
+    before = λ i h. absurd (not-suc-le-zero h);
+    faulty = λ h. absurd (not-suc-le-zero h);
+    whole = λ h. refl;
+    bytes = refl;
+  }
+  rowCalls-up-to (suc n) r =
+      let s = rowAt w image r in
+      let number = imageRow-number w r s (lends r) in
+      unless-in (UpToFault numberOfRow recordOfRow r (suc n)) (imageRow w r s (lends r) .answer .number) rowsEnd _
+      (λ k e. fault-first numberOfRow recordOfRow r n k (sym number ∙ e))
+      (λ e.
+      let none = sym number ∙ e in
+      let later = fault-later numberOfRow recordOfRow r n _ none (rowCalls-up-to n (suc r)) in
+      rw (imageRow-counted w r s (lends r) none, rowAt-next w image r) later)

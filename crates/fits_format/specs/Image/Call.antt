@@ -5,13 +5,14 @@ use native.Mathlib.Omega.{arith}
 use mathlib.Core.Path.{_≡_, refl, sym, ap, _∙_}
 use mathlib.Core.Bool.{false}
 use mathlib.Core.List.{List, [], _∷_, map}
-use lib.ListN.{length}
+use lib.ListN.{length, take, drop}
+use lib.Seq.{take-append-seam}
 use lib.Dec.{ltb, eqb}
 use borrow.Author.Tests.{le-ltb, eqb-false, ne-eqb, eq-eqb}
 use Rattle.bitstream.specs.Bits.{halvesOf, Below}
 use Rattle.answer.specs.Outcome.{Outcome, outcome, wrote, refused, answerOf, refuseIf, _orElse_, unless, lent, roomNumber}
 use Rattle.answer.specs.declared.Answer.{Answer}
-use Rattle.answer.specs.Outcome.Laws.{orElse-zero-left, orElse-zero-right, orElse-same, lessNumber-zero, lessNumber-none, lessNumber-given, refuseIf-zero, unless-part, unless-first}
+use Rattle.answer.specs.Outcome.Laws.{orElse-zero-left, orElse-zero-right, orElse-same, lessNumber-zero, lessNumber-none, lessNumber-given, refuseIf-zero, unless-part, unless-first, unless-number}
 use Rattle.row_format.specs.Lists.{any}
 use Rattle.row_format.specs.Row.{pixelBytes, tooMany, tooHigh}
 use Rattle.row_format.specs.Plain.{plainBytes}
@@ -145,3 +146,36 @@ module _ (w r : ℕ) (s m : List ℕ) (bytes : Below 256 s) (stands : RowStands 
       → o ≡ recordWritten 2 (record { row = r }) (contextOf tb (record { «has_table» = 1; «least_row» = r })) x m
       → rowAnswer o ≡ imageRow w r s m
   imageRow-given table pixels e = ap rowAnswer e ∙ rw (table, pixels) imageRow-written
+
+-- ---- what it answers
+module _ (w r : ℕ) (s m : List ℕ) where
+  pub imageRow-number : imageRow w r s m .answer .number ≡ imageRowNumber w r s (length m)
+  unfolding imageRow
+  imageRow-number =
+      unless-number (λ (o : Outcome Answer). o .answer .number) (λ e. refused e m) (wrote (length (rowRecord w r s)) (rowRecord w r s) m)
+      (λ k. refl) (imageRowNumber w r s (length m)) refl
+
+  -- done, the bytes counted are the record
+  pub imageRow-counted : imageRowNumber w r s (length m) ≡ 0
+      → take (imageRow w r s m .answer .count) (imageRow w r s m .memory) ≡ rowRecord w r s
+  unfolding imageRow
+  imageRow-counted e = rw e (take-append-seam (rowRecord w r s) (drop (length (rowRecord w r s)) m))
+
+  -- and its pixels are heights
+  pub imageRow-heights : imageRowNumber w r s (length m) ≡ 0 → any noHeight (signedPixels w s) ≡ false
+  unfolding imageRowNumber
+  imageRow-heights e =
+      refuseIf-zero (any noHeight (signedPixels w s)) 3
+      (orElse-zero-left (refuseIf (any noHeight (signedPixels w s)) 4) _ (orElse-zero-right (beforePixels w r (length s)) _ e))
+
+  pub imageRow-stands : imageRowNumber w r s (length m) ≡ 0 → RowStands w r (length s)
+  unfolding imageRowNumber
+  imageRow-stands e = beforePixels-zero w r (length s) (orElse-zero-left (beforePixels w r (length s)) _ e)
+
+  -- there was room
+  pub imageRow-room : imageRowNumber w r s (length m) ≡ 0 → length (rowRecord w r s) ≤ length m
+  unfolding imageRowNumber
+  imageRow-room e =
+      let e1 = orElse-zero-right (beforePixels w r (length s)) _ e in
+      lessNumber-zero (length m) (length (rowRecord w r s)) 4
+      (orElse-zero-right (refuseIf (any noHeight (signedPixels w s)) 4) _ e1)

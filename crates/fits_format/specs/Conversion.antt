@@ -12,6 +12,7 @@ use Rattle.sheet_format.specs.Sheet.{SheetRecord, StoredRow, sheetRead, storedR
 use Rattle.fits_format.specs.Header.{headerRead, tableRecord}
 use Rattle.fits_format.specs.Image.{signedPixels, rowRecord, imageRowNumber, imageRow}
 pub mod Laws
+pub mod Sheet
 
 -- ---- rows
 -- number   the number of the row that is refused, 0 where none is

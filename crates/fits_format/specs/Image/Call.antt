@@ -15,6 +15,7 @@ use Rattle.answer.specs.declared.Answer.{Answer}
 use Rattle.answer.specs.Outcome.Laws.{orElse-zero-left, orElse-zero-right, orElse-same, lessNumber-zero, lessNumber-none, lessNumber-given, refuseIf-zero, unless-part, unless-first, unless-number}
 use Rattle.row_format.specs.Lists.{any}
 use Rattle.row_format.specs.Row.{pixelBytes, tooMany, tooHigh}
+use Rattle.row_format.specs.Theorems.Words.{halvesOf-bytesOf}
 use Rattle.row_format.specs.Plain.{plainBytes}
 use Rattle.code_table.specs.Plain.Laws.{plain-accepted}
 use Rattle.sheet_format.specs.declared.RecordWritten.{RecordWritten}
@@ -24,7 +25,7 @@ use Rattle.sheet_format.specs.Kind.PackedRow.{packedGivenNumber}
 use Rattle.sheet_format.specs.Kinds.{kindOf}
 use Rattle.sheet_format.specs.Writing.{recordFor, recordWritten, writeNumber}
 use Rattle.fits_format.specs.Image.{twosComplement, bigEndian, signedPixels, noHeight, rowHeights, imageContext, rowRecord, beforePixels, imageRowNumber, imageRow}
-use Rattle.fits_format.specs.Image.Laws.{length-bigEndian, halvesOf-bigEndian, noHeight-any, heights-same}
+use Rattle.fits_format.specs.Image.Laws.{length-bigEndian, below-bigEndian, noHeight-any, heights-same}
 
 -- ---- before a pixel is looked at
 pub record RowStands (w r n : ℕ) : Type 0 where
@@ -90,24 +91,24 @@ unless-done : {A : Type 0} (e : ℕ) (refusal : ℕ → A) (x y : A) → (e ≡ 
 unless-done zero refusal x y h = h refl
 unless-done (suc e) refusal x y h = refl
 
+-- a packed row under the plain table is refused 4 and 5, and nothing else
+module _ (r : ℕ) (vs : List ℕ) (low : r ≤ 4095) (few : length vs ≤ 4096) (small : Below 65536 vs) where
+  place-none : rowPlace (imageContext r) (record { row = r }) ≡ 0
+  unfolding rowPlace
+  place-none = rw (le-ltb r r (omega arith), le-ltb 65535 r (omega (arith, low)))
+
+  given-high : packedGivenNumber (record { row = r }) (imageContext r) (pixelBytes vs) ≡ tooHigh vs
+  unfolding packedGivenNumber
+  given-high = rw (plain-accepted, halvesOf-bytesOf (length vs) vs refl small, lessNumber-none 4096 (length vs) 11 few)
+
+  pub packed-number : (room : ℕ) → writeNumber 2 (record { row = r }) (imageContext r) (pixelBytes vs) room
+      ≡ tooHigh vs orElse roomNumber (lent room) (length (recordFor 2 (record { row = r }) (imageContext r) (pixelBytes vs)))
+  unfolding writeNumber
+  packed-number room = rw (place-none, given-high)
+
 module _ (w r : ℕ) (s m : List ℕ) (bytes : Below 256 s) (stands : RowStands w r (length s)) where
   abbrev vs : List ℕ
   vs = bigEndian w s
-
-  place-none : rowPlace (imageContext r) (record { row = r }) ≡ 0
-  unfolding rowPlace
-  place-none = rw (le-ltb r r (omega arith), le-ltb 65535 r (omega (arith, stands .low)))
-
-  given : packedGivenNumber (record { row = r }) (imageContext r) (pixelBytes vs) ≡ refuseIf (any noHeight (signedPixels w s)) 4
-  unfolding packedGivenNumber
-  given =
-      rw (
-        plain-accepted,
-        halvesOf-bigEndian w s bytes,
-        length-bigEndian w s,
-        lessNumber-none 4096 w 11 (stands .narrow),
-        noHeight-any vs,
-      )
 
   -- a row whose pixels are heights has its record
   own-record : refuseIf (any noHeight (signedPixels w s)) 4 ≡ 0
@@ -119,9 +120,11 @@ module _ (w r : ℕ) (s m : List ℕ) (bytes : Below 256 s) (stands : RowStands 
 
   numbers-same : writeNumber 2 (record { row = r }) (imageContext r) (pixelBytes vs) (length m)
       ≡ imageRowNumber w r s (length m)
-  unfolding writeNumber imageRowNumber
+  unfolding imageRowNumber
   numbers-same =
-      rw (place-none, given, beforePixels-stands w r (length s) stands)
+      let few : length vs ≤ 4096 = omega (arith, length-bigEndian w s, stands .narrow) in
+      packed-number r vs (stands .low) few (below-bigEndian w s bytes) (length m)
+      ∙ rw (← noHeight-any vs, beforePixels-stands w r (length s) stands)
       (orElse-same (refuseIf (any noHeight (signedPixels w s)) 4) _ _
       (λ e. ap (λ (b : List ℕ). roomNumber (lent (length m)) (length b)) (own-record e)))
 

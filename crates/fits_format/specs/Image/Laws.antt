@@ -10,12 +10,10 @@ use lib.Seq.{getD-drop}
 use lib.Dec.{ltb}
 use lib.IntN.{pos}
 use borrow.Author.Tests.{ltb-false, lt-ltb}
-use Rattle.bitstream.specs.Bits.{halvesOf, Below}
+use Rattle.bitstream.specs.Bits.{Below}
 use Rattle.bitstream.specs.Bits.Laws.{below-nil, below-cons, below-drop}
 use Rattle.row_format.specs.Lists.{any}
 use Rattle.row_format.specs.Lists.Laws.{by-test, any-false-head, any-false-tail}
-use Rattle.row_format.specs.Row.{pixelBytes}
-use Rattle.row_format.specs.Theorems.Words.{halvesOf-bytesOf}
 use Rattle.fits_format.specs.Image.{twosComplement, numberAt, bigEndian, noHeight, heightOf}
 
 -- ---- the numbers
@@ -44,10 +42,6 @@ below-bigEndian zero s b = below-nil (omega arith)
 below-bigEndian (suc n) s b =
     below-cons (omega (arith, b .below 0, b .below 1)) (below-bigEndian n (drop 2 s) (below-drop 2 s b))
 
--- a row's pixels as a sheet has them
-pub halvesOf-bigEndian : (n : ℕ) (s : List ℕ) → Below 256 s → halvesOf (pixelBytes (bigEndian n s)) ≡ bigEndian n s
-halvesOf-bigEndian n s b = halvesOf-bytesOf (length (bigEndian n s)) (bigEndian n s) refl (below-bigEndian n s b)
-
 -- ---- heights: a number of 16 bits stands for a pixel outside 0 to 4095 exactly when it is above 4095
 noHeight-twosComplement : (v : ℕ) → noHeight (twosComplement v) ≡ ltb 4095 v
 unfolding twosComplement
@@ -69,6 +63,11 @@ pub heights-same : (vs : List ℕ) → any (ltb 4095) vs ≡ false → map heigh
 heights-same [] e = refl
 heights-same (v ∷ vs) e =
     rw (heightOf-twosComplement v (any-false-head (ltb 4095) v vs e), heights-same vs (any-false-tail (ltb 4095) v vs e))
+
+pub below-heights : (vs : List ℕ) → any (ltb 4095) vs ≡ false → Below 65536 vs
+below-heights [] e = below-nil (omega arith)
+below-heights (v ∷ vs) e =
+    below-cons (omega (arith, ltb-false 4095 v (any-false-head (ltb 4095) v vs e))) (below-heights vs (any-false-tail (ltb 4095) v vs e))
 
 -- and such heights are the pixels themselves
 pos-twosComplement : (v : ℕ) → ltb 4095 v ≡ false → pos v ≡ twosComplement v

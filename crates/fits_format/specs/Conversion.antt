@@ -13,6 +13,7 @@ use Rattle.fits_format.specs.Header.{headerRead, tableRecord}
 use Rattle.fits_format.specs.Image.{signedPixels, rowRecord, imageRowNumber, imageRow}
 pub mod Laws
 pub mod Sheet
+pub mod Alike
 
 -- ---- rows
 -- number   the number of the row that is refused, 0 where none is

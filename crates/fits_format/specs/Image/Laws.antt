@@ -5,7 +5,7 @@ use native.Mathlib.Omega.{arith}
 use mathlib.Core.Path.{_≡_, refl, sym, ap, _∙_}
 use mathlib.Core.Bool.{false}
 use mathlib.Core.List.{List, [], _∷_, map}
-use lib.ListN.{length, drop, getD}
+use lib.ListN.{length, take, drop, getD}
 use lib.Seq.{getD-drop}
 use lib.Dec.{ltb}
 use lib.IntN.{pos}
@@ -41,6 +41,17 @@ unfolding bigEndian numberAt
 below-bigEndian zero s b = below-nil (omega arith)
 below-bigEndian (suc n) s b =
     below-cons (omega (arith, b .below 0, b .below 1)) (below-bigEndian n (drop 2 s) (below-drop 2 s b))
+
+twice : (n : ℕ) → 2 * suc n ≡ suc (suc (2 * n))
+twice n = omega arith
+
+-- no byte after them is looked at
+pub bigEndian-take : (n : ℕ) (s : List ℕ) → bigEndian n (take (2 * n) s) ≡ bigEndian n s
+unfolding bigEndian numberAt
+bigEndian-take zero s = refl
+bigEndian-take (suc n) [] = rw (twice n)
+bigEndian-take (suc n) (x ∷ []) = rw (twice n)
+bigEndian-take (suc n) (x ∷ y ∷ s) = rw (twice n, bigEndian-take n s)
 
 -- ---- heights: a number of 16 bits stands for a pixel outside 0 to 4095 exactly when it is above 4095
 noHeight-twosComplement : (v : ℕ) → noHeight (twosComplement v) ≡ ltb 4095 v

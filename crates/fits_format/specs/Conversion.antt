@@ -76,13 +76,12 @@ unfoldable pub inOrder : (ℕ → List ℕ) → ℕ → ℕ → List ℕ
 inOrder f r zero = []
 inOrder f r (suc k) = f r ++ inOrder f (suc r) k
 
--- of n rows from row r on, which have such numbers and such records, those before the first faulty one were written
-pub record UpToFault (numbers : ℕ → ℕ) (records : ℕ → List ℕ) (r n : ℕ) (x : RowsWritten) : Type 0 where
-  pub within : x .rows ≤ n
-  pub before : (i : ℕ) → i < x .rows → numbers (r + i) ≡ 0
-  pub faulty : x .rows < n → (x .number ≡ numbers (r + x .rows)) × (x .number ≡ 0 → ⊥)
-  pub whole : x .rows ≡ n → x .number ≡ 0
-  pub bytes : x .bytes ≡ inOrder records r (x .rows)
+-- of n rows that have such numbers the first faulty one is row k, and e is its number; where none is, k is n and e is 0
+pub record FirstFault (numbers : ℕ → ℕ) (n k e : ℕ) : Type 0 where
+  pub within : k ≤ n
+  pub before : (i : ℕ) → i < k → numbers i ≡ 0
+  pub faulty : k < n → (e ≡ numbers k) × (e ≡ 0 → ⊥)
+  pub whole : k ≡ n → e ≡ 0
 
 -- some bytes are a sheet of k rows, which are the image's
 pub record SheetOfImage (w : ℕ) (image : List ℕ) (k : ℕ) (b : List ℕ) : Type 0 where

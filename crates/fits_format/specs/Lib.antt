@@ -2,3 +2,4 @@ pub mod Card
 pub mod Header
 pub mod Image
 pub mod Conversion
+pub mod Theorems

@@ -1,6 +1,6 @@
 -- The laws of rows one after another: what is written is the records before the first faulty row. Assumes nothing.
 use Prim.Native.Nat.{ℕ, zero, suc, _+_, _*_, _≤_, _<_}
-use native.Mathlib.Nat.{add-zero, not-suc-le-zero, le-of-suc-le-suc}
+use native.Mathlib.Nat.{zero-add, add-zero, mul-zero, not-suc-le-zero, le-of-suc-le-suc}
 use native.Mathlib.Omega.{arith}
 use mathlib.Core.Path.{_≡_, refl, sym, ap, _∙_}
 use mathlib.Core.List.{List, [], _++_}
@@ -10,13 +10,21 @@ use Rattle.answer.specs.Outcome.{Outcome, unless}
 use Rattle.answer.specs.Outcome.Laws.{unless-in}
 use Rattle.fits_format.specs.Image.{rowRecord, imageRowNumber, imageRow}
 use Rattle.fits_format.specs.Image.Call.{imageRow-number, imageRow-counted}
-use Rattle.fits_format.specs.Conversion.{RowsWritten, rowsEnd, rowFirst, bytesCounted, rowCalls, rowAt, inOrder, UpToFault}
+use Rattle.fits_format.specs.Conversion.{RowsWritten, rowsEnd, rowFirst, bytesCounted, rowCalls, headerRefused, afterHeader, conversion, rowAt, inOrder, FirstFault}
 
 -- the image's bytes from the next row on
 pub rowAt-next : (w : ℕ) (image : List ℕ) (r : ℕ) → drop (2 * w) (rowAt w image r) ≡ rowAt w image (suc r)
 rowAt-next w image r =
     let e : 2 * w * r + 2 * w ≡ 2 * w * suc r = omega arith in
     drop-drop (2 * w) (2 * w * r) image ∙ ap (λ (k : ℕ). drop k image) e
+
+-- of n rows from row r on, which have such numbers and such records, those before the first faulty one were written
+record UpToFault (numbers : ℕ → ℕ) (records : ℕ → List ℕ) (r n : ℕ) (x : RowsWritten) : Type 0 where
+  within : x .rows ≤ n
+  before : (i : ℕ) → i < x .rows → numbers (r + i) ≡ 0
+  faulty : x .rows < n → (x .number ≡ numbers (r + x .rows)) × (x .number ≡ 0 → ⊥)
+  whole : x .rows ≡ n → x .number ≡ 0
+  bytes : x .bytes ≡ inOrder records r (x .rows)
 
 module _ (numbers : ℕ → ℕ) (records : ℕ → List ℕ) (r n : ℕ) where
   fault-first : (k : ℕ) → numbers r ≡ suc k → UpToFault numbers records r (suc n) (rowsEnd (suc k))
@@ -56,7 +64,10 @@ module _ (lends : ℕ → List ℕ) (w : ℕ) (image : List ℕ) where
   abbrev pub recordOfRow : ℕ → List ℕ
   recordOfRow i = rowRecord w i (rowAt w image i)
 
-  pub rowCalls-up-to : (n r : ℕ) → UpToFault numberOfRow recordOfRow r n (rowCalls lends w n r (rowAt w image r))
+  nothing-before : rowAt w image 0 ≡ image
+  nothing-before = ap (λ (k : ℕ). drop k image) (mul-zero (2 * w))
+
+  rowCalls-up-to : (n r : ℕ) → UpToFault numberOfRow recordOfRow r n (rowCalls lends w n r (rowAt w image r))
   unfolding rowCalls inOrder
   rowCalls-up-to zero r = record {
     within = omega arith;
@@ -74,3 +85,22 @@ module _ (lends : ℕ → List ℕ) (w : ℕ) (image : List ℕ) where
       let none = sym number ∙ e in
       let later = fault-later numberOfRow recordOfRow r n _ none (rowCalls-up-to n (suc r)) in
       rw (imageRow-counted w r s (lends r) none, rowAt-next w image r) later)
+
+  -- the same from row 0 on
+  pub rowCalls-fault : (n : ℕ)
+      → let x = rowCalls lends w n 0 image in
+      FirstFault numberOfRow n (x .rows) (x .number)
+  rowCalls-fault n =
+      let u = rw (nothing-before) at (rowCalls-up-to n 0) in
+      let from : (i : ℕ) → 0 + i ≡ i = zero-add in
+      record {
+        within = u .within;
+        before = λ i h. ap numberOfRow (sym (from i)) ∙ u .before i h;
+        faulty = λ h. (u .faulty h .0 ∙ ap numberOfRow (from (rowCalls lends w n 0 image .rows)), u .faulty h .1);
+        whole = u .whole;
+      }
+
+  pub rowCalls-bytes : (n : ℕ)
+      → let x = rowCalls lends w n 0 image in
+      x .bytes ≡ inOrder recordOfRow 0 (x .rows)
+  rowCalls-bytes n = (rw (nothing-before) at (rowCalls-up-to n 0)) .bytes

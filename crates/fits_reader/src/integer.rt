@@ -1,9 +1,9 @@
 // A fixed-format integer. What a header is judged by is its value up to 4097: 0 where it is below 1 or where there is no
 // integer, which are refused alike, and 4097 for every value above 4096, of however many digits.
 ghost use mathlib.Core.Path.{_≡_};
-ghost use lib.ListN.{length};
+ghost use Prim.Native.Nat.{min};
 ghost use Rattle.fits_format.specs.Card.{fixedInteger};
-ghost use Rattle.fits_reader.specs.Clipped.{clipped, digitsClipped};
+ghost use Rattle.fits_reader.specs.Clipped.{clipped, digitsClipped, NotBlank};
 
 // Of a value field: blanks, an optional sign, digits.
 pub fn fixed_integer(field: &[u8]) -> u32
@@ -19,7 +19,7 @@ pub fn fixed_integer(field: &[u8]) -> u32
     0
 }
 
-// Of what follows the blanks. Nothing below 1 is told from nothing at all.
+// The same of what follows the blanks. After a minus sign there is nothing to read: whatever follows, it is 0.
 fn signed_digits(field: &[u8]) -> u32
     requires { ⌜ NotBlank (now field) ⌝ }
     ensures { λ r. ⌜ r ≡ clipped (fixedInteger (now (field .entry))) ⌝ }
@@ -28,14 +28,14 @@ fn signed_digits(field: &[u8]) -> u32
         return 0;
     }
     if field[0] == b'+' {
-        return digits(&field[1..]);
+        return unsigned_digits(&field[1..]);
     }
-    digits(field)
+    unsigned_digits(field)
 }
 
-// Of one or more digits and nothing else.
-fn digits(field: &[u8]) -> u32
-    ensures { λ r. ⌜ r ≡ digitsClipped (now (field .entry)) ⌝ }
+// Of digits and nothing else. `value` is what is kept of those before `i`; ten times as much and a digit has room.
+fn unsigned_digits(field: &[u8]) -> u32
+    ensures { λ r. ⌜ r ≡ digitsClipped 0 (now (field .entry)) ⌝ }
 {
     let mut value: u32 = 0;
     let mut i = 0;
@@ -51,4 +51,10 @@ fn digits(field: &[u8]) -> u32
         i += 1;
     }
     value
+}
+
+fn lesser(a: u32, b: u32) -> u32
+    ensures { λ r. ⌜ r ≡ min a b ⌝ }
+{
+    if a < b { a } else { b }
 }

@@ -1,3 +1,4 @@
 pub mod Card
+pub mod Cases
 pub mod Header
 pub mod Image

@@ -1,6 +1,5 @@
 -- Value fields and cards by computation: integers and logicals of the fixed format, and what is near to one and is none.
 -- Assumes nothing.
-use Prim.Native.Nat.{ℕ}
 use Prim.Native.String.{String}
 use mathlib.Core.Path.{_≡_, refl}
 use mathlib.Core.Bool.{Bool, true, false}

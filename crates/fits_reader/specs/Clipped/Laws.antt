@@ -8,24 +8,20 @@ use mathlib.Core.List.{List, [], _∷_}
 use lib.ListN.{length, take, drop, getD, length-drop}
 use lib.Seq.{drop-cons, take-all}
 use lib.IntN.{ℤ, pos, negℤ}
-use borrow.Author.Tests.{eq-eqb, ne-eqb, lt-ltb, le-ltb}
+use lib.Dec.{eqb, ltb}
+use borrow.Author.Tests.{eq-eqb, ne-eqb, eqb-true, ltb-true, ltb-false}
 use Rattle.row_format.specs.Lists.{any}
-use Rattle.row_format.specs.Lists.Laws.{by-test}
+use Rattle.row_format.specs.Lists.Laws.{by-test, true-false}
 use Rattle.fits_format.specs.Card.{noInteger, isInteger, isDigit, digitsValue, signedDigits, fixedInteger}
 use Rattle.fits_reader.specs.Clipped.{clipped, digitsClipped, NotBlank}
 
 -- ---- digits
-digit-not-below : (b : ℕ) → b < 48 → isDigit b ≡ false
+pub digit-range : (b : ℕ) → isDigit b ≡ true → (48 ≤ b) × (b ≤ 57)
 unfolding isDigit
-digit-not-below b h = rw (lt-ltb b 48 h)
-
-digit-not-above : (b : ℕ) → 57 < b → isDigit b ≡ false
-unfolding isDigit
-digit-not-above b h = rw (le-ltb b 48 (omega arith), le-ltb b 58 (omega arith))
-
-digit-between : (b : ℕ) → 48 ≤ b → b ≤ 57 → isDigit b ≡ true
-unfolding isDigit
-digit-between b l h = rw (le-ltb b 48 l, lt-ltb b 58 (omega arith))
+digit-range b e =
+    by-test (ltb b 48)
+    (λ t. true-false (rw t at e) refl)
+    (λ t. (ltb-false b 48 t, (let h : b < 58 = ltb-true b 58 (rw t at e) in omega arith)))
 
 abbrev noDigit : ℕ → Bool
 noDigit b = not (isDigit b)
@@ -66,6 +62,10 @@ clipped-negative (b ∷ bs) =
     clipped-cond (any noDigit (b ∷ bs)) (negℤ (pos v))
     ∙ nothing-kept (any noDigit (b ∷ bs)) (clipped (isInteger (negℤ (pos v)))) (clipped-minus v)
 
+digits-minus : (s : List ℕ) → digitsClipped 0 (45 ∷ s) ≡ 0
+unfolding isDigit digitsClipped
+digits-minus s = refl
+
 -- ---- a value field, byte by byte
 -- the part of a slice from i on
 pub take-rest : (s : List ℕ) (i : ℕ) → take (length s - i) (drop i s) ≡ drop i s
@@ -89,21 +89,18 @@ pub integer-none : (s : List ℕ) (i : ℕ) → length s ≤ i → clipped (fixe
 integer-none s i h = integer-empty (drop i s) (omega (arith, length-drop i s))
 
 -- the sign
-pub integer-minus : (s : List ℕ) → NotBlank s → getD s 0 0 ≡ 45 → clipped (fixedInteger s) ≡ 0
-unfolding fixedInteger
-integer-minus [] h e = absurd (omega arith)
-integer-minus (b ∷ bs) h e = rw e (clipped-negative bs)
-
 pub integer-plus : (s : List ℕ) → NotBlank s → getD s 0 0 ≡ 43 → clipped (fixedInteger s) ≡ digitsClipped 0 (drop 1 s)
 unfolding fixedInteger
 integer-plus [] h e = absurd (omega arith)
 integer-plus (b ∷ bs) h e = rw e (clipped-digits bs)
 
-pub integer-unsigned : (s : List ℕ) → NotBlank s → (getD s 0 0 ≡ 45 → ⊥) → (getD s 0 0 ≡ 43 → ⊥)
-    → clipped (fixedInteger s) ≡ digitsClipped 0 s
+pub integer-other : (s : List ℕ) → NotBlank s → (getD s 0 0 ≡ 43 → ⊥) → clipped (fixedInteger s) ≡ digitsClipped 0 s
 unfolding fixedInteger
-integer-unsigned [] h m p = absurd (omega arith)
-integer-unsigned (b ∷ bs) h m p = rw (ne-eqb b 32 (h .first), ne-eqb b 43 p, ne-eqb b 45 m) (clipped-digits (b ∷ bs))
+integer-other [] h p = absurd (omega arith)
+integer-other (b ∷ bs) h p =
+    by-test (eqb b 45)
+    (λ e. rw (eqb-true b 45 e) (clipped-negative bs ∙ sym (digits-minus bs)))
+    (λ e. rw (ne-eqb b 32 (h .first), ne-eqb b 43 p, e) (clipped-digits (b ∷ bs)))
 
 -- ---- digits, byte by byte
 -- ten times what is kept and a digit give what is kept of ten times the value and a digit
@@ -122,22 +119,15 @@ digits-clipped v (b ∷ bs) =
     ap (λ (x : ℕ). cond (isDigit b) x 0) same
 
 module _ (s : List ℕ) (i v : ℕ) (h : i < length s) where
-  pub digits-on : (getD s i 0 < 48 → ⊥) → (57 < getD s i 0 → ⊥)
+  pub digits-on : isDigit (getD s i 0) ≡ true
       → digitsClipped v (drop i s) ≡ digitsClipped (min (v * 10 + (getD s i 0 - 48)) 4097) (drop (i + 1) s)
   unfolding digitsClipped
-  digits-on l m =
-      rw (drop-cons s i 0 h, digit-between (getD s i 0) (omega arith) (omega arith), add-one i)
-      (sym (digits-clipped (v * 10 + (getD s i 0 - 48)) (drop (suc i) s)))
+  digits-on e =
+      rw (drop-cons s i 0 h, e, add-one i) (sym (digits-clipped (v * 10 + (getD s i 0 - 48)) (drop (suc i) s)))
 
-  digits-not : isDigit (getD s i 0) ≡ false → digitsClipped v (drop i s) ≡ 0
+  pub digits-not : isDigit (getD s i 0) ≡ false → digitsClipped v (drop i s) ≡ 0
   unfolding digitsClipped
   digits-not e = rw (drop-cons s i 0 h, e)
-
-  pub digits-not-below : getD s i 0 < 48 → digitsClipped v (drop i s) ≡ 0
-  digits-not-below l = digits-not (digit-not-below (getD s i 0) l)
-
-  pub digits-not-above : 57 < getD s i 0 → digitsClipped v (drop i s) ≡ 0
-  digits-not-above l = digits-not (digit-not-above (getD s i 0) l)
 
 digits-empty : (v : ℕ) (s : List ℕ) → v ≤ 4097 → length s ≡ 0 → digitsClipped v s ≡ v
 unfolding digitsClipped

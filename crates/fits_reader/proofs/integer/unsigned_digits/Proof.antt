@@ -3,7 +3,10 @@
 use Prim.Native.Nat.{ℕ, _+_, _-_, _≤_}
 use native.Mathlib.Omega.{arith}
 use mathlib.Core.Path.{_≡_, refl, sym, ap, _∙_}
-use lib.ListN.{length, drop}
+use mathlib.Core.Bool.{true}
+use lib.ListN.{length, drop, getD}
+use borrow.Author.Tests.{not-true, not-false}
+use Rattle.fits_format.specs.Card.{isDigit}
 use borrow.Author.Needs.{needs}
 use Rattle.fits_reader.specs.Clipped.{digitsClipped}
 use Rattle.fits_reader.specs.Clipped.Laws as laws
@@ -17,36 +20,49 @@ Inv-loop field value₀ i₀ value i =
 abbrev μ-loop : tie.MeasureT-loop
 μ-loop field value₀ i₀ value i = length field - i
 
+-- the byte at i is a digit
+module _ (c : tie.Else1 Inv-loop μ-loop) where
+  abbrev at-loop : tie.At-loop Inv-loop μ-loop
+  at-loop = c .before .before .before .before
+
+  abbrev byte : ℕ
+  byte = getD (at-loop .before .before .args .field .now) (at-loop .loop .i) 0
+
+  a-digit : isDigit byte ≡ true
+  a-digit = sym (c .before .is-digit .ensures) ∙ not-false (c .before .is-digit .result) (c .if1 .left)
+
+  range : (48 ≤ byte) × (byte ≤ 57)
+  range = laws.digit-range byte a-digit
+
 loop-holds : tie.Need-loop-holds Inv-loop μ-loop
 loop-holds c = (omega arith, omega arith, refl)
 
 shared-slice-read-b : tie.Need-shared-slice-read-b Inv-loop μ-loop
 shared-slice-read-b c = search needs
 
--- a byte below the digits
+is-digit-requires : tie.Need-is-digit-requires Inv-loop μ-loop
+is-digit-requires c κs = search needs
+
+-- a byte that is no digit
 returns : tie.Need-returns Inv-loop μ-loop
 returns c =
-    let at-loop = c .before .before .before in
+    let tested = c .before in
+    let at-loop = tested .before .before .before in
     let field = at-loop .before .before .args .field .now in
-    let none = laws.digits-not-below field (at-loop .loop .i) (at-loop .loop .value) (omega arith) (c .if1 .taken) in
-    sym (at-loop .loop .inv .2 ∙ none)
-
--- a byte above them
-returns-2 : tie.Need-returns-2 Inv-loop μ-loop
-returns-2 c =
-    let at-loop = c .before .before .before .before in
-    let field = at-loop .before .before .args .field .now in
-    let none = laws.digits-not-above field (at-loop .loop .i) (at-loop .loop .value) (omega arith) (c .if2 .taken) in
-    sym (at-loop .loop .inv .2 ∙ none)
+    let no-digit = sym (tested .is-digit .ensures) ∙ not-true (tested .is-digit .result) (c .if1 .taken) in
+    sym (at-loop .loop .inv .2 ∙ laws.digits-not field (at-loop .loop .i) (at-loop .loop .value) (omega arith) no-digit)
 
 mul-lesser : tie.Need-mul-lesser Inv-loop μ-loop
 mul-lesser c = search needs
 
+sub-lesser : tie.Need-sub-lesser Inv-loop μ-loop
+sub-lesser c = omega (arith, range c)
+
 cast-lesser : tie.Need-cast-lesser Inv-loop μ-loop
-cast-lesser c = search needs
+cast-lesser c = omega (arith, range c)
 
 add-lesser : tie.Need-add-lesser Inv-loop μ-loop
-add-lesser c = search needs
+add-lesser c = omega (arith, range c)
 
 lesser-requires : tie.Need-lesser-requires Inv-loop μ-loop
 lesser-requires c κs = search needs
@@ -62,12 +78,12 @@ loop-again c =
     let at-loop = c .before .before .before .before .before in
     let field = at-loop .before .before .args .field .now in
     let i = at-loop .loop .i in
-    let on = laws.digits-on field i (at-loop .loop .value) (omega arith) (λ l. omega arith) (λ l. omega arith) in
+    let on = laws.digits-on field i (at-loop .loop .value) (omega arith) (a-digit (c .before)) in
     let kept = ap (λ (v : ℕ). digitsClipped v (drop (i + 1) field)) (sym (c .lesser .ensures)) in
     (omega arith, omega arith, at-loop .loop .inv .2 ∙ on ∙ kept)
 
-returns-3 : tie.Need-returns-3 Inv-loop μ-loop
-returns-3 c =
+returns-2 : tie.Need-returns-2 Inv-loop μ-loop
+returns-2 c =
     let at-loop = c .before in
     let field = at-loop .before .before .args .field .now in
     sym (at-loop .loop .inv .2 ∙ laws.digits-end field (at-loop .loop .i) (at-loop .loop .value) (omega arith) (omega arith))
@@ -80,13 +96,14 @@ unsigned-digits-spec =
     μ-loop
     loop-holds
     shared-slice-read-b
+    is-digit-requires
     returns
-    returns-2
     mul-lesser
+    sub-lesser
     cast-lesser
     add-lesser
     lesser-requires
     add-i
     loop-less
     loop-again
-    returns-3)
+    returns-2)

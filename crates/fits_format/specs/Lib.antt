@@ -1,4 +1,5 @@
 pub mod Card
+pub mod Cases
 pub mod Header
 pub mod Image
 pub mod Conversion

@@ -28,7 +28,7 @@ MINOR := $(word 2,$(subst ., ,$(VERSION)))
 # looks for; from 1 on the major version alone is.
 SONAME := libtahliruz.so.$(if $(filter 0,$(MAJOR)),0.$(MINOR),$(MAJOR))
 
-PROGRAMS := target/bin/list_sheet target/bin/list_table
+PROGRAMS := target/bin/fits_to_sheet target/bin/list_sheet target/bin/list_table
 ARCHIVE := target/staticlib/libtahliruz.a
 SHARED := target/shared/libtahliruz.so.$(VERSION)
 SECOND := second/target/release
@@ -46,7 +46,7 @@ have_rt = command -v rt > /dev/null || { echo "rt, the Rattle toolchain, is not 
 # rt goes by contents and leaves what is proved already as it is, hence the touch.
 $(PROGRAMS) &: $(SOURCES)
 	@$(have_rt)
-	rt check list_sheet list_table
+	rt check fits_to_sheet list_sheet list_table
 	@touch $(PROGRAMS)
 
 $(ARCHIVE): $(SOURCES)
@@ -68,7 +68,7 @@ compare: $(ARCHIVE) $(PROGRAMS)
 	@$(SECOND)/compare_tables 1000000
 	@$(SECOND)/compare_rows 5000000
 	@$(SECOND)/compare_sheets 200000
-	@$(SECOND)/compare_listers $(PROGRAMS) 2000
+	@$(SECOND)/compare_listers target/bin/list_sheet target/bin/list_table 2000
 
 bench: $(ARCHIVE)
 	@tests/second build
@@ -97,7 +97,7 @@ install: build
 	sed -e 's|@PREFIX@|$(PREFIX)|' -e 's|@LIBDIR@|$(LIBDIR)|' -e 's|@INCLUDEDIR@|$(INCLUDEDIR)|' -e 's|@VERSION@|$(VERSION)|' \
 	    package/tahliruz.pc.in | install -m 644 /dev/stdin "$(DESTDIR)$(LIBDIR)/pkgconfig/tahliruz.pc"
 	install -m 644 include/tahliruz.h "$(DESTDIR)$(INCLUDEDIR)"
-	install -m 644 man/list_sheet.1 man/list_table.1 "$(DESTDIR)$(MANDIR)/man1"
+	install -m 644 $(patsubst target/bin/%,man/%.1,$(PROGRAMS)) "$(DESTDIR)$(MANDIR)/man1"
 	install -m 644 man/tahliruz.3 "$(DESTDIR)$(MANDIR)/man3"
 	@# a man page for each call: a line that leads to the one page of them all
 	for call in $$(package/calls); do \
@@ -110,7 +110,7 @@ uninstall:
 	rm -f "$(DESTDIR)$(LIBDIR)/libtahliruz.a" "$(DESTDIR)$(LIBDIR)/libtahliruz.so.$(VERSION)" \
 	    "$(DESTDIR)$(LIBDIR)/$(SONAME)" "$(DESTDIR)$(LIBDIR)/libtahliruz.so" "$(DESTDIR)$(LIBDIR)/pkgconfig/tahliruz.pc"
 	rm -f "$(DESTDIR)$(INCLUDEDIR)/tahliruz.h"
-	rm -f "$(DESTDIR)$(MANDIR)/man1/list_sheet.1" "$(DESTDIR)$(MANDIR)/man1/list_table.1" "$(DESTDIR)$(MANDIR)/man3/tahliruz.3"
+	rm -f $(patsubst target/bin/%,"$(DESTDIR)$(MANDIR)/man1/%.1",$(PROGRAMS)) "$(DESTDIR)$(MANDIR)/man3/tahliruz.3"
 	for call in $$(package/calls); do rm -f "$(DESTDIR)$(MANDIR)/man3/$$call.3"; done
 	rm -f "$(DESTDIR)$(DOCDIR)/FORMAT.md" $(patsubst %,"$(DESTDIR)$(DOCDIR)/%",$(wildcard examples/*.c))
 	-rmdir "$(DESTDIR)$(DOCDIR)/examples" "$(DESTDIR)$(DOCDIR)"

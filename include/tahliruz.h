@@ -1,9 +1,10 @@
 /*
  * Tahliruz: rows of heights packed by the truncated Huffman first-difference
- * code of MIT memo 36-56102, adaptive-precision numbers, and sheets of both.
- * docs/FORMAT.md describes the formats byte by byte. Names here keep document
- * 01's words where a comment has the usual ones: a string is a codeword, a step
- * a difference, a raw height a height written in 12 bits after the escape.
+ * code of MIT memo 36-56102, adaptive-precision numbers, sheets of both, and
+ * scans, FITS images that become sheets. docs/FORMAT.md describes the formats
+ * byte by byte. Names here keep document 01's words where a comment has the
+ * usual ones: a string is a codeword, a step a difference, a raw height a
+ * height written in 12 bits after the escape.
  *
  * Every call ends and answers for every input. This is proved, and so are the
  * number, counts and values of each answer, the bytes that it writes, and that
@@ -21,9 +22,10 @@
  *  - 64 KiB of stack are free at the call.
  *
  * Tables, words and pixels are little-endian bytes: a table or packed row is
- * made of 4-byte words, a pixel has 2 bytes. All lengths are in bytes. An
- * incomplete word, pixel or number at the end counts for nothing, in what is
- * read and in what is lent; in a table it is refused 1.
+ * made of 4-byte words, a pixel has 2 bytes; only the pixels of a FITS image
+ * have their higher byte first. All lengths are in bytes. An incomplete word,
+ * pixel or number at the end counts for nothing, in what is read and in what is
+ * lent; in a table it is refused 1.
  *
  * Number 0 is done: the call has written the bytes that its comment names, and
  * the rest of the lent memory is as it was. Any other number is a refusal:
@@ -44,10 +46,10 @@ extern "C" {
 #endif
 
 /* The version of this header. While MAJOR is 0, a new MINOR may change structs and calls. */
-#define TAHLIRUZ_VERSION "0.1.0"
+#define TAHLIRUZ_VERSION "0.1.1"
 #define TAHLIRUZ_VERSION_MAJOR 0
 #define TAHLIRUZ_VERSION_MINOR 1
-#define TAHLIRUZ_VERSION_PATCH 0
+#define TAHLIRUZ_VERSION_PATCH 1
 
 /* Sizes that are always enough. */
 #define TAHLIRUZ_MAX_PIXELS 4096            /* the pixels of a row */
@@ -58,6 +60,13 @@ extern "C" {
 #define TAHLIRUZ_MAX_NUMBER_BYTES 5         /* an adaptive-precision number */
 #define TAHLIRUZ_MAX_CONTENT_BYTES 16384    /* the pixels or numbers of any record */
 #define TAHLIRUZ_MAX_RECORD_BYTES 32778     /* any record of a sheet */
+#define TAHLIRUZ_MAX_AXIS 4096              /* the pixels of a scan's row, and the rows of a scan */
+#define TAHLIRUZ_FITS_HEADER_BYTES 28800    /* a FITS header: ten blocks, the most that is looked at */
+#define TAHLIRUZ_TABLE_RECORD_BYTES 2078    /* the plain table's record, exactly */
+#define TAHLIRUZ_MAX_SCAN_ROW_BYTES 7178    /* the record of a scan's row: 10 bytes, and 4096 pixels of 14 bits */
+
+/* A FITS header is made of blocks, and the image begins where one ends. */
+#define TAHLIRUZ_FITS_BLOCK_BYTES 2880
 
 /* Where a table's bytes begin in its record. */
 #define TAHLIRUZ_TABLE_OFFSET 6
@@ -76,19 +85,21 @@ enum tahliruz_number {
     TAHLIRUZ_TABLE_SIZE = 1,    /* the table's word count, tableSize or lowLimit is wrong */
     TAHLIRUZ_TABLE_STRING = 2,  /* a string word of the table, which holds a codeword and its length, is wrong */
     TAHLIRUZ_TABLE_PREFIX = 3,  /* a codeword of the table equals or begins another */
-    TAHLIRUZ_PIXEL = 4,         /* a pixel is above 4095 */
+    TAHLIRUZ_PIXEL = 4,         /* a pixel is below 0 or above 4095 */
     TAHLIRUZ_ROOM = 5,          /* the lent room is smaller than this call's output */
     TAHLIRUZ_WORDS_END = 6,     /* the words end before an item or within it */
     TAHLIRUZ_NO_STRING = 7,     /* no codeword stands at an item's place */
     TAHLIRUZ_STEP_OUTSIDE = 8,  /* a difference leads outside 0 to 4093 */
     TAHLIRUZ_RAW_HEIGHT = 9,    /* a height after the escape is 4094 or 4095 */
     TAHLIRUZ_UNUSED_BIT = 10,   /* an unused bit of the last used word is set */
-    TAHLIRUZ_TOO_MANY = 11,     /* more than 4096 pixels or numbers, or a place that no reading has */
+    TAHLIRUZ_TOO_MANY = 11,     /* more than 4096 pixels, rows or numbers, or a place that no reading has */
     TAHLIRUZ_BYTES_END = 12,    /* the bytes end before an adaptive-precision number does */
     TAHLIRUZ_NUMBER_RANGE = 13, /* a number's fifth byte asks for a sixth, or its value is outside its range */
     TAHLIRUZ_RECORD = 14,       /* length, fixed fields, word alignment or leftover of a record is wrong */
     TAHLIRUZ_KIND = 15,         /* the record's kind is unknown */
-    TAHLIRUZ_PLACE = 16         /* no table first, a second table, or a row number not risen or above 65535 */
+    TAHLIRUZ_PLACE = 16,        /* no table first, a second table, or a row number not risen or above 65535 */
+    TAHLIRUZ_FITS_HEADER = 17,  /* the FITS header is not of two axes of unscaled 16-bit pixels, or has no END in ten blocks */
+    TAHLIRUZ_IMAGE_END = 18     /* the image's bytes end before the row does */
 };
 
 /* A number's text, in the words of the list above; "no such number" for any other. */
@@ -99,19 +110,22 @@ static inline const char *tahliruz_number_text(uint32_t number)
     case TAHLIRUZ_TABLE_SIZE: return "the table's word count, tableSize or lowLimit is wrong";
     case TAHLIRUZ_TABLE_STRING: return "a string word of the table, which holds a codeword and its length, is wrong";
     case TAHLIRUZ_TABLE_PREFIX: return "a codeword of the table equals or begins another";
-    case TAHLIRUZ_PIXEL: return "a pixel is above 4095";
+    case TAHLIRUZ_PIXEL: return "a pixel is below 0 or above 4095";
     case TAHLIRUZ_ROOM: return "the lent room is smaller than this call's output";
     case TAHLIRUZ_WORDS_END: return "the words end before an item or within it";
     case TAHLIRUZ_NO_STRING: return "no codeword stands at an item's place";
     case TAHLIRUZ_STEP_OUTSIDE: return "a difference leads outside 0 to 4093";
     case TAHLIRUZ_RAW_HEIGHT: return "a height after the escape is 4094 or 4095";
     case TAHLIRUZ_UNUSED_BIT: return "an unused bit of the last used word is set";
-    case TAHLIRUZ_TOO_MANY: return "more than 4096 pixels or numbers, or a place that no reading has";
+    case TAHLIRUZ_TOO_MANY: return "more than 4096 pixels, rows or numbers, or a place that no reading has";
     case TAHLIRUZ_BYTES_END: return "the bytes end before an adaptive-precision number does";
     case TAHLIRUZ_NUMBER_RANGE: return "a number's fifth byte asks for a sixth, or its value is outside its range";
     case TAHLIRUZ_RECORD: return "length, fixed fields, word alignment or leftover of a record is wrong";
     case TAHLIRUZ_KIND: return "the record's kind is unknown";
     case TAHLIRUZ_PLACE: return "no table first, a second table, or a row number not risen or above 65535";
+    case TAHLIRUZ_FITS_HEADER:
+        return "the FITS header is not of two axes of unscaled 16-bit pixels, or has no END in ten blocks";
+    case TAHLIRUZ_IMAGE_END: return "the image's bytes end before the row does";
     default: return "no such number";
     }
 }
@@ -478,6 +492,87 @@ struct tahliruz_written tahliruz_write_record(uint32_t kind, uint32_t row,
                                               const uint8_t *table, size_t table_len,
                                               struct tahliruz_sheet state,
                                               uint8_t *out, size_t out_len);
+
+/* ---- Scans ---- */
+
+/* What a FITS header says of its image. A refusal has 0 in all fields but number. */
+struct tahliruz_image {
+    uint32_t number;
+    uint32_t width;         /* NAXIS1: the pixels of a row, 1 to 4096 */
+    uint32_t rows;          /* NAXIS2: the rows, 1 to 4096 */
+    uint32_t start;         /* the byte where the image begins: the end of END's block, 2880 to 28800 */
+    uint32_t count;         /* the bytes written: 2078 */
+};
+
+/*
+ * Reads the header of a FITS file, and writes the first record of the sheet that
+ * its image becomes: the plain table's.
+ *
+ *   fits    the file from its first byte on, fits_len bytes. Nothing is looked at
+ *           after END's card, nor after 28800 bytes, ten blocks of 36 cards. A
+ *           card has 80 bytes; an incomplete one at the end counts for nothing
+ *   out     lent for writing: out_len bytes, of which 2078 are enough
+ *
+ * Numbers, in this order:
+ *   17  the first five cards are not SIMPLE with T, BITPIX with 16, NAXIS with 2,
+ *       NAXIS1 and NAXIS2 with an integer, in this order and in fixed format: the
+ *       keyword in columns 1 to 8, "= " in 9 and 10, the value up to column 30;
+ *       or an axis is below 1; or a card before END's has the keyword BSCALE or
+ *       BZERO, whatever its value; or no card of the first 360 is END
+ *   11  an axis is above 4096, however large
+ *   5   out_len is below 2078
+ *   0   done
+ *
+ * Done, the plain table's record is in the first 2078 bytes of out. The bytes may
+ * end before start: then row 0 is refused 18. After a refusal out is as it was.
+ */
+struct tahliruz_image tahliruz_fits_header(const uint8_t *fits, size_t fits_len,
+                                           uint8_t *out, size_t out_len);
+
+/*
+ * Writes the record of one row of a FITS image: a packed row (kind 2) under the
+ * plain table.
+ *
+ *   width   the pixels of a row, as tahliruz_fits_header answers them
+ *   row     the row, 0 to 4095; it is the record's row number
+ *   image   the image from this row on, image_len bytes, of which the first
+ *           2 * width are looked at: big-endian signed pixels of 2 bytes, 0 to
+ *           4095, of which 4094 and 4095 mark bad spots
+ *   out     lent for writing: out_len bytes, of which 7178 are always enough
+ *
+ * Numbers, in this order:
+ *   17  width is 0
+ *   11  width is above 4096, or row above 4095, however large
+ *   18  image_len is below 2 * width, whatever the pixels that are there
+ *   4   a pixel below 0 or above 4095
+ *   5   the whole record takes more than out_len bytes
+ *   0   done
+ *
+ * Count: the bytes of the whole record, its length field included. It is in the
+ * first count bytes of out. After a refusal out is as it was.
+ *
+ * The plain table's record and behind it those of rows 0, 1 and so on are a sheet
+ * after each of them: where a row is refused, the records before it stand.
+ */
+struct tahliruz_answer tahliruz_fits_row(uint64_t width, uint64_t row,
+                                         const uint8_t *image, size_t image_len,
+                                         uint8_t *out, size_t out_len);
+
+/*
+ * ---- A scan from a stream ----
+ *
+ * A header of TAHLIRUZ_FITS_HEADER_BYTES and then one row are enough to hold:
+ *  1. Read a block of TAHLIRUZ_FITS_BLOCK_BYTES, or to the stream's end, and call
+ *     tahliruz_fits_header with all blocks that have come. Where it answers 17,
+ *     END may be still to come: read on, up to ten blocks or the stream's end. Any
+ *     other number is the header's, whatever follows.
+ *  2. Done, the image begins with the next byte of the stream. Write the record,
+ *     and keep width and rows.
+ *  3. For each row read 2 * width bytes, or to the stream's end, and call
+ *     tahliruz_fits_row with what has come; write the record. A refusal ends the
+ *     sheet before that row.
+ * What follows the last row need not be read. examples/convert_scan.c does this.
+ */
 
 /*
  * ---- A sheet from a stream ----

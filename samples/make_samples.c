@@ -1,10 +1,11 @@
 /*
- * Makes the samples anew: make_samples FOLDER writes morning.sheet, damaged.sheet, small.sheet, plain.table and memo.table
- * there.
+ * Makes the samples anew: make_samples FOLDER writes foot.fits, morning.sheet, damaged.sheet, small.sheet, plain.table and
+ * memo.table there.
  *
- * The morning's sheet is a made-up foot: rows of heights over a footprint, with the noise of a scanner, a few bad spots, a
- * pin that stands out further than the plain table's steps reach, and a contour line. The small sheet has every fortieth
- * row of such a foot, of a row every tenth pixel, and a bad spot; the damaged one ends within a row.
+ * foot.fits is the scan of a made-up foot: rows of heights over a footprint, with the noise of a scanner, a few bad spots,
+ * and a pin that stands out further than the plain table's steps reach. The morning's sheet is that scan's sheet. The small
+ * sheet has every fortieth row of such a foot, of a row every tenth pixel, a bad spot, a plain row and a contour line; the
+ * damaged one ends within a row.
  */
 #include <stdint.h>
 #include <stdio.h>
@@ -15,6 +16,7 @@
 
 #define ROWS 320
 #define PIXELS 160
+#define FITS_CARDS 36 /* a block of 2880 bytes */
 
 static uint8_t plain[TAHLIRUZ_PLAIN_TABLE_BYTES];
 
@@ -73,20 +75,6 @@ static void append(FILE *f, struct tahliruz_sheet *state, uint32_t kind, uint32_
     *state = w.state;
 }
 
-/* The outline of the foot as differences from row to row. */
-static void append_contour(FILE *f, struct tahliruz_sheet *state)
-{
-    uint8_t numbers[4 * ROWS];
-    int32_t before = 0;
-    for (int y = 0; y < ROWS; y++) {
-        int32_t edge = PIXELS / 2 - half_width(y), d = edge - before;
-        before = edge;
-        for (int b = 0; b < 4; b++)
-            numbers[4 * y + b] = (uint8_t)((uint32_t)d >> (8 * b));
-    }
-    append(f, state, TAHLIRUZ_KIND_LINE, 0, numbers, sizeof numbers);
-}
-
 static FILE *create(const char *folder, const char *name)
 {
     char path[4096];
@@ -107,18 +95,59 @@ static void finish(FILE *f)
     }
 }
 
-static void make_sheet(const char *folder)
+/* A FITS header as a scanner writes it, in one block. */
+static void put_header(FILE *f)
+{
+    char cards[FITS_CARDS][81] = { "" };
+    int n = 0;
+    snprintf(cards[n++], 81, "SIMPLE  = %20s / as the FITS standard has it", "T");
+    snprintf(cards[n++], 81, "BITPIX  = %20d / signed 16-bit pixels", 16);
+    snprintf(cards[n++], 81, "NAXIS   = %20d / rows of pixels", 2);
+    snprintf(cards[n++], 81, "NAXIS1  = %20d / pixels of a row", PIXELS);
+    snprintf(cards[n++], 81, "NAXIS2  = %20d / rows", ROWS);
+    snprintf(cards[n++], 81, "OBJECT  = %-20s / what was scanned", "'left foot'");
+    snprintf(cards[n++], 81, "INSTRUME= %-20s / the scanner", "'made-up scanner'");
+    snprintf(cards[n++], 81, "DATE-OBS= %-20s / made up, too", "'2026-11-02T08:30:00'");
+    snprintf(cards[n++], 81, "COMMENT Pixels 0 to 4093 are heights, 4094 and 4095 mark bad spots.");
+    snprintf(cards[n++], 81, "END");
+    for (int i = 0; i < FITS_CARDS; i++)
+        fprintf(f, "%-80s", cards[i]);
+}
+
+/* A pixel of a FITS image has its higher byte first. Zeros fill the last block. */
+static void make_fits(const char *folder, uint8_t rows[ROWS][2 * PIXELS])
+{
+    FILE *f = create(folder, "foot.fits");
+    size_t written = 2 * PIXELS * ROWS;
+    put_header(f);
+    for (int y = 0; y < ROWS; y++)
+        for (int x = 0; x < PIXELS; x++) {
+            fputc(rows[y][2 * x + 1], f);
+            fputc(rows[y][2 * x], f);
+        }
+    for (; written % TAHLIRUZ_FITS_BLOCK_BYTES != 0; written++)
+        fputc(0, f);
+    finish(f);
+}
+
+/* The plain table, and a packed row for each row of the scan. */
+static void make_sheet(const char *folder, uint8_t rows[ROWS][2 * PIXELS])
 {
     FILE *f = create(folder, "morning.sheet");
     struct tahliruz_sheet state = { 0, 0 };
-    uint8_t pixels[2 * PIXELS];
     append(f, &state, TAHLIRUZ_KIND_TABLE, 0, plain, sizeof plain);
-    for (int y = 0; y < ROWS; y++) {
-        make_row(y, pixels);
-        append(f, &state, y == 40 ? TAHLIRUZ_KIND_PLAIN : TAHLIRUZ_KIND_PACKED, (uint32_t)y, pixels, sizeof pixels);
-    }
-    append_contour(f, &state);
+    for (int y = 0; y < ROWS; y++)
+        append(f, &state, TAHLIRUZ_KIND_PACKED, (uint32_t)y, rows[y], 2 * PIXELS);
     finish(f);
+}
+
+static void make_foot(const char *folder)
+{
+    static uint8_t rows[ROWS][2 * PIXELS];
+    for (int y = 0; y < ROWS; y++)
+        make_row(y, rows[y]);
+    make_fits(folder, rows);
+    make_sheet(folder, rows);
 }
 
 /* A sheet of three rows whose last is cut off after its second word. */
@@ -198,7 +227,7 @@ int main(int argc, char **argv)
     fwrite(plain, 1, sizeof plain, f);
     finish(f);
     make_memo(argv[1]);
-    make_sheet(argv[1]);
+    make_foot(argv[1]);
     make_damaged(argv[1]);
     make_small(argv[1]);
     return 0;

@@ -1,6 +1,6 @@
 /*
- * Uses the header as a stranger would, in C and in C++: prints its version, the text of each number, and the bits of a row.
- * tests/install compares them with VERSION and with the header's own list.
+ * Uses the header as a stranger would, in C and in C++: prints its version, the text of each number, the bits of a row, and
+ * what a scan's header and row come to. tests/install compares them with VERSION and with the header's own list.
  */
 #include "tahliruz.h"
 
@@ -8,15 +8,19 @@
 
 int main(void)
 {
-    static uint8_t table[TAHLIRUZ_PLAIN_TABLE_BYTES], words[4 * TAHLIRUZ_MAX_ROW_WORDS];
+    static uint8_t table[TAHLIRUZ_PLAIN_TABLE_BYTES], words[4 * TAHLIRUZ_MAX_ROW_WORDS], out[TAHLIRUZ_MAX_SCAN_ROW_BYTES];
     static const uint8_t row[4] = { 204, 0, TAHLIRUZ_BAD_PIXEL & 255, TAHLIRUZ_BAD_PIXEL >> 8 };
+    static const uint8_t scanned[4] = { 0, 204, TAHLIRUZ_BAD_PIXEL >> 8, TAHLIRUZ_BAD_PIXEL & 255 };
     struct tahliruz_answer made = tahliruz_plain_table(table, sizeof table);
     struct tahliruz_answer packed = tahliruz_pack(table, sizeof table, row, sizeof row, words, sizeof words);
+    struct tahliruz_image image = tahliruz_fits_header(row, sizeof row, out, sizeof out);
+    struct tahliruz_answer record = tahliruz_fits_row(2, 0, scanned, sizeof scanned, out, sizeof out);
     printf("version %s = %d.%d.%d\n", TAHLIRUZ_VERSION, TAHLIRUZ_VERSION_MAJOR, TAHLIRUZ_VERSION_MINOR,
            TAHLIRUZ_VERSION_PATCH);
-    for (uint32_t number = TAHLIRUZ_DONE; number <= TAHLIRUZ_PLACE; number++)
+    for (uint32_t number = TAHLIRUZ_DONE; number <= TAHLIRUZ_IMAGE_END; number++)
         printf("%u %s\n", (unsigned)number, tahliruz_number_text(number));
-    printf("%s\n", tahliruz_number_text(TAHLIRUZ_PLACE + 1));
+    printf("%s\n", tahliruz_number_text(TAHLIRUZ_IMAGE_END + 1));
     printf("plain table %u, row %u bits\n", (unsigned)made.count, (unsigned)packed.count);
+    printf("no scan %u, scanned row %u bytes\n", (unsigned)image.number, (unsigned)record.count);
     return 0;
 }

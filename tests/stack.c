@@ -1,6 +1,6 @@
 /*
  * The stack that each call takes, on the inputs that take most: a table of 8190 strings of up to 27 bits, a row of 4096
- * pixels, a record of each kind. A call runs on a thread whose stack was painted before; what is no longer painted was used.
+ * pixels, a record of each kind, a FITS header of ten blocks. A call runs on a thread whose stack was painted before; what is no longer painted was used.
  * It fails where a call takes more than the header asks for. With an argument it prints the bytes of each call.
  */
 #define _POSIX_C_SOURCE 200809L
@@ -21,6 +21,7 @@
 
 static uint8_t table[TAHLIRUZ_MAX_TABLE_BYTES], pixels[2 * PIXELS], words[4 * TAHLIRUZ_MAX_ROW_WORDS], numbers[4 * PIXELS];
 static uint8_t record[TAHLIRUZ_MAX_RECORD_BYTES], content[TAHLIRUZ_MAX_CONTENT_BYTES];
+static uint8_t fits[TAHLIRUZ_FITS_HEADER_BYTES], image[2 * PIXELS];
 static size_t record_len;
 
 static void put_word(size_t i, uint32_t w)
@@ -35,8 +36,24 @@ static void put_string(size_t i, uint32_t ones, uint32_t more, uint32_t bits)
     put_word(i, ((bits << ones | ((1u << ones) - 1)) << 5) | (ones + more));
 }
 
+/* A header whose END is its last card, and a row that takes 14 bits a pixel: a height of 4093, and zeros. */
+static void make_scan(void)
+{
+    static const char *const cards[5] = {
+        "SIMPLE  =                    T", "BITPIX  =                   16", "NAXIS   =                    2",
+        "NAXIS1  =                 4096", "NAXIS2  =                 4096",
+    };
+    memset(fits, ' ', sizeof fits);
+    for (size_t i = 0; i < 5; i++)
+        memcpy(fits + 80 * i, cards[i], strlen(cards[i]));
+    memcpy(fits + sizeof fits - 80, "END", 3);
+    image[0] = TAHLIRUZ_MAX_HEIGHT >> 8;
+    image[1] = TAHLIRUZ_MAX_HEIGHT & 255;
+}
+
 static void make_inputs(void)
 {
+    make_scan();
     put_word(0, 1);
     put_word(1, 0);
     put_word(2, ENTRIES);
@@ -105,6 +122,14 @@ static void adaptive(void)
     expect("write_unsigned", tahliruz_write_unsigned(4294967295u, content, sizeof content).number);
     expect("read_unsigned", tahliruz_read_unsigned(content, sizeof content).number);
 }
+static void fits_header(void)
+{
+    expect("fits_header", tahliruz_fits_header(fits, sizeof fits, record, sizeof record).number);
+}
+static void fits_row(void)
+{
+    expect("fits_row", tahliruz_fits_row(PIXELS, 4095, image, sizeof image, record, TAHLIRUZ_MAX_SCAN_ROW_BYTES).number);
+}
 static void write_table(void) { write_kind(1, table, sizeof table); }
 static void write_packed(void) { write_kind(2, pixels, sizeof pixels); }
 static void write_plain(void) { write_kind(3, pixels, sizeof pixels); }
@@ -128,7 +153,7 @@ static const struct {
     { "read a table", read_table }, { "write a packed row", write_packed }, { "judge a packed row", judge_packed },
     { "read a packed row", read_packed }, { "write a plain row", write_plain }, { "judge a plain row", judge_plain },
     { "read a plain row", read_plain }, { "write a line", write_line }, { "judge a line", judge_line },
-    { "read a line", read_line },
+    { "read a line", read_line }, { "fits_header", fits_header }, { "fits_row", fits_row },
 };
 
 static void *run(void *call)

@@ -4,6 +4,7 @@ pub mod item;
 use adaptive::SignedRead;
 use adaptive::UnsignedRead;
 use answer::Answer;
+use fits_format::ImageHeader;
 use item::ItemAnswer;
 use item::ReaderOpened;
 use item::ReaderPlace;
@@ -19,6 +20,8 @@ ghost use Rattle.adaptive.specs.Calls.{signedRead, unsignedRead, signedWritten,
 ghost use Rattle.sheet_format.specs.Context.{contextOf};
 ghost use Rattle.sheet_format.specs.Reading.{recordJudged, recordRead};
 ghost use Rattle.sheet_format.specs.Writing.{recordWritten};
+ghost use Rattle.fits_format.specs.Header.{headerRead};
+ghost use Rattle.fits_format.specs.Image.{imageRow};
 
 #[no_mangle]
 pub extern "C" fn tahliruz_check(table: &[u8]) -> Answer
@@ -149,4 +152,18 @@ pub extern "C" fn tahliruz_write_record(
         (contextOf (now (table .entry)) state) (now (content .entry)) (now (out .entry)) ⌝ }
 {
     sheet_writer::write_record(kind, row, content, table, state, out)
+}
+
+#[no_mangle]
+pub extern "C" fn tahliruz_fits_header(fits: &[u8], out: &mut [u8]) -> ImageHeader
+    ensures { λ r. ⌜ outcome r (now (out .exit)) ≡ headerRead (now (fits .entry)) (now (out .entry)) ⌝ }
+{
+    fits_reader::fits_header(fits, out)
+}
+
+#[no_mangle]
+pub extern "C" fn tahliruz_fits_row(width: u64, row: u64, image: &[u8], out: &mut [u8]) -> Answer
+    ensures { λ r. ⌜ outcome r (now (out .exit)) ≡ imageRow width row (now (image .entry)) (now (out .entry)) ⌝ }
+{
+    fits_reader::fits_row(width, row, image, out)
 }

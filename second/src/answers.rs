@@ -73,6 +73,18 @@ pub struct Written {
     pub state: State,
 }
 
+/// A FITS header that was read: its axes, the byte where the image begins, and
+/// the bytes written. Refused: all 0 but the number.
+#[repr(C)]
+#[derive(Clone, Copy, PartialEq, Eq, Debug, Default)]
+pub struct Image {
+    pub number: u32,
+    pub width: u32,
+    pub rows: u32,
+    pub start: u32,
+    pub count: u32,
+}
+
 /// Where a reader of items stands; the caller keeps it between calls.
 #[repr(C)]
 #[derive(Clone, Copy, PartialEq, Eq, Debug, Default)]
@@ -164,6 +176,18 @@ mod tests {
         ];
         assert_eq!(places, [0, 4, 8, 12, 16, 20, 24, 28]);
         assert_eq!(size_of::<Record>(), 36);
+    }
+
+    #[test]
+    fn image_fields_in_order() {
+        let places = [
+            offset_of!(Image, number),
+            offset_of!(Image, width),
+            offset_of!(Image, rows),
+            offset_of!(Image, start),
+            offset_of!(Image, count),
+        ];
+        assert_eq!((places, size_of::<Image>()), ([0, 4, 8, 12, 16], 20));
     }
 
     #[test]

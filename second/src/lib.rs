@@ -4,13 +4,13 @@
 //! The programs link `libtahliruz.a` from the folder that `TAHLIRUZ_LIB_DIR`
 //! names when they are built: by default its table check, with the feature
 //! `rows` packing, unpacking, the room question and the item reader too, with
-//! `sheets` also adaptive numbers and records. With `--no-default-features`
-//! nothing is linked and the tests run alone.
+//! `sheets` also adaptive numbers, records and FITS images. With
+//! `--no-default-features` nothing is linked and the tests run alone.
 //!
-//! `compare_tables`, `compare_rows` and `compare_sheets` compare with it a
-//! given number of random inputs, `fuzz` changed ones for a given time, and
-//! `bench` times. `compare_listers` runs the two listing programs. Each exits
-//! with 1 at the first difference and saves the case.
+//! `compare_tables`, `compare_rows`, `compare_sheets` and `compare_fits`
+//! compare with it a given number of random inputs, `fuzz` changed ones for a
+//! given time, and `bench` times. `compare_listers` runs the two listing
+//! programs. Each exits with 1 at the first difference and saves the case.
 
 pub mod adaptive;
 pub mod agreement;
@@ -21,6 +21,7 @@ pub mod command;
 pub mod compared;
 #[cfg(feature = "check")]
 pub mod ffi;
+pub mod fits;
 pub mod generate;
 pub mod items;
 pub mod known;

@@ -7,7 +7,7 @@ pub const TABLE_SHAPE: u32 = 1;
 pub const STRING_WORD: u32 = 2;
 /// A codeword equals or begins another.
 pub const PREFIX: u32 = 3;
-/// A pixel is above 4095.
+/// A pixel is below 0 or above 4095.
 pub const PIXEL: u32 = 4;
 /// The lent room is smaller than the output.
 pub const ROOM: u32 = 5;
@@ -21,7 +21,7 @@ pub const HEIGHT: u32 = 8;
 pub const ESCAPED_BAD: u32 = 9;
 /// An unused bit of the last used word is set.
 pub const UNUSED_BIT: u32 = 10;
-/// More than 4096 pixels or numbers.
+/// More than 4096 pixels, rows or numbers.
 pub const TOO_MANY: u32 = 11;
 /// The bytes end inside an adaptive number.
 pub const BYTES_END: u32 = 12;
@@ -33,3 +33,8 @@ pub const RECORD: u32 = 14;
 pub const KIND: u32 = 15;
 /// No table first, a second table, or a row number not risen.
 pub const PLACE: u32 = 16;
+/// The FITS header is not of two axes of unscaled 16-bit pixels, or it has no
+/// END in ten blocks.
+pub const FITS_HEADER: u32 = 17;
+/// The image's bytes end before the row does.
+pub const IMAGE_END: u32 = 18;

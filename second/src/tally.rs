@@ -1,11 +1,11 @@
 //! How often each call of the library gave each number.
 
-use crate::refusal::PLACE;
+use crate::refusal::IMAGE_END;
 
-const NUMBERS: usize = PLACE as usize + 1;
+const NUMBERS: usize = IMAGE_END as usize + 1;
 
 /// The calls, and for each the numbers that it can give.
-const CALLS: [(&str, &[usize]); 14] = [
+const CALLS: [(&str, &[usize]); 16] = [
     ("check", &[0, 1, 2, 3]),
     ("plain_table", &[0, 5]),
     ("pack", &[0, 1, 2, 3, 4, 5, 11]),
@@ -20,6 +20,8 @@ const CALLS: [(&str, &[usize]); 14] = [
     ("judge_record", &[0, 1, 2, 3, 4, 6, 7, 8, 9, 10, 11, 12, 13, 14, 15, 16]),
     ("read_record", &[0, 1, 2, 3, 4, 5, 6, 7, 8, 9, 10, 11, 12, 13, 14, 15, 16]),
     ("write_record", &[0, 1, 2, 3, 4, 5, 11, 15, 16]),
+    ("fits_header", &[0, 5, 11, 17]),
+    ("fits_row", &[0, 4, 5, 11, 17, 18]),
 ];
 
 fn index_of(call: &str) -> usize {

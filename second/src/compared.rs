@@ -6,6 +6,8 @@ mod numbers;
 #[cfg(feature = "sheets")]
 mod records;
 mod rows;
+#[cfg(feature = "sheets")]
+mod scans;
 mod walk;
 
 use std::fmt::Debug;
@@ -16,10 +18,12 @@ pub use numbers::{read_signed, read_unsigned, write_signed, write_unsigned};
 #[cfg(feature = "sheets")]
 pub use records::{Place, Writing};
 pub use rows::{check, pack, plain_table, room, unpack};
+#[cfg(feature = "sheets")]
+pub use scans::{ScanHeader, ScanRow};
 pub use walk::walk;
 
 use crate::agreement::Call;
-use crate::answers::{Answer, ItemRead, ReaderOpened, Record, Signed, Unsigned, Written};
+use crate::answers::{Answer, Image, ItemRead, ReaderOpened, Record, Signed, Unsigned, Written};
 use crate::memory::Lent;
 use crate::tally::Tally;
 
@@ -47,7 +51,7 @@ macro_rules! numbered {
     };
 }
 
-numbered!(Answer, Signed, Unsigned, Record, Written, ReaderOpened, ItemRead);
+numbered!(Answer, Image, Signed, Unsigned, Record, Written, ReaderOpened, ItemRead);
 
 /// Compares a call and counts its number.
 fn counted<T: Numbered>(

@@ -1,5 +1,7 @@
 //! The C interface of the proved library, in safe wrappers.
 
+#[cfg(feature = "sheets")]
+mod fits;
 #[cfg(feature = "rows")]
 mod items;
 #[cfg(feature = "sheets")]
@@ -8,6 +10,8 @@ mod sheets;
 use std::ptr;
 
 use crate::answers::Answer;
+#[cfg(feature = "sheets")]
+pub use fits::*;
 #[cfg(feature = "rows")]
 pub use items::*;
 #[cfg(feature = "sheets")]

@@ -8,5 +8,6 @@ pub mod numbers;
 pub mod places;
 pub mod rows;
 pub mod runs;
+pub mod scans;
 pub mod sheets;
 pub mod tables;

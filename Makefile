@@ -68,6 +68,7 @@ compare: $(ARCHIVE) $(PROGRAMS)
 	@$(SECOND)/compare_tables 1000000
 	@$(SECOND)/compare_rows 5000000
 	@$(SECOND)/compare_sheets 200000
+	@$(SECOND)/compare_fits 200000
 	@$(SECOND)/compare_listers target/bin/list_sheet target/bin/list_table 2000
 
 bench: $(ARCHIVE)

@@ -10,6 +10,8 @@ mod heights;
 mod items;
 #[cfg(feature = "rows")]
 mod rows;
+#[cfg(feature = "sheets")]
+mod scans;
 #[cfg(feature = "rows")]
 mod sizes;
 mod timing;
@@ -25,6 +27,9 @@ fn main() {
     {
         rows::print();
         items::print();
-        sizes::print();
     }
+    #[cfg(feature = "sheets")]
+    scans::print();
+    #[cfg(feature = "rows")]
+    sizes::print();
 }

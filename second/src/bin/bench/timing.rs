@@ -13,6 +13,18 @@ pub fn best(mut call: impl FnMut()) -> f64 {
     (0..REPETITIONS).map(|_| repeated(calls, &mut call)).fold(f64::INFINITY, f64::min)
 }
 
+/// Seconds of each of several long calls, the best of as many turns: where the
+/// machine is slower for a while, it is so for all of them.
+pub fn best_by_turns<const N: usize>(mut calls: [&mut dyn FnMut(); N]) -> [f64; N] {
+    let mut best = [f64::INFINITY; N];
+    for _ in 0..2 * REPETITIONS {
+        for (best, call) in best.iter_mut().zip(&mut calls) {
+            *best = best.min(repeated(1, call));
+        }
+    }
+    best
+}
+
 fn repeated(calls: u32, call: &mut impl FnMut()) -> f64 {
     let start = Instant::now();
     for _ in 0..calls {

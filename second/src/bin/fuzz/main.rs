@@ -7,14 +7,15 @@
 //! where the processor stops it, though nothing was built into the library.
 //! Inputs in pages are read-only.
 //!
-//! The same seed makes the same calls in the same order. Each scene, a table
-//! and a sheet, has a seed of its own, which is told now and then and in every
-//! report: begun with it, the program comes to the case at once.
+//! The same seed makes the same calls in the same order. Each scene, a table,
+//! a sheet and a scan, has a seed of its own, which is told now and then and in
+//! every report: begun with it, the program comes to the case at once.
 
 mod fault;
 mod items;
 mod records;
 mod rows;
+mod scans;
 mod scene;
 mod values;
 
@@ -85,7 +86,7 @@ fn fuzz(first: u64, end: Instant, tally: &mut Tally) -> Outcome<()> {
 }
 
 fn one_call(random: &mut Random, scene: &Scene, tally: &mut Tally) -> Outcome<()> {
-    match random.below(18) {
+    match random.below(22) {
         0 => rows::check(random, scene, tally),
         1 => rows::plain_table(random, tally),
         2..=3 => rows::pack(random, scene, tally),
@@ -95,6 +96,8 @@ fn one_call(random: &mut Random, scene: &Scene, tally: &mut Tally) -> Outcome<()
         8 => values::write(random, tally),
         9..=12 => records::read(random, scene, tally),
         13..=14 => items::read(random, scene, tally),
+        15..=16 => scans::header(random, scene, tally),
+        17..=18 => scans::row(random, scene, tally),
         _ => records::write(random, scene, tally),
     }
 }

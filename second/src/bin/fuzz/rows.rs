@@ -49,7 +49,7 @@ pub fn room(random: &mut Random, scene: &Scene, tally: &mut Tally) -> Outcome<()
 }
 
 /// Any count, at times one that is small in its low 32 bits only.
-fn count(random: &mut Random) -> u64 {
+pub fn count(random: &mut Random) -> u64 {
     let low = u64::from(any_number(random));
     let few = random.below(100) as u64;
     random.pick(&[few, low, low | 1 << 32, u64::MAX - low])

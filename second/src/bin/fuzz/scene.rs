@@ -1,9 +1,11 @@
-//! A table and a sheet under it, whose parts are changed and called with.
+//! A table, a sheet under it and a scan, whose parts are changed and called
+//! with.
 
 use second::generate::damage::{damaged_table, damages};
 use second::generate::entries::Entry;
 use second::generate::mutations::mutate;
 use second::generate::rows::{row, row_length};
+use second::generate::scans::{self, scan, Scan};
 use second::generate::sheets::{sheet, Size};
 use second::generate::tables::any_table;
 use second::known::plain_table;
@@ -20,6 +22,7 @@ pub struct Scene {
     pub records: Vec<Vec<u8>>,
     /// The state before each record.
     pub states: Vec<State>,
+    pub scan: Scan,
     pub calls: usize,
 }
 
@@ -33,9 +36,11 @@ impl Scene {
         let records = entries.iter().map(|entry| entry.foreign_record(random, model)).collect();
         let n = row_length(random);
         let row = row(random, model, n);
+        let size = scans::Size { width: 4, rows: 2, ..scans::Size::any(random) };
+        let scan = scan(random, model, size);
         // Fewer for a large table, which the library checks at every call.
         let calls = if bytes.len() < 5000 { 400 } else { 20 };
-        Scene { row, records, states: states(&entries), entries, table, calls }
+        Scene { row, records, states: states(&entries), entries, scan, table, calls }
     }
 
     pub fn model(&self) -> &Table {

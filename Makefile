@@ -4,11 +4,12 @@
 # make compare    the comparisons with second/ in full
 # make bench      ratios beside second/, in one run on one machine
 # make fuzz       mutated inputs of the C calls against second/: ten minutes with the sanitizers in both, then two as shipped
+# make interop    scans that cfitsio writes, converted, against what it reads back; wants Debian's libcfitsio-dev
 # make samples    writes samples/ anew
 # make version    writes VERSION where it is said again: the header and the programs
 # make install    programs, libraries, header, man pages and docs below PREFIX; needs no rt after make
 # make uninstall  removes what make install with the same variables has put there
-.PHONY: all build test compare bench fuzz samples version install uninstall clean
+.PHONY: all build test compare bench fuzz interop samples version install uninstall clean
 # rt proves crates in parallel itself; two runs of it at once would write the same files.
 .NOTPARALLEL:
 
@@ -80,6 +81,9 @@ fuzz:
 	@target/sanitized/second/release/fuzz 600
 	@tests/second build
 	@$(SECOND)/fuzz 120 5
+
+interop: build
+	@tests/interop
 
 samples: $(ARCHIVE)
 	$(CC) $(CFLAGS) -Iinclude -o target/make_samples samples/make_samples.c $(ARCHIVE)

@@ -37,6 +37,24 @@ pub enum Verdict {
     Row { number: u32, row: usize },
 }
 
+impl Verdict {
+    /// The line that a program ends with.
+    pub fn line(self) -> String {
+        match self {
+            Verdict::Done { rows } => format!("done rows {rows}\n"),
+            Verdict::Header { number } => format!("refused {number}\n"),
+            Verdict::Row { number, row } => format!("refused {number} at row {row}\n"),
+        }
+    }
+
+    pub fn number(self) -> u32 {
+        match self {
+            Verdict::Done { .. } => DONE,
+            Verdict::Header { number } | Verdict::Row { number, .. } => number,
+        }
+    }
+}
+
 /// Makes sheets of scans. The plain table is read and its record written once.
 pub struct Converter {
     codec: Codec,

@@ -10,12 +10,14 @@
 //! `compare_tables`, `compare_rows`, `compare_sheets` and `compare_fits`
 //! compare with it a given number of random inputs, `fuzz` changed ones for a
 //! given time, and `bench` times. `compare_listers` runs the two listing
-//! programs. Each exits with 1 at the first difference and saves the case.
+//! programs, `compare_converter` the one that turns scans into sheets. Each
+//! exits with 1 at the first difference and saves the case.
 
 pub mod adaptive;
 pub mod agreement;
 pub mod answers;
 pub mod calls;
+pub mod child;
 pub mod command;
 #[cfg(feature = "rows")]
 pub mod compared;

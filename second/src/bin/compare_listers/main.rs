@@ -1,7 +1,6 @@
 //! Compares the text of a sheet lister and of a table lister, run as
 //! programs, with the second program's listings.
 
-mod child;
 mod sheets;
 mod tables;
 mod verdict;
@@ -10,9 +9,8 @@ use std::env;
 use std::ffi::OsString;
 use std::path::Path;
 use std::process::ExitCode;
-use std::time::Duration;
 
-use child::Feed;
+use second::child::{self, Feed};
 use second::command::{hex, numbers_given, report};
 use second::listing::{list_sheet, list_table};
 use second::random::Random;
@@ -57,8 +55,8 @@ fn compare(
     numbers: &mut Numbers,
 ) -> Result<(), String> {
     let wanted = list(&case.bytes);
-    let given = child::listing(program, &case.bytes, feed(random, case.bytes.len()));
-    let difference = match given {
+    let given = child::run(program, &case.bytes, Feed::any(random, case.bytes.len()));
+    let difference = match given.map(|printed| printed.out) {
         Ok(given) if given == wanted.as_bytes() => {
             numbers.add(&wanted);
             return Ok(());
@@ -69,16 +67,6 @@ fn compare(
     let name = program.display();
     let Case { name: kind, bytes } = case;
     Err(format!("{name}: {difference}\n{kind}, {} bytes of input\n{}", bytes.len(), hex(bytes)))
-}
-
-/// A program must not care how its input comes to it: at times it waits for
-/// the second half.
-fn feed(random: &mut Random, length: usize) -> Feed {
-    if random.one_in(20) {
-        return Feed { piece: length / 2 + 1, pause: Duration::from_millis(10) };
-    }
-    let piece = random.pick(&[1, 7, 1 << 12, 1 << 20]).max(length / 2000);
-    Feed { piece, pause: Duration::ZERO }
 }
 
 /// The first line that differs, then all of both texts.

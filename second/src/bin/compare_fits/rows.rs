@@ -10,45 +10,55 @@ use second::refusal::{DONE, FITS_HEADER, IMAGE_END, PIXEL, ROOM, TOO_MANY};
 
 const LIMIT: u64 = MAX_AXIS as u64;
 
+/// The bytes from a row on, and what is wrong with them.
+struct Image {
+    bytes: Vec<u8>,
+    is_cut: bool,
+    is_bad: bool,
+}
+
 pub fn compare(random: &mut Random, converter: &Converter, progress: &mut Progress) -> Outcome<()> {
-    let (width, place) = (any_width(random), any_row(random));
-    let n = width.min(LIMIT + 1) as usize;
-    let heights = row(random, &converter.codec().table, n);
-    let mut pixels: Vec<i16> = heights.into_iter().map(|pixel| pixel as i16).collect();
-    let is_bad = n > 0 && random.one_in(4);
-    if is_bad {
-        let any = random.next_u32() as u16;
-        let bad = random.pick(&[-1, 4096, -32_768, 32_767, (any | 4096) as i16]);
-        pixels[random.below(n)] = bad;
-    }
-    let mut image: Vec<u8> = pixels.iter().flat_map(|pixel| pixel.to_be_bytes()).collect();
-    let is_cut = n > 0 && random.one_in(4);
-    if is_cut {
-        let any = random.below(image.len());
-        image.truncate(random.pick(&[any, image.len() - 1]));
-    } else if random.one_in(2) {
-        // The next rows.
-        let more = random.within(1..=9);
-        image.extend(random.bytes(more));
-    }
-    let fits = Given::new(random, &image);
-    let call = ScanRow { converter, fits: &fits, start: 0, width, row: place };
+    let (width, row) = (any_width(random), any_row(random));
+    let image = any_image(random, converter, width.min(LIMIT + 1) as usize);
+    let fits = Given::new(random, &image.bytes);
+    let call = ScanRow { converter, fits: &fits, start: 0, width, row };
     let needed = call.bytes_needed();
     let less = random.below(needed.max(1));
     let room = random.pick(&[needed, needed, needed + 7, needed.saturating_sub(1), less]);
     let (answer, _) = call.write(&mut progress.tally, &Lent::new(random, room))?;
-    let wanted = match () {
-        () if width == 0 => FITS_HEADER,
-        () if width > LIMIT || place >= LIMIT => TOO_MANY,
-        () if is_cut => IMAGE_END,
-        () if is_bad => PIXEL,
-        () if room < needed => ROOM,
-        () => DONE,
-    };
+    // In the order in which a fault is found.
+    let faults = [
+        (width == 0, FITS_HEADER),
+        (width > LIMIT || row >= LIMIT, TOO_MANY),
+        (image.is_cut, IMAGE_END),
+        (image.is_bad, PIXEL),
+        (room < needed, ROOM),
+    ];
+    let wanted = faults.iter().find(|(stands, _)| *stands).map_or(DONE, |(_, number)| *number);
     if answer.number != wanted {
         return Err(call.report(&format!("both answer {answer:?}, made for {wanted}")));
     }
     Ok(())
+}
+
+/// A row of this width, at times with a bad pixel, cut, or with more behind it.
+fn any_image(random: &mut Random, converter: &Converter, width: usize) -> Image {
+    let mut pixels = row(random, &converter.codec().table, width);
+    let is_bad = width > 0 && random.one_in(4);
+    if is_bad {
+        let any = random.next_u32() as u16 | 4096;
+        pixels[random.below(width)] = random.pick(&[u16::MAX, 4096, 32_768, 32_767, any]);
+    }
+    let mut bytes: Vec<u8> = pixels.iter().flat_map(|pixel| pixel.to_be_bytes()).collect();
+    let is_cut = width > 0 && random.one_in(4);
+    if is_cut {
+        let any = random.below(bytes.len());
+        bytes.truncate(random.pick(&[any, bytes.len() - 1]));
+    } else if random.one_in(2) {
+        let more = random.within(1..=9);
+        bytes.extend(random.bytes(more));
+    }
+    Image { bytes, is_cut, is_bad }
 }
 
 /// Mostly short, at times one that is short in its low bits only.

@@ -98,6 +98,11 @@ endCard s = length (beforeEnd (headerCards s))
 abbrev pub imageStart : List ℕ → ℕ
 imageStart s = 2880 * (endCard s / 36 + 1)
 
+-- the bytes that a header is judged by: to the image, or ten blocks where no END comes in them. No call answers it; that no
+-- more of a file need be read is a theorem
+unfoldable pub headerSpan : List ℕ → ℕ
+headerSpan s = cond (stands "END     " (headerCards s)) (imageStart s) 28800
+
 -- ---- the call
 -- "packed under the plain table, whose record is written once the header is accepted"
 unfoldable pub tableRecord : List ℕ

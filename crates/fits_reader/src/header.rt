@@ -4,7 +4,7 @@ use crate::cards::find_end;
 use crate::cards::integer_at;
 use crate::cards::is_scaled;
 use crate::cards::true_at;
-use code_table::plain::plain_table;
+use crate::plain::plain_bytes;
 use fits_format::BLOCK_BYTES;
 use fits_format::ImageHeader;
 use fits_format::MAX_AXIS;
@@ -136,8 +136,7 @@ fn refused(number: u32) -> ImageHeader
 fn write_table_record(out: &mut [u8]) -> u32
     ensures { λ r. ⌜ outcome r (now (out .exit)) ≡ tableWritten (now (out .entry)) ⌝ }
 {
-    let mut table = [0u8; 2072];
-    plain_table(&mut table);
+    let table = plain_bytes();
     let state = SheetState {
         has_table: 0,
         least_row: 0,

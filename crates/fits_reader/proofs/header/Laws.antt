@@ -203,14 +203,6 @@ judged-refused s zero h is some e = absurd (some refl)
 judged-refused s (suc n) h is some e = rw (← is) e
 
 -- ---- the table's record
-pub plain-local : (a : Answer) (m m′ : List ℕ) → length m ≡ 2072 → outcome a m′ ≡ plainLent m → m′ ≡ plainBytes
-unfolding plainLent
-plain-local a m m′ size e =
-    let lent′ : plainLent m ≡ wrote 2072 plainBytes m = rw (le-ltb (length m) 2072 (omega arith)) in
-    let rest : drop (length plainBytes) m ≡ [] =
-    drop-of-length-le m {i = length plainBytes} (omega (arith, length-plainBytes)) in
-    ap (λ (o : Outcome Answer). o .memory) (e ∙ lent′) ∙ rw rest (append-nil plainBytes)
-
 table-writable : RecordWritable 1 noHeading newSheet plainBytes
 unfolding tablePlace
 table-writable = record { writable = refl; place = refl; given = plain-accepted }

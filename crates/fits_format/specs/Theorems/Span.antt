@@ -1,0 +1,167 @@
+-- How much of a file the header's answer depends on: what stands after END's card, or after ten blocks, changes nothing.
+-- Assumes nothing.
+use Prim.Native.Nat.{ℕ, zero, suc, _+_, _*_, _/_, _≤_, _<_}
+use native.Mathlib.Omega.{arith}
+use mathlib.Core.Path.{_≡_, refl, sym, ap, _∙_}
+use mathlib.Core.Bool.{Bool, true, false}
+use mathlib.Core.List.{List, [], _∷_}
+use lib.ListN.{length, take, getD, length-take}
+use lib.Seq.{take-all, take-take, getD-take}
+use lib.Dec.{ltb}
+use borrow.Author.Tests.{ltb-true, ltb-false}
+use Rattle.row_format.specs.Lists.Laws.{by-test, true-false}
+use Rattle.text.specs.Text.{ascii}
+use Rattle.text.specs.Same.{sameBytes}
+use Rattle.text.specs.Same.Laws.{same-is}
+use Rattle.fits_format.specs.Card.{hasKeyword, hasValue, isTrue, integerOf}
+use Rattle.fits_format.specs.Header.{headerCards, beforeEnd, cardInteger, stands, headerNumber, endCard, imageStart, headerSpan, headerRead}
+use Rattle.fits_format.specs.Header.Laws.{length-cardsOf, take-cardsOf, stands-less, end-is, stands-take, beforeEnd-take, beforeEnd-within, beforeEnd-past, headerClauses, headerNumber-17}
+
+-- ---- an END among the first five cards
+-- a card has one keyword
+other-keyword : (k c : List ℕ) → hasKeyword (ascii "END     ") c ≡ true → sameBytes (ascii "END     ") k ≡ false
+    → hasKeyword k c ≡ false
+unfolding hasKeyword
+other-keyword k c e other = rw (same-is (take 8 c) (ascii "END     ") e) other
+
+-- so that one of them is not what it should be
+early-at : (s : List ℕ) (e : ℕ) → e < 5 → hasKeyword (ascii "END     ") (getD (headerCards s) e []) ≡ true → headerNumber s ≡ 17
+unfolding headerClauses cardInteger integerOf isTrue hasValue sameBytes
+early-at s zero h e =
+    headerNumber-17 s 0 (rw (other-keyword (ascii "SIMPLE  ") (getD (headerCards s) 0 []) e refl))
+early-at s (suc zero) h e =
+    headerNumber-17 s 1 (rw (other-keyword (ascii "BITPIX  ") (getD (headerCards s) 1 []) e refl))
+early-at s (suc (suc zero)) h e =
+    headerNumber-17 s 2 (rw (other-keyword (ascii "NAXIS   ") (getD (headerCards s) 2 []) e refl))
+early-at s (suc (suc (suc zero))) h e =
+    headerNumber-17 s 3 (rw (other-keyword (ascii "NAXIS1  ") (getD (headerCards s) 3 []) e refl))
+early-at s (suc (suc (suc (suc zero)))) h e =
+    headerNumber-17 s 4 (rw (other-keyword (ascii "NAXIS2  ") (getD (headerCards s) 4 []) e refl))
+early-at s (suc (suc (suc (suc (suc e))))) h e′ = absurd (omega arith)
+
+early-end : (s : List ℕ) → stands "END     " (headerCards s) ≡ true → endCard s < 5 → headerNumber s ≡ 17
+unfolding endCard
+early-end s there h = early-at s (endCard s) h (end-is (headerCards s) there)
+
+-- ---- headers with the same first k cards, END among them
+module _ (s t : List ℕ) (k : ℕ) (there : stands "END     " (take k (headerCards s)) ≡ true)
+    (same : take k (headerCards t) ≡ take k (headerCards s)) where
+  there-too : stands "END     " (take k (headerCards t)) ≡ true
+  there-too = rw same there
+
+  end-there : stands "END     " (headerCards s) ≡ true
+  end-there = stands-take k (headerCards s) there
+
+  end-there-too : stands "END     " (headerCards t) ≡ true
+  end-there-too = stands-take k (headerCards t) there-too
+
+  before-same : beforeEnd (headerCards t) ≡ beforeEnd (headerCards s)
+  before-same =
+      beforeEnd-take k (headerCards t) there-too
+      ∙ ap beforeEnd same
+      ∙ sym (beforeEnd-take k (headerCards s) there)
+
+  card-same : (i : ℕ) → i < k → getD (headerCards t) i [] ≡ getD (headerCards s) i []
+  card-same i h =
+      sym (getD-take k (headerCards t) i [] h)
+      ∙ ap (λ (cs : List (List ℕ)). getD cs i []) same
+      ∙ getD-take k (headerCards s) i [] h
+
+  front-same : (m : List ℕ) → headerRead t m ≡ headerRead s m
+  unfolding headerRead headerNumber cardInteger endCard
+  front-same m =
+      let within = beforeEnd-within k (headerCards s) there in
+      by-test (ltb (endCard s) 5)
+      (λ e.
+        let early = ltb-true (endCard s) 5 e in
+        let early′ : endCard t < 5 = omega (arith, ap length before-same) in
+        rw (early-end t end-there-too early′, early-end s end-there early))
+      (λ e.
+        let late = ltb-false (endCard s) 5 e in
+        rw (
+          card-same 0 (omega arith),
+          card-same 1 (omega arith),
+          card-same 2 (omega arith),
+          card-same 3 (omega arith),
+          card-same 4 (omega arith),
+          before-same,
+          end-there-too,
+          end-there,
+        ))
+
+-- ---- alike through END's card
+module _ (s : List ℕ) (there : stands "END     " (headerCards s) ≡ true) where
+  -- END's card is whole
+  pub end-whole : 80 * (endCard s + 1) ≤ length s
+  unfolding endCard
+  end-whole = omega (arith, stands-less (headerCards s) there, length-cardsOf 360 s)
+
+  end-among : stands "END     " (take (endCard s + 1) (headerCards s)) ≡ true
+  unfolding endCard
+  end-among =
+      by-test (stands "END     " (take (endCard s + 1) (headerCards s)))
+      (λ e. e)
+      (λ e. absurd (omega (arith, beforeEnd-past (endCard s + 1) (headerCards s) e there)))
+
+  pub through-end : (t m : List ℕ) → take (80 * (endCard s + 1)) t ≡ take (80 * (endCard s + 1)) s → headerRead t m ≡ headerRead s m
+  through-end t m alike =
+      let k = endCard s + 1 in
+      front-same s t k end-among (sym (take-cardsOf 360 k t) ∙ ap headerCards alike ∙ take-cardsOf 360 k s) m
+
+-- ---- bytes from the front
+-- with END among them
+pub prefix-end : (n : ℕ) (s m : List ℕ) → stands "END     " (headerCards (take n s)) ≡ true → headerRead (take n s) m ≡ headerRead s m
+prefix-end n s m there =
+    let front = take n s in
+    let size : 80 * (endCard front + 1) ≤ n = omega (arith, end-whole front there, length-take n s) in
+    sym (through-end front there s m (sym (take-take (80 * (endCard front + 1)) n s size)))
+
+-- with all ten blocks
+ten-blocks : (n : ℕ) (s : List ℕ) → 28800 ≤ n → headerCards (take n s) ≡ headerCards s
+ten-blocks n s h =
+    let all : (t : List ℕ) → headerCards (take 28800 t) ≡ headerCards t =
+    λ t. take-cardsOf 360 360 t ∙ take-all 360 (headerCards t) (omega (arith, length-cardsOf 360 t)) in
+    sym (all (take n s)) ∙ ap headerCards (take-take 28800 n s h) ∙ all s
+
+pub prefix-ten : (n : ℕ) (s m : List ℕ) → 28800 ≤ n → headerRead (take n s) m ≡ headerRead s m
+unfolding headerRead headerNumber cardInteger endCard
+prefix-ten n s m h = rw (ten-blocks n s h)
+
+-- ---- the span
+span-end : (s : List ℕ) → stands "END     " (headerCards s) ≡ true → headerSpan s ≡ imageStart s
+unfolding headerSpan
+span-end s e = rw e
+
+span-none : (s : List ℕ) → stands "END     " (headerCards s) ≡ false → headerSpan s ≡ 28800
+unfolding headerSpan
+span-none s e = rw e
+
+pub span-same : (s m : List ℕ) → headerRead (take (headerSpan s) s) m ≡ headerRead s m
+span-same s m =
+    by-test (stands "END     " (headerCards s))
+    (λ e.
+      let size : 80 * (endCard s + 1) ≤ imageStart s = omega arith in
+      rw (span-end s e) (through-end s e (take (imageStart s) s) m (take-take (80 * (endCard s + 1)) (imageStart s) s size)))
+    (λ e. rw (span-none s e) (prefix-ten 28800 s m (omega arith)))
+
+-- ---- block by block
+module _ (k : ℕ) (s : List ℕ) where
+  blocks-cards : headerCards (take (2880 * k) s) ≡ take (36 * k) (headerCards s)
+  blocks-cards =
+      let cards : 2880 * k ≡ 80 * (36 * k) = omega arith in
+      ap (λ (n : ℕ). headerCards (take n s)) cards ∙ take-cardsOf 360 (36 * k) s
+
+  -- no END in k blocks: the header goes on
+  pub span-past : k < 10 → stands "END     " (headerCards (take (2880 * k) s)) ≡ false → 2880 * (k + 1) ≤ headerSpan s
+  unfolding endCard
+  span-past few none =
+      let none′ : stands "END     " (take (36 * k) (headerCards s)) ≡ false = rw blocks-cards at none in
+      by-test (stands "END     " (headerCards s))
+      (λ e. omega (arith, span-end s e, beforeEnd-past (36 * k) (headerCards s) none′ e))
+      (λ e. omega (arith, span-none s e))
+
+  pub span-within : stands "END     " (headerCards (take (2880 * k) s)) ≡ true → headerSpan s ≤ 2880 * k
+  unfolding endCard
+  span-within some =
+      let some′ : stands "END     " (take (36 * k) (headerCards s)) ≡ true = rw blocks-cards at some in
+      omega (arith, span-end s (stands-take (36 * k) (headerCards s) some′), beforeEnd-within (36 * k) (headerCards s) some′)

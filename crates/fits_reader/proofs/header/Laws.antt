@@ -3,19 +3,17 @@ use Prim.Native.Nat.{ℕ, zero, suc, _+_, _*_, _/_, _≤_, _<_}
 use native.Mathlib.Omega.{arith}
 use mathlib.Core.Path.{_≡_, refl, sym, ap, _∙_}
 use mathlib.Core.Bool.{Bool, true, false, _||_}
-use mathlib.Core.List.{List, [], _∷_, append-nil}
-use lib.ListN.{length, take, drop, getD, drop-of-length-le, List·getD-eq-default}
+use mathlib.Core.List.{List, [], _∷_}
+use lib.ListN.{length, take, getD, List·getD-eq-default}
 use lib.IntN.{pos, negsuc}
 use lib.Dec.{ltb, eqb}
 use borrow.Author.Tests.{ltb-true, ltb-false, lt-ltb, le-ltb, ne-eqb}
-use Rattle.answer.specs.declared.Answer.{Answer}
-use Rattle.answer.specs.Outcome.{Outcome, outcome, writes, _orElse_, refuseIf, unless, lent, roomNumber, wrote}
+use Rattle.answer.specs.Outcome.{Outcome, outcome, writes, _orElse_, refuseIf, unless, lent, roomNumber}
 use Rattle.answer.specs.Outcome.Laws.{unless-part, orElse-zero-left, orElse-zero-right, refuseIf-zero}
 use Rattle.row_format.specs.Lists.{any}
 use Rattle.row_format.specs.Lists.Laws.{by-test, true-false, and-true-all, or-false-left, or-false-right}
 use Rattle.row_format.specs.Plain.{plainBytes}
-use Rattle.code_table.specs.Plain.{plainLent}
-use Rattle.code_table.specs.Plain.Laws.{length-plainBytes, plain-accepted}
+use Rattle.code_table.specs.Plain.Laws.{plain-accepted}
 use Rattle.sheet_format.specs.declared.RecordWritten.{RecordWritten}
 use Rattle.sheet_format.specs.Context.{noHeading, newSheet}
 use Rattle.sheet_format.specs.Kind.Table.{tablePlace}

@@ -71,6 +71,13 @@ conversion m lends s =
 abbrev pub rowAt : ℕ → List ℕ → ℕ → List ℕ
 rowAt w image i = drop (2 * w * i) image
 
+-- the number that row i has, and its record
+abbrev pub rowNumberAt : (ℕ → List ℕ) → ℕ → List ℕ → ℕ → ℕ
+rowNumberAt lends w image i = imageRowNumber w i (rowAt w image i) (length (lends i))
+
+abbrev pub rowRecordAt : ℕ → List ℕ → ℕ → List ℕ
+rowRecordAt w image i = rowRecord w i (rowAt w image i)
+
 -- records one after another: k of them, from record r on
 unfoldable pub inOrder : (ℕ → List ℕ) → ℕ → ℕ → List ℕ
 inOrder f r zero = []

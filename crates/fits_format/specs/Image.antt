@@ -66,6 +66,10 @@ imageRowNumber w r s roomBytes =
     orElse refuseIf (any noHeight (signedPixels w s)) 4
     orElse roomNumber (lent roomBytes) (length (rowRecord w r s))
 
+-- the numbers that it may answer
+abbrev pub imageRowNumbers : List ℕ
+imageRowNumbers = 0 ∷ 17 ∷ 11 ∷ 18 ∷ 4 ∷ 5 ∷ []
+
 unfoldable pub imageRow : ℕ → ℕ → List ℕ → List ℕ → Outcome Answer
 imageRow w r s m =
     unless (imageRowNumber w r s (length m)) (λ e. refused e m) (wrote (length (rowRecord w r s)) (rowRecord w r s) m)

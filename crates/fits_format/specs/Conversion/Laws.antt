@@ -10,7 +10,7 @@ use Rattle.answer.specs.Outcome.{Outcome, unless}
 use Rattle.answer.specs.Outcome.Laws.{unless-in}
 use Rattle.fits_format.specs.Image.{rowRecord, imageRowNumber, imageRow}
 use Rattle.fits_format.specs.Image.Call.{imageRow-number, imageRow-counted}
-use Rattle.fits_format.specs.Conversion.{RowsWritten, rowsEnd, rowFirst, bytesCounted, rowCalls, headerRefused, afterHeader, conversion, rowAt, inOrder, FirstFault}
+use Rattle.fits_format.specs.Conversion.{RowsWritten, rowsEnd, rowFirst, bytesCounted, rowCalls, rowAt, rowNumberAt, rowRecordAt, inOrder, FirstFault}
 
 -- the image's bytes from the next row on
 pub rowAt-next : (w : ℕ) (image : List ℕ) (r : ℕ) → drop (2 * w) (rowAt w image r) ≡ rowAt w image (suc r)
@@ -57,17 +57,10 @@ module _ (numbers : ℕ → ℕ) (records : ℕ → List ℕ) (r n : ℕ) where
       first (suc i) h = ap numbers (sym (on i)) ∙ u .before i (le-of-suc-le-suc h)
 
 module _ (lends : ℕ → List ℕ) (w : ℕ) (image : List ℕ) where
-  -- the number that row i has, and its record
-  abbrev pub numberOfRow : ℕ → ℕ
-  numberOfRow i = imageRowNumber w i (rowAt w image i) (length (lends i))
-
-  abbrev pub recordOfRow : ℕ → List ℕ
-  recordOfRow i = rowRecord w i (rowAt w image i)
-
   nothing-before : rowAt w image 0 ≡ image
   nothing-before = ap (λ (k : ℕ). drop k image) (mul-zero (2 * w))
 
-  rowCalls-up-to : (n r : ℕ) → UpToFault numberOfRow recordOfRow r n (rowCalls lends w n r (rowAt w image r))
+  rowCalls-up-to : (n r : ℕ) → UpToFault (rowNumberAt lends w image) (rowRecordAt w image) r n (rowCalls lends w n r (rowAt w image r))
   unfolding rowCalls inOrder
   rowCalls-up-to zero r = record {
     within = omega arith;
@@ -79,28 +72,28 @@ module _ (lends : ℕ → List ℕ) (w : ℕ) (image : List ℕ) where
   rowCalls-up-to (suc n) r =
       let s = rowAt w image r in
       let number = imageRow-number w r s (lends r) in
-      unless-in (UpToFault numberOfRow recordOfRow r (suc n)) (imageRow w r s (lends r) .answer .number) rowsEnd _
-      (λ k e. fault-first numberOfRow recordOfRow r n k (sym number ∙ e))
+      unless-in (UpToFault (rowNumberAt lends w image) (rowRecordAt w image) r (suc n)) (imageRow w r s (lends r) .answer .number) rowsEnd _
+      (λ k e. fault-first (rowNumberAt lends w image) (rowRecordAt w image) r n k (sym number ∙ e))
       (λ e.
       let none = sym number ∙ e in
-      let later = fault-later numberOfRow recordOfRow r n _ none (rowCalls-up-to n (suc r)) in
+      let later = fault-later (rowNumberAt lends w image) (rowRecordAt w image) r n _ none (rowCalls-up-to n (suc r)) in
       rw (imageRow-counted w r s (lends r) none, rowAt-next w image r) later)
 
   -- the same from row 0 on
   pub rowCalls-fault : (n : ℕ)
       → let x = rowCalls lends w n 0 image in
-      FirstFault numberOfRow n (x .rows) (x .number)
+      FirstFault (rowNumberAt lends w image) n (x .rows) (x .number)
   rowCalls-fault n =
       let u = rw (nothing-before) at (rowCalls-up-to n 0) in
       let from : (i : ℕ) → 0 + i ≡ i = zero-add in
       record {
         within = u .within;
-        before = λ i h. ap numberOfRow (sym (from i)) ∙ u .before i h;
-        faulty = λ h. (u .faulty h .0 ∙ ap numberOfRow (from (rowCalls lends w n 0 image .rows)), u .faulty h .1);
+        before = λ i h. ap (rowNumberAt lends w image) (sym (from i)) ∙ u .before i h;
+        faulty = λ h. (u .faulty h .0 ∙ ap (rowNumberAt lends w image) (from (rowCalls lends w n 0 image .rows)), u .faulty h .1);
         whole = u .whole;
       }
 
   pub rowCalls-bytes : (n : ℕ)
       → let x = rowCalls lends w n 0 image in
-      x .bytes ≡ inOrder recordOfRow 0 (x .rows)
+      x .bytes ≡ inOrder (rowRecordAt w image) 0 (x .rows)
   rowCalls-bytes n = (rw (nothing-before) at (rowCalls-up-to n 0)) .bytes

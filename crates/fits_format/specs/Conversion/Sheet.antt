@@ -32,7 +32,7 @@ use Rattle.fits_format.specs.Header.{tableRecord}
 use Rattle.fits_format.specs.Image.{bigEndian, twosComplement, signedPixels, noHeight, rowHeights, imageContext, rowRecord, imageRowNumber}
 use Rattle.fits_format.specs.Image.Laws.{length-bigEndian, noHeight-any, heights-same, below-heights, pixels-same}
 use Rattle.fits_format.specs.Image.Call.{packed-number}
-use Rattle.fits_format.specs.Conversion.{rowAt, inOrder, SheetOfImage}
+use Rattle.fits_format.specs.Conversion.{rowAt, rowRecordAt, inOrder, SheetOfImage}
 
 -- ---- a row as the record writer is given it
 -- a row whose pixels are heights, and which has its place in an image
@@ -108,7 +108,7 @@ module _ (w : ℕ) (image : List ℕ) where
       (row-done w r (rowAt w image r) (right-first r k right), rw (add-one r) (rows-done k (suc r) (right-rest r k right)))
 
   rows-bytes : (k r : ℕ) → AllRight r k
-      → sheetBytes (imageContext r) (rowWrites r k) ≡ inOrder (λ (i : ℕ). rowRecord w i (rowAt w image i)) r k
+      → sheetBytes (imageContext r) (rowWrites r k) ≡ inOrder (rowRecordAt w image) r k
   unfolding rowWrites sheetBytes inOrder
   rows-bytes zero r right = refl
   rows-bytes (suc k) r right =
@@ -178,7 +178,7 @@ module _ (w : ℕ) (image : List ℕ) (k : ℕ)
   all-right i h = rw (zero-add i) (right i h)
 
   abbrev sheet : List ℕ
-  sheet = tableRecord ++ inOrder (λ (i : ℕ). rowRecord w i (rowAt w image i)) 0 k
+  sheet = tableRecord ++ inOrder (rowRecordAt w image) 0 k
 
   sheet-is : sheetRead sheet ≡ record { records = sheetGiven newSheet (tableWrite ∷ rowWrites w image 0 k); number = 0 }
   sheet-is =

@@ -1,20 +1,19 @@
--- What demand 1 says of the row call: its numbers, what a refusal keeps, and what a done call writes. Assumes nothing.
+-- The row call: its numbers, what a refusal keeps, what a done call writes, and that its heights are its pixels. Assumes
+-- nothing.
 use Prim.Native.Nat.{ℕ, zero, suc, _*_}
-use mathlib.Core.Path.{_≡_, refl}
-use mathlib.Core.Bool.{true}
-use mathlib.Core.List.{List, [], _∷_}
+use mathlib.Core.Path.{_≡_, refl, sym, ap, _∙_}
+use mathlib.Core.Bool.{true, false}
+use mathlib.Core.List.{List, [], _∷_, map}
 use lib.ListN.{length}
 use lib.Dec.{ltb, eqb}
+use lib.IntN.{pos}
 use Rattle.answer.specs.declared.Answer.{Answer}
 use Rattle.answer.specs.Outcome.{Outcome, answerOf, refusal, refused, wrote, refuseIf, lent, roomNumber, Kept, Within}
 use Rattle.answer.specs.Outcome.Laws.{refuseIf-in, orElse-in, roomNumber-in, unless-in, unless-kept, writes-within}
 use Rattle.row_format.specs.Lists.{any}
-use Rattle.fits_format.specs.Image.{signedPixels, noHeight, rowRecord, beforePixels, imageRowNumber, imageRow}
-use Rattle.fits_format.specs.Image.Call.{imageRow-number, imageRow-room}
-
--- the numbers that it may answer
-abbrev pub imageRowNumbers : List ℕ
-imageRowNumbers = 0 ∷ 17 ∷ 11 ∷ 18 ∷ 4 ∷ 5 ∷ []
+use Rattle.fits_format.specs.Image.{bigEndian, signedPixels, noHeight, rowHeights, rowRecord, beforePixels, imageRowNumber, imageRowNumbers, imageRow}
+use Rattle.fits_format.specs.Image.Laws.{noHeight-any, heights-same, pixels-same}
+use Rattle.fits_format.specs.Image.Call.{imageRow-number, imageRow-heights, imageRow-room}
 
 module _ (P : ℕ → Type 0) (p0 : P 0) (p17 : P 17) (p11 : P 11) (p18 : P 18) (p4 : P 4) (p5 : P 5) where
   imageRowNumber-in : (w r : ℕ) (s : List ℕ) (room : ℕ) → P (imageRowNumber w r s room)
@@ -49,3 +48,14 @@ module _ (w r : ℕ) (s m : List ℕ) where
       (wrote (length b) b m)
       (λ k e. record { size = refl; rest = refl })
       (λ e. writes-within (answerOf 0 (length b)) (length b) b m refl (imageRow-room w r s m e))
+
+  -- ---- pixels
+  pub imageRow-pixel : beforePixels w r (length s) ≡ 0 → any noHeight (signedPixels w s) ≡ true → imageRow w r s m ≡ refused 4 m
+  unfolding imageRow imageRowNumber
+  imageRow-pixel before out = rw (before, out)
+
+  pub imageRow-same : imageRow w r s m .answer .number ≡ 0 → map pos (rowHeights w s) ≡ signedPixels w s
+  imageRow-same e =
+      let heights = imageRow-heights w r s m (sym (imageRow-number w r s m) ∙ e) in
+      let low : any (ltb 4095) (bigEndian w s) ≡ false = sym (noHeight-any (bigEndian w s)) ∙ heights in
+      ap (map pos) (heights-same (bigEndian w s) low) ∙ pixels-same (bigEndian w s) low

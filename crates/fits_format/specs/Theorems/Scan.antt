@@ -10,8 +10,8 @@ use Rattle.fits_format.specs.declared.ImageHeader.{ImageHeader}
 use Rattle.fits_format.specs.Header.{headerNumber, tableRecord, noImage, imageOf, headerRead}
 use Rattle.fits_format.specs.Image.{imageRowNumber}
 use Rattle.fits_format.specs.Image.Call.{imageRow-stands, imageRow-heights}
-use Rattle.fits_format.specs.Conversion.{RowsWritten, rowCalls, Conversion, headerRefused, afterHeader, conversion, rowAt, inOrder, FirstFault, SheetOfImage}
-use Rattle.fits_format.specs.Conversion.Laws.{numberOfRow, recordOfRow, rowCalls-fault, rowCalls-bytes}
+use Rattle.fits_format.specs.Conversion.{RowsWritten, rowCalls, Conversion, headerRefused, afterHeader, conversion, rowAt, rowNumberAt, rowRecordAt, inOrder, FirstFault, SheetOfImage}
+use Rattle.fits_format.specs.Conversion.Laws.{rowCalls-fault, rowCalls-bytes}
 use Rattle.fits_format.specs.Conversion.Sheet.{RowRight, image-sheet}
 
 -- the number that the header's call answers
@@ -46,18 +46,12 @@ module _ (m : List ℕ) (lends : ℕ → List ℕ) (s : List ℕ) where
     unfolding conversion
     scan-is = rw (ok, table-counted)
 
-    abbrev numbers : ℕ → ℕ
-    numbers = numberOfRow lends (headerRead s m .answer .width) image
-
-    abbrev records : ℕ → List ℕ
-    records = recordOfRow lends (headerRead s m .answer .width) image
-
     pub scan-fault : let c = conversion m lends s in
-        (c .header ≡ 0) × FirstFault numbers (headerRead s m .answer .rows) (c .rows) (c .fault)
+        (c .header ≡ 0) × FirstFault (rowNumberAt lends (headerRead s m .answer .width) image) (headerRead s m .answer .rows) (c .rows) (c .fault)
     scan-fault = rw scan-is (refl, rowCalls-fault lends (headerRead s m .answer .width) image (headerRead s m .answer .rows))
 
     pub scan-bytes : let c = conversion m lends s in
-        c .bytes ≡ tableRecord ++ inOrder records 0 (c .rows)
+        c .bytes ≡ tableRecord ++ inOrder (rowRecordAt (headerRead s m .answer .width) image) 0 (c .rows)
     scan-bytes =
         rw scan-is
         (ap (λ (b : List ℕ). tableRecord ++ b) (rowCalls-bytes lends (headerRead s m .answer .width) image (headerRead s m .answer .rows)))

@@ -109,6 +109,10 @@ module _ (s : List ℕ) (there : stands "END     " (headerCards s) ≡ true) whe
       front-same s t k end-among (sym (take-cardsOf 360 k t) ∙ ap headerCards alike ∙ take-cardsOf 360 k s) m
 
 -- ---- bytes from the front
+no-end : (s m : List ℕ) → stands "END     " (headerCards s) ≡ false → headerRead s m .answer .number ≡ 17
+unfolding headerRead headerClauses
+no-end s m none = rw (headerNumber-17 s 9 (rw none))
+
 -- with END among them
 pub prefix-end : (n : ℕ) (s m : List ℕ) → stands "END     " (headerCards (take n s)) ≡ true → headerRead (take n s) m ≡ headerRead s m
 prefix-end n s m there =
@@ -126,6 +130,13 @@ ten-blocks n s h =
 pub prefix-ten : (n : ℕ) (s m : List ℕ) → 28800 ≤ n → headerRead (take n s) m ≡ headerRead s m
 unfolding headerRead headerNumber cardInteger endCard
 prefix-ten n s m h = rw (ten-blocks n s h)
+
+-- an answer other than 17 is the answer to the file, since END was there
+pub prefix-final : (n : ℕ) (s m : List ℕ) → (headerRead (take n s) m .answer .number ≡ 17 → ⊥) → headerRead (take n s) m ≡ headerRead s m
+prefix-final n s m other =
+    by-test (stands "END     " (headerCards (take n s)))
+    (λ e. prefix-end n s m e)
+    (λ e. absurd (other (no-end (take n s) m e)))
 
 -- ---- the span
 span-end : (s : List ℕ) → stands "END     " (headerCards s) ≡ true → headerSpan s ≡ imageStart s

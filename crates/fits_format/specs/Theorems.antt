@@ -1,3 +1,4 @@
+pub mod Header
 pub mod Row
 pub mod Scan
 pub mod Span

@@ -1,6 +1,7 @@
 -- Document 02, ticket 1, "Read the header": which headers are refused and by which number, and what an accepted one says of
 -- its image. s is the bytes of a file. Definitions only. Assumes nothing.
-use Prim.Native.Nat.{ℕ, zero, suc, _+_, _*_, _/_}
+use Prim.Native.Nat.{ℕ, zero, suc, _+_, _*_, _/_, _%_, _≤_}
+use mathlib.Core.Path.{_≡_}
 use Prim.Native.String.{String}
 use mathlib.Core.Bool.{Bool, true, false, cond, not}
 use mathlib.Core.List.{List, [], _∷_}
@@ -121,8 +122,30 @@ imageOf s =
       count = length tableRecord;
     }
 
+-- the numbers that it may answer
+abbrev pub headerNumbers : List ℕ
+headerNumbers = 0 ∷ 17 ∷ 11 ∷ 5 ∷ []
+
 -- "then 5 for the table's record"
 unfoldable pub headerRead : List ℕ → List ℕ → Outcome ImageHeader
 headerRead s m =
     unless (headerNumber s orElse roomNumber (lent (length m)) (length tableRecord)) (λ e. outcome (noImage e) m)
     (writes (imageOf s) tableRecord m)
+
+-- ---- what is to be true of it
+-- what an accepted header says of its image: the axes, and where it starts
+pub record HeaderAccepted (s : List ℕ) (h : ImageHeader) : Type 0 where
+  pub width-least : 1 ≤ h .width
+  pub width-most : h .width ≤ 4096
+  pub rows-least : 1 ≤ h .rows
+  pub rows-most : h .rows ≤ 4096
+  -- END's card is there, and whole
+  pub end-stands : stands "END     " (headerCards s) ≡ true
+  pub end-whole : 80 * (endCard s + 1) ≤ length s
+  -- the image starts with a block, past END's card
+  pub start-block : h .start % 2880 ≡ 0
+  pub start-least : 2880 ≤ h .start
+  pub start-most : h .start ≤ 28800
+  pub start-past : 80 * (endCard s + 1) ≤ h .start
+  -- the table's record is written
+  pub count : h .count ≡ 2078

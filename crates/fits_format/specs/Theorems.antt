@@ -10,19 +10,25 @@ use lib.Dec.{eqb}
 use lib.IntN.{pos}
 use Rattle.answer.specs.Outcome.{refusal, refused, Kept, Within}
 use Rattle.row_format.specs.Lists.{any}
-use Rattle.fits_format.specs.Header.{headerCards, stands, endCard, headerSpan, tableRecord, headerRead}
+use Rattle.fits_format.specs.Header.{headerCards, stands, endCard, headerSpan, tableRecord, noImage, headerNumbers, headerRead, HeaderAccepted}
 use Rattle.fits_format.specs.Image.{signedPixels, noHeight, rowHeights, beforePixels, imageRowNumbers, imageRow}
 use Rattle.fits_format.specs.Conversion.{rowCalls, headerRefused, conversion, rowNumberAt, rowRecordAt, inOrder, FirstFault, SheetOfImage}
 use Rattle.fits_format.specs.Conversion.Laws.{rowCalls-fault, rowCalls-bytes}
 use Rattle.fits_format.specs.Conversion.Alike.{imageRow-take, rowCalls-alike, conversion-alike}
+use Header.{headerRead-numbers, headerRead-kept, headerRead-within, headerRead-accepted}
 use Row.{imageRow-numbers, imageRow-kept, imageRow-within, imageRow-pixel, imageRow-same}
 use Scan.{scan-refused, scan-fault, scan-bytes, scan-sheet}
-use Span.{through-end, prefix-final, span-same}
+use Span.{through-end, prefix-final, headerSpan-same}
+pub mod Header
 pub mod Row
 pub mod Scan
 pub mod Span
 
 -- ---- the header
+-- an accepted header: axes of 1 to 4096, an END that is there, and a start past it
+pub header-accepted : (s m : List ℕ) → headerRead s m .answer .number ≡ 0 → HeaderAccepted s (headerRead s m .answer)
+header-accepted = headerRead-accepted
+
 -- What is not looked at changes no answer: two byte strings alike through END's card get the same.
 pub header-alike : (s t m : List ℕ) → stands "END     " (headerCards s) ≡ true
     → take (80 * (endCard s + 1)) t ≡ take (80 * (endCard s + 1)) s → headerRead t m ≡ headerRead s m
@@ -31,7 +37,7 @@ header-alike s t m there = through-end s there t m
 -- So a file can be streamed: its blocks to END's, or ten of them, are enough, truncated or not; and an answer other than 17 to
 -- the bytes that have come is the answer to the file, however it goes on.
 pub header-span : (s m : List ℕ) → headerRead (take (headerSpan s) s) m ≡ headerRead s m
-header-span = span-same
+header-span = headerSpan-same
 
 pub header-final : (n : ℕ) (s m : List ℕ) → (headerRead (take n s) m .answer .number ≡ 17 → ⊥)
     → headerRead (take n s) m ≡ headerRead s m
@@ -96,16 +102,26 @@ pub scan-alike : (m : List ℕ) (lends : ℕ → List ℕ) (s t : List ℕ) → 
     → conversion m lends s ≡ conversion m lends t
 scan-alike = conversion-alike
 
--- ---- demand 1, of the row's call
+-- ---- demand 1
 -- "each call .. answers with a number": those that the ticket lists
+pub header-numbers : (s m : List ℕ) → any (eqb (headerRead s m .answer .number)) headerNumbers ≡ true
+header-numbers = headerRead-numbers
+
 pub row-numbers : (w r : ℕ) (s m : List ℕ) → any (eqb (imageRow w r s m .answer .number)) imageRowNumbers ≡ true
 row-numbers = imageRow-numbers
 
 -- "A refused call gives its number, zero for every count and value, and leaves the lent memory as found"
+pub header-refused-keeps : (s m : List ℕ) → (headerRead s m .answer .number ≡ 0 → ⊥)
+    → Kept (noImage (headerRead s m .answer .number)) m (headerRead s m)
+header-refused-keeps = headerRead-kept
+
 pub row-refused-keeps : (w r : ℕ) (s m : List ℕ) → (imageRow w r s m .answer .number ≡ 0 → ⊥)
     → Kept (refusal (imageRow w r s m .answer .number)) m (imageRow w r s m)
 row-refused-keeps = imageRow-kept
 
 -- "A done call writes only the pixels, words or bytes that it counts"
+pub header-writes-record : (s m : List ℕ) → Within (headerRead s m .answer .count) m (headerRead s m)
+header-writes-record = headerRead-within
+
 pub row-writes-record : (w r : ℕ) (s m : List ℕ) → Within (imageRow w r s m .answer .count) m (imageRow w r s m)
 row-writes-record = imageRow-within

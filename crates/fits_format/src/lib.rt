@@ -17,5 +17,7 @@ pub const MAX_AXIS: u32 = 4096;
 
 // A header's cards have eighty bytes each, and a block has 36 of them; END comes in the first ten blocks.
 pub const CARD_BYTES: usize = 80;
+
 pub const BLOCK_BYTES: usize = 2880;
+
 pub const MAX_CARDS: usize = 360;

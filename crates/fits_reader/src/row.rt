@@ -16,10 +16,7 @@ pub fn fits_row(width: u64, row: u64, image: &[u8], out: &mut [u8]) -> Answer
 {
     let number = row_number(width, row, image.len());
     if number != 0 {
-        return Answer {
-            number,
-            count: 0,
-        };
+        return Answer { number, count: 0 };
     }
     write_row(width as usize, row as u32, image, out)
 }

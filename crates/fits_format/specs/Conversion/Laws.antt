@@ -44,14 +44,15 @@ module _ (numbers : ℕ → ℕ) (records : ℕ → List ℕ) (r n : ℕ) where
     within = omega (arith, u .within);
     before = first;
     faulty = λ h.
-      let f = u .faulty (le-of-suc-le-suc h) in
-      (f .0 ∙ ap numbers (on (x .rows)), f .1);
+        let f = u .faulty (le-of-suc-le-suc h) in
+        (f .0 ∙ ap numbers (on (x .rows)), f .1);
     whole = λ h. u .whole (omega (arith, h));
     bytes = ap (λ (b : List ℕ). records r ++ b) (u .bytes);
   }
     where
       on : (i : ℕ) → suc r + i ≡ r + suc i
       on i = omega arith
+
       first : (i : ℕ) → i < suc (x .rows) → numbers (r + i) ≡ 0
       first zero h = ap numbers (add-zero r) ∙ e
       first (suc i) h = ap numbers (sym (on i)) ∙ u .before i (le-of-suc-le-suc h)

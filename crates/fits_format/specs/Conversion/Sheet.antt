@@ -73,7 +73,7 @@ module _ (w r : ℕ) (s : List ℕ) (right : RowRight w r s) where
   row-done = record {
     bytes = bytes;
     done =
-      recordWritten-number 2 (record { row = r }) (imageContext r) (pixelBytes (rowHeights w s)) (rowRecord w r s) ∙ number;
+        recordWritten-number 2 (record { row = r }) (imageContext r) (pixelBytes (rowHeights w s)) (rowRecord w r s) ∙ number;
   }
 
   row-bytes : bytesWritten (imageContext r) (rowWrite w r s) ≡ rowRecord w r s
@@ -195,11 +195,10 @@ module _ (w : ℕ) (image : List ℕ) (k : ℕ)
   image-sheet = record {
     accepted = ap (λ (x : SheetRead). x .number) sheet-is;
     rows = ap length stored-is ∙ rows-count w image k 0 all-right;
-    heights = λ i h.
-      (
-        bigEndian w (rowAt w image i),
-        ap (heightsOf i) stored-is ∙ (rw (zero-add i) at (rows-heights w image k 0 all-right i h)),
-        pixels-same (bigEndian w (rowAt w image i)) (low-numbers w i (rowAt w image i) (right i h)),
-      );
+    heights = λ i h. (
+      bigEndian w (rowAt w image i),
+      ap (heightsOf i) stored-is ∙ (rw (zero-add i) at (rows-heights w image k 0 all-right i h)),
+      pixels-same (bigEndian w (rowAt w image i)) (low-numbers w i (rowAt w image i) (right i h)),
+    );
     others = λ i h. ap (heightsOf i) stored-is ∙ rows-others w image k 0 all-right i (omega (arith, h));
   }

@@ -1,5 +1,6 @@
 -- The laws of Header: its cards by their places, those before END, and what is alike in two headers. Assumes nothing.
 use Prim.Native.Nat.{ℕ, zero, suc, _+_, _-_, _*_, _/_, _≤_, _<_, min}
+use native.Mathlib.Nat.{sub-zero, zero-sub, suc-sub-suc}
 use native.Mathlib.Numerals.{add-one}
 use native.Mathlib.Omega.{arith}
 use mathlib.Core.Path.{_≡_, refl, sym, ap, _∙_}
@@ -65,6 +66,35 @@ take-cardsOf (suc n) (suc k) s =
       rest,
       take-cardsOf n k (drop 80 s),
     ))
+
+-- those behind the first k
+cardsOf-none : (n : ℕ) (s : List ℕ) → length s < 80 → cardsOf n s ≡ []
+unfolding cardsOf
+cardsOf-none zero s h = refl
+cardsOf-none (suc n) s h = rw (lt-ltb (length s) 80 h)
+
+pub drop-cardsOf : (n k : ℕ) (s : List ℕ) → drop k (cardsOf n s) ≡ cardsOf (n - k) (drop (80 * k) s)
+unfolding cardsOf
+drop-cardsOf n zero s = rw (sub-zero n)
+drop-cardsOf zero (suc k) s = rw (zero-sub (suc k))
+drop-cardsOf (suc n) (suc k) s =
+    by-test (ltb (length s) 80)
+    (λ t.
+    let short : length (drop (80 * suc k) s) < 80 = omega (arith, length-drop (80 * suc k) s, ltb-true (length s) 80 t) in
+    rw (t, cardsOf-none (suc n - suc k) (drop (80 * suc k) s) short))
+    (λ t.
+    let place : 80 + 80 * k ≡ 80 * suc k = omega arith in
+    rw (t, suc-sub-suc n k, ← place, ← drop-drop (80 * k) 80 s) (drop-cardsOf n k (drop 80 s)))
+
+-- of more cards the first j
+pub cardsOf-less : (j n : ℕ) (s : List ℕ) → j ≤ n → take j (cardsOf n s) ≡ cardsOf j s
+unfolding cardsOf
+cardsOf-less zero n s h = refl
+cardsOf-less (suc j) zero s h = absurd (omega arith)
+cardsOf-less (suc j) (suc n) s h =
+    by-test (ltb (length s) 80)
+    (λ t. rw t)
+    (λ t. rw t (ap (take 80 s ∷_) (cardsOf-less j n (drop 80 s) (omega arith))))
 
 -- ---- those before END
 abbrev isEnd : List ℕ → Bool

@@ -4,23 +4,15 @@ use mathlib.Core.Path.{_≡_, refl, sym, ap, _∙_}
 use mathlib.Core.List.{List, _++_}
 use lib.ListN.{length, take, drop}
 use lib.Seq.{take-append-seam}
-use Rattle.answer.specs.Outcome.{Outcome, outcome, writes, _orElse_, lent, roomNumber}
-use Rattle.answer.specs.Outcome.Laws.{unless-refused, unless-number}
-use Rattle.fits_format.specs.declared.ImageHeader.{ImageHeader}
-use Rattle.fits_format.specs.Header.{headerNumber, tableRecord, noImage, imageOf, headerRead}
+use Rattle.answer.specs.Outcome.{_orElse_, lent, roomNumber}
+use Rattle.answer.specs.Outcome.Laws.{unless-refused}
+use Rattle.fits_format.specs.Header.{headerNumber, tableRecord, headerRead}
 use Rattle.fits_format.specs.Image.{imageRowNumber}
 use Rattle.fits_format.specs.Image.Call.{imageRow-stands, imageRow-heights}
 use Rattle.fits_format.specs.Conversion.{RowsWritten, rowCalls, Conversion, headerRefused, afterHeader, conversion, rowAt, rowNumberAt, rowRecordAt, inOrder, FirstFault, SheetOfImage}
 use Rattle.fits_format.specs.Conversion.Laws.{rowCalls-fault, rowCalls-bytes}
+use Rattle.fits_format.specs.Theorems.Header.{headerRead-number}
 use Rattle.fits_format.specs.Conversion.Sheet.{RowRight, image-sheet}
-
--- the number that the header's call answers
-header-number : (m s : List ℕ)
-    → headerRead s m .answer .number ≡ headerNumber s orElse roomNumber (lent (length m)) (length tableRecord)
-unfolding headerRead
-header-number m s =
-    unless-number (λ (o : Outcome ImageHeader). o .answer .number) (λ e. outcome (noImage e) m) (writes (imageOf s) tableRecord m)
-    (λ k. refl) (headerNumber s orElse roomNumber (lent (length m)) (length tableRecord)) refl
 
 module _ (m : List ℕ) (lends : ℕ → List ℕ) (s : List ℕ) where
   pub scan-refused : (headerRead s m .answer .number ≡ 0 → ⊥) → conversion m lends s ≡ headerRefused (headerRead s m .answer .number)
@@ -36,7 +28,7 @@ module _ (m : List ℕ) (lends : ℕ → List ℕ) (s : List ℕ) where
 
     -- the header's call wrote the table's record
     header-none : headerNumber s orElse roomNumber (lent (length m)) (length tableRecord) ≡ 0
-    header-none = sym (header-number m s) ∙ ok
+    header-none = sym (headerRead-number s m) ∙ ok
 
     table-counted : take (headerRead s m .answer .count) (headerRead s m .memory) ≡ tableRecord
     unfolding headerRead

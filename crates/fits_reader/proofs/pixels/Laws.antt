@@ -41,8 +41,8 @@ module _ (vs : List ℕ) (size : ℕ) where
         within = omega arith;
         kept = length-overwritten out (2 * i) b (omega (arith, two, q .kept)) ∙ q .kept;
         so-far =
-          rw (twice, take-overwritten out (2 * i) b (omega (arith, q .kept)), append-assoc (take (2 * i) out) b (pixelBytes rest))
-          (ap (λ (l : List ℕ). take (2 * i) out ++ l) (sym next) ∙ q .so-far);
+            rw (twice, take-overwritten out (2 * i) b (omega (arith, q .kept)), append-assoc (take (2 * i) out) b (pixelBytes rest))
+            (ap (λ (l : List ℕ). take (2 * i) out ++ l) (sym next) ∙ q .so-far);
       }
 
   pub copied-all : {out : List ℕ} {i n : ℕ} → Copied vs size out i → length vs ≡ n → n ≤ i → take (2 * n) out ≡ pixelBytes vs

@@ -15,8 +15,8 @@ abbrev entry : tie.After-find-end → tie.Start
 entry c = c .before .before .before .before .before .before .before .before
 
 cards : (c : tie.After-find-end)
-    → let at-integer-at = c .before .before .before in
-    CardsRead (entry c .args .fits .now) (at-integer-at .integer-at .result) (c .before .integer-at2 .result) (c .find-end .result)
+    → let width = c .before .before .before .integer-at .result in
+    CardsRead (entry c .args .fits .now) width (c .before .integer-at2 .result) (c .find-end .result)
 unfolding cardInteger
 cards c =
     let at-integer-at = c .before .before .before in

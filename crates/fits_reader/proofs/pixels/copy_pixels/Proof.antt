@@ -18,7 +18,7 @@ abbrev μ-loop : tie.MeasureT-loop
 μ-loop image width pixels₀ i₀ pixels i = width - i
 
 loop-holds : tie.Need-loop-holds Inv-loop μ-loop
-loop-holds c = 
+loop-holds c =
     let args = c .before .before .args in
     copied-none (bigEndian (args .width) (args .image .now)) (length (args .pixels .now)) (args .pixels .now) refl
 
@@ -29,7 +29,7 @@ mul-put-u16 : tie.Need-mul-put-u16 Inv-loop μ-loop
 mul-put-u16 c = search needs
 
 put-u16-requires : tie.Need-put-u16-requires Inv-loop μ-loop
-put-u16-requires c κs = 
+put-u16-requires c κs =
     let turn = c .before .before .before in
     omega (arith, turn .loop .inv .kept)
 

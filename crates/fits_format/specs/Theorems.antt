@@ -95,12 +95,14 @@ module _ (m : List ℕ) (lends : ℕ → List ℕ) (s : List ℕ) where
         SheetOfImage (h .width) (drop (h .start) s) (c .rows) (c .bytes)
     scan-is-sheet = scan-sheet m lends s ok
 
--- "what follows the last row isn't looked at": two files of the same header answer and image get the same answers throughout
-pub scan-alike : (m : List ℕ) (lends : ℕ → List ℕ) (s t : List ℕ) → headerRead t m ≡ headerRead s m
+-- "what follows the last row isn't looked at": two files alike through END's card, and in the image as far as they go, get
+-- the same answers throughout, whatever stands between END's card and the image and after the last row
+pub scan-alike : (m : List ℕ) (lends : ℕ → List ℕ) (s t : List ℕ) → stands "END     " (headerCards s) ≡ true
+    → take (80 * (endCard s + 1)) t ≡ take (80 * (endCard s + 1)) s
     → let h = headerRead s m .answer in
     take (2 * h .width * h .rows) (drop (h .start) s) ≡ take (2 * h .width * h .rows) (drop (h .start) t)
     → conversion m lends s ≡ conversion m lends t
-scan-alike = conversion-alike
+scan-alike m lends s t there alike = conversion-alike m lends s t (through-end s there t m alike)
 
 -- ---- demand 1
 -- "each call .. answers with a number": those that the ticket lists

@@ -112,19 +112,19 @@ module _ (s : List ℕ) where
   unfolding endCard
   endCard-within = beforeEnd-most (headerCards s)
 
-  front : beforeEnd (headerCards s) ≡ take (endCard s) (headerCards s)
+  front : (e : ℕ) → e ≡ endCard s → take e (headerCards s) ≡ beforeEnd (headerCards s)
   unfolding endCard
-  front = beforeEnd-front (headerCards s)
+  front e is = rw is (sym (beforeEnd-front (headerCards s)))
 
   abbrev scaled : ℕ → Bool
   scaled e = stands "BSCALE  " (take e (headerCards s)) || stands "BZERO   " (take e (headerCards s))
 
-  pub scaled-refused : scaled (endCard s) ≡ true → 17 ≡ unfitNumber s
+  pub scaled-refused : (e : ℕ) → e ≡ endCard s → scaled e ≡ true → 17 ≡ unfitNumber s
   unfolding headerClauses
-  scaled-refused e =
+  scaled-refused e is some =
       by-test (stands "BSCALE  " (beforeEnd (headerCards s)))
       (λ t. given 7 t)
-      (λ t. given 8 (rw t at (rw (← front) at e)))
+      (λ t. given 8 (rw t at (rw (front e is) at some)))
 
   -- the first three cards
   pub image-refused : isImage s ≡ false → 17 ≡ unfitNumber s
@@ -141,13 +141,13 @@ module _ (s : List ℕ) where
 
   -- none of them
   pub unfit-none : (clipped (axis1 s) ≡ 0 → ⊥) → (clipped (axis2 s) ≡ 0 → ⊥) → (endCard s ≡ length (headerCards s) → ⊥)
-      → scaled (endCard s) ≡ false → isImage s ≡ true → 0 ≡ unfitNumber s
+      → (e : ℕ) → e ≡ endCard s → scaled e ≡ false → isImage s ≡ true → 0 ≡ unfitNumber s
   unfolding headerClauses any endCard
-  unfit-none width rows end plain image =
+  unfit-none width rows end e is plain image =
       let cs = headerCards s in
       let three = and-true-all (isTrue (ascii "SIMPLE  ") (getD cs 0 [])) (isNumber 16 (cardInteger "BITPIX  " 1 s))
       (isNumber 2 (cardInteger "NAXIS   " 2 s)) image in
-      let plain′ : (stands "BSCALE  " (beforeEnd cs) || stands "BZERO   " (beforeEnd cs)) ≡ false = rw (← front) at plain in
+      let plain′ : (stands "BSCALE  " (beforeEnd cs) || stands "BZERO   " (beforeEnd cs)) ≡ false = rw (front e is) at plain in
       rw (
         three .0,
         three .1,

@@ -1,4 +1,4 @@
--- `fits_reader::header::unfit_number` meets its contract. Assumes nothing.
+-- `fits_reader::header::unfit_number` meets its contract: each way out is a clause, and the last is none. Assumes nothing.
 use native.Mathlib.Omega.{arith}
 use mathlib.Core.Path.{sym, _∙_}
 use borrow.Author.Needs.{needs}

@@ -17,6 +17,7 @@ use Rattle.sheet_format.specs.Writing.{recordFor}
 use Rattle.fits_format.specs.declared.ImageHeader.{ImageHeader}
 use Rattle.fits_format.specs.Card.{hasKeyword, isTrue, FieldValue, noInteger, isInteger, integerOf}
 pub mod Laws
+pub mod Clauses
 
 -- ---- the cards of a header
 -- the first n whole cards of some bytes, or as many as there are; an incomplete one at the end counts for nothing

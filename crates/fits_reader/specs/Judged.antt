@@ -9,7 +9,7 @@ use Rattle.row_format.specs.Lists.{any}
 use Rattle.text.specs.Text.{ascii}
 use Rattle.fits_format.specs.Card.{isTrue}
 use Rattle.fits_format.specs.Header.{headerCards, cardInteger, axis1, axis2, isNumber, endCard, tableRecord}
-use Rattle.fits_format.specs.Header.Laws.{headerClauses}
+use Rattle.fits_format.specs.Header.Clauses.{headerClauses}
 use Rattle.fits_reader.specs.Clipped.{clipped}
 
 -- the first three cards are SIMPLE T, BITPIX 16 and NAXIS 2

@@ -1,24 +1,23 @@
--- The laws of Header: its cards by their places, those before END, and what is alike in two headers. Assumes nothing.
+-- The laws of Header: its cards by their places, and those before END. Those of its number are in Clauses. Assumes nothing.
 use Prim.Native.Nat.{ℕ, zero, suc, _+_, _-_, _*_, _/_, _≤_, _<_, min}
 use native.Mathlib.Nat.{sub-zero, zero-sub, suc-sub-suc}
 use native.Mathlib.Numerals.{add-one}
 use native.Mathlib.Omega.{arith}
 use mathlib.Core.Path.{_≡_, refl, sym, ap, _∙_}
-use mathlib.Core.Bool.{Bool, true, false, not}
+use mathlib.Core.Bool.{Bool, true, false}
 use mathlib.Core.List.{List, [], _∷_}
 use lib.ListN.{length, take, drop, getD, length-take, length-drop}
 use lib.Seq.{take-nil, take-take, drop-drop, drop-cons}
 use lib.Dec.{ltb}
 use borrow.Author.Tests.{ltb-true, ltb-false, lt-ltb, le-ltb}
-use Rattle.answer.specs.Outcome.{_orElse_, refuseIf}
 use Rattle.row_format.specs.Lists.{any}
 use Rattle.row_format.specs.Lists.Laws.{by-test, true-false, drop-take}
 use Rattle.text.specs.Text.{ascii}
 use Rattle.row_format.specs.Plain.{plainBytes}
 use Rattle.code_table.specs.Plain.Laws.{length-plainBytes}
 use Rattle.sheet_format.specs.Writing.Laws.{length-recordBytes}
-use Rattle.fits_format.specs.Card.{hasKeyword, isTrue}
-use Rattle.fits_format.specs.Header.{cardsOf, headerCards, beforeEnd, cardInteger, axis1, axis2, lacking, isNumber, belowOne, aboveMost, stands, headerNumber, endCard, tableRecord}
+use Rattle.fits_format.specs.Card.{hasKeyword}
+use Rattle.fits_format.specs.Header.{cardsOf, headerCards, beforeEnd, stands, endCard, tableRecord}
 
 -- ---- the cards by their places
 pub length-cardsOf : (n : ℕ) (s : List ℕ) → length (cardsOf n s) ≡ min n (length s / 80)
@@ -174,81 +173,9 @@ beforeEnd-past (suc k) (c ∷ cs) no′ e =
     (λ t. true-false refl (rw t at no′))
     (λ t. rw t (omega (arith, beforeEnd-past k cs (rw t at no′) (rw t at e))))
 
--- ---- its places, in bytes
-module _ (s : List ℕ) where
-  pub endCard-most : endCard s ≤ 360
-  unfolding endCard
-  endCard-most = omega (arith, beforeEnd-most (headerCards s), length-cardsOf 360 s)
-
--- ---- the number, by its clauses
--- those of 17, in their order
-unfoldable pub headerClauses : List ℕ → List Bool
-headerClauses s =
-    not (isTrue (ascii "SIMPLE  ") (getD (headerCards s) 0 []))
-    ∷ not (isNumber 16 (cardInteger "BITPIX  " 1 s))
-    ∷ not (isNumber 2 (cardInteger "NAXIS   " 2 s))
-    ∷ lacking (axis1 s)
-    ∷ lacking (axis2 s)
-    ∷ belowOne (axis1 s)
-    ∷ belowOne (axis2 s)
-    ∷ stands "BSCALE  " (beforeEnd (headerCards s))
-    ∷ stands "BZERO   " (beforeEnd (headerCards s))
-    ∷ not (stands "END     " (headerCards s))
-    ∷ []
-
--- that of 11
-unfoldable pub longNumber : List ℕ → ℕ
-longNumber s = refuseIf (aboveMost (axis1 s)) 11 orElse refuseIf (aboveMost (axis2 s)) 11
-
-clausesNumber : List Bool → ℕ → ℕ
-clausesNumber [] d = d
-clausesNumber (b ∷ bs) d = refuseIf b 17 orElse clausesNumber bs d
-
-clausesNumber-some : (bs : List Bool) (i d : ℕ) → getD bs i false ≡ true → clausesNumber bs d ≡ 17
-unfolding clausesNumber
-clausesNumber-some [] i d e = true-false e refl
-clausesNumber-some (true ∷ bs) i d e = refl
-clausesNumber-some (false ∷ bs) zero d e = true-false e refl
-clausesNumber-some (false ∷ bs) (suc i) d e = clausesNumber-some bs i d e
-
-clausesNumber-parts : (bs : List Bool) (d : ℕ) → clausesNumber bs d ≡ refuseIf (any (λ (b : Bool). b) bs) 17 orElse d
-unfolding clausesNumber any
-clausesNumber-parts [] d = refl
-clausesNumber-parts (true ∷ bs) d = refl
-clausesNumber-parts (false ∷ bs) d = clausesNumber-parts bs d
-
-clausesNumber-zero : (bs : List Bool) (i d : ℕ) → clausesNumber bs d ≡ 0 → getD bs i false ≡ false
-unfolding clausesNumber
-clausesNumber-zero [] i d e = refl
-clausesNumber-zero (true ∷ bs) i d e = absurd (omega arith)
-clausesNumber-zero (false ∷ bs) zero d e = refl
-clausesNumber-zero (false ∷ bs) (suc i) d e = clausesNumber-zero bs i d e
-
-clausesNumber-last : (bs : List Bool) (d : ℕ) → clausesNumber bs d ≡ 0 → d ≡ 0
-unfolding clausesNumber
-clausesNumber-last [] d e = e
-clausesNumber-last (true ∷ bs) d e = absurd (omega arith)
-clausesNumber-last (false ∷ bs) d e = clausesNumber-last bs d e
-
-module _ (s : List ℕ) where
-  by-clauses : headerNumber s ≡ clausesNumber (headerClauses s) (longNumber s)
-  unfolding headerNumber headerClauses longNumber clausesNumber
-  by-clauses = refl
-
-  -- one is given: 17, whatever the others say
-  pub headerNumber-17 : (i : ℕ) → getD (headerClauses s) i false ≡ true → headerNumber s ≡ 17
-  headerNumber-17 i e = by-clauses ∙ clausesNumber-some (headerClauses s) i (longNumber s) e
-
-  pub headerNumber-parts : headerNumber s ≡ refuseIf (any (λ (b : Bool). b) (headerClauses s)) 17 orElse longNumber s
-  headerNumber-parts = by-clauses ∙ clausesNumber-parts (headerClauses s) (longNumber s)
-
-  -- accepted: none is given, nor 11
-  module _ (ok : headerNumber s ≡ 0) where
-    pub accepted-clause : (i : ℕ) → getD (headerClauses s) i false ≡ false
-    accepted-clause i = clausesNumber-zero (headerClauses s) i (longNumber s) (sym by-clauses ∙ ok)
-
-    pub accepted-long : longNumber s ≡ 0
-    accepted-long = clausesNumber-last (headerClauses s) (longNumber s) (sym by-clauses ∙ ok)
+pub endCard-most : (s : List ℕ) → endCard s ≤ 360
+unfolding endCard
+endCard-most s = omega (arith, beforeEnd-most (headerCards s), length-cardsOf 360 s)
 
 -- ---- the table's record
 pub length-tableRecord : length tableRecord ≡ 2078

@@ -16,7 +16,8 @@ use Rattle.row_format.specs.Lists.Laws.{true-false}
 use Rattle.fits_format.specs.declared.ImageHeader.{ImageHeader}
 use Rattle.fits_format.specs.Card.{FieldValue, noInteger, isInteger}
 use Rattle.fits_format.specs.Header.{headerCards, axis1, axis2, lacking, belowOne, aboveMost, axisLength, stands, headerNumber, endCard, tableRecord, noImage, imageOf, headerNumbers, headerRead, HeaderAccepted}
-use Rattle.fits_format.specs.Header.Laws.{headerClauses, longNumber, headerNumber-parts, accepted-clause, accepted-long, length-tableRecord}
+use Rattle.fits_format.specs.Header.Laws.{length-tableRecord}
+use Rattle.fits_format.specs.Header.Clauses.{headerClauses, longNumber, headerNumber-parts, accepted-clause, accepted-long}
 use Rattle.fits_format.specs.Theorems.Span.{end-few, end-whole}
 
 axis-least : (v : FieldValue) → lacking v ≡ false → belowOne v ≡ false → 1 ≤ axisLength v

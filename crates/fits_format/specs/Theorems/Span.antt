@@ -15,7 +15,8 @@ use Rattle.text.specs.Same.{sameBytes}
 use Rattle.text.specs.Same.Laws.{same-is}
 use Rattle.fits_format.specs.Card.{hasKeyword, hasValue, isTrue, integerOf}
 use Rattle.fits_format.specs.Header.{cardsOf, headerCards, beforeEnd, cardInteger, stands, headerNumber, endCard, imageStart, headerSpan, headerRead}
-use Rattle.fits_format.specs.Header.Laws.{length-cardsOf, take-cardsOf, drop-cardsOf, cardsOf-less, stands-less, end-is, stands-take, beforeEnd-take, beforeEnd-within, beforeEnd-past, headerClauses, headerNumber-17}
+use Rattle.fits_format.specs.Header.Laws.{length-cardsOf, take-cardsOf, drop-cardsOf, cardsOf-less, stands-less, end-is, stands-take, beforeEnd-take, beforeEnd-within, beforeEnd-past}
+use Rattle.fits_format.specs.Header.Clauses.{headerClauses, headerNumber-17}
 
 -- ---- an END among the first five cards
 -- a card has one keyword

@@ -1,32 +1,26 @@
--- The header's judging and writing: what a clipped integer tells, each way out, and the outcome. Assumes nothing.
+-- The header's judging: what a clipped integer tells, and each way out. Assumes nothing.
 use Prim.Native.Nat.{ℕ, zero, suc, _+_, _*_, _/_, _≤_, _<_}
 use native.Mathlib.Omega.{arith}
-use mathlib.Core.Path.{_≡_, refl, sym, ap, _∙_}
+use mathlib.Core.Path.{_≡_, refl, sym, _∙_}
 use mathlib.Core.Bool.{Bool, true, false, _||_}
 use mathlib.Core.List.{List, [], _∷_}
 use lib.ListN.{length, take, getD, List·getD-eq-default}
 use lib.IntN.{pos, negsuc}
 use lib.Dec.{ltb, eqb}
 use borrow.Author.Tests.{ltb-true, ltb-false, lt-ltb, le-ltb, ne-eqb}
-use Rattle.answer.specs.Outcome.{Outcome, outcome, writes, _orElse_, refuseIf, unless, lent, roomNumber}
-use Rattle.answer.specs.Outcome.Laws.{unless-part, orElse-zero-left, orElse-zero-right, refuseIf-zero}
+use Rattle.answer.specs.Outcome.{_orElse_, refuseIf, unless}
+use Rattle.answer.specs.Outcome.Laws.{orElse-zero-left, orElse-zero-right, refuseIf-zero}
 use Rattle.row_format.specs.Lists.{any}
 use Rattle.row_format.specs.Lists.Laws.{by-test, true-false, and-true-all, or-false-left, or-false-right}
-use Rattle.row_format.specs.Plain.{plainBytes}
-use Rattle.code_table.specs.Plain.Laws.{plain-accepted}
-use Rattle.sheet_format.specs.declared.RecordWritten.{RecordWritten}
-use Rattle.sheet_format.specs.Context.{noHeading, newSheet}
-use Rattle.sheet_format.specs.Kind.Table.{tablePlace}
-use Rattle.sheet_format.specs.Writing.{recordFor, writeNumber, RecordWritable, notWritten, recordDone, recordWritten}
-use Rattle.sheet_format.specs.Writing.Laws.{writeNumber-writable}
 use Rattle.text.specs.Text.{ascii}
 use Rattle.text.specs.Same.{sameBytes}
 use Rattle.fits_format.specs.declared.ImageHeader.{ImageHeader}
 use Rattle.fits_format.specs.Card.{FieldValue, noInteger, isInteger, hasKeyword, hasValue, isTrue, integerOf}
-use Rattle.fits_format.specs.Header.{headerCards, beforeEnd, cardInteger, axis1, axis2, lacking, isNumber, belowOne, aboveMost, axisLength, stands, headerNumber, endCard, tableRecord, noImage, imageOf, headerRead}
-use Rattle.fits_format.specs.Header.Laws.{beforeEnd-front, beforeEnd-most, stands-less, less-stands, headerClauses, longNumber, headerNumber-17, headerNumber-parts, accepted-long, length-tableRecord}
+use Rattle.fits_format.specs.Header.{headerCards, beforeEnd, cardInteger, axis1, axis2, lacking, isNumber, belowOne, aboveMost, axisLength, stands, headerNumber, endCard, noImage, imageOf}
+use Rattle.fits_format.specs.Header.Laws.{beforeEnd-front, beforeEnd-most, stands-less, less-stands, length-tableRecord}
+use Rattle.fits_format.specs.Header.Clauses.{headerClauses, longNumber, headerNumber-17, headerNumber-parts, accepted-long}
 use Rattle.fits_reader.specs.Clipped.{clipped}
-use Rattle.fits_reader.specs.Judged.{isImage, unfitNumber, CardsRead, tableWritten}
+use Rattle.fits_reader.specs.Judged.{isImage, unfitNumber, CardsRead}
 
 -- ---- what a clipped integer tells
 clipped-pos : (n k : ℕ) → n ≤ 4096 → eqb (clipped (isInteger (pos k))) n ≡ eqb k n
@@ -112,19 +106,19 @@ module _ (s : List ℕ) where
   unfolding endCard
   endCard-within = beforeEnd-most (headerCards s)
 
-  front : beforeEnd (headerCards s) ≡ take (endCard s) (headerCards s)
+  front : (e : ℕ) → e ≡ endCard s → take e (headerCards s) ≡ beforeEnd (headerCards s)
   unfolding endCard
-  front = beforeEnd-front (headerCards s)
+  front e is = rw is (sym (beforeEnd-front (headerCards s)))
 
   abbrev scaled : ℕ → Bool
   scaled e = stands "BSCALE  " (take e (headerCards s)) || stands "BZERO   " (take e (headerCards s))
 
-  pub scaled-refused : scaled (endCard s) ≡ true → 17 ≡ unfitNumber s
+  pub scaled-refused : (e : ℕ) → e ≡ endCard s → scaled e ≡ true → 17 ≡ unfitNumber s
   unfolding headerClauses
-  scaled-refused e =
+  scaled-refused e is some =
       by-test (stands "BSCALE  " (beforeEnd (headerCards s)))
       (λ t. given 7 t)
-      (λ t. given 8 (rw t at (rw (← front) at e)))
+      (λ t. given 8 (rw t at (rw (front e is) at some)))
 
   -- the first three cards
   pub image-refused : isImage s ≡ false → 17 ≡ unfitNumber s
@@ -141,13 +135,13 @@ module _ (s : List ℕ) where
 
   -- none of them
   pub unfit-none : (clipped (axis1 s) ≡ 0 → ⊥) → (clipped (axis2 s) ≡ 0 → ⊥) → (endCard s ≡ length (headerCards s) → ⊥)
-      → scaled (endCard s) ≡ false → isImage s ≡ true → 0 ≡ unfitNumber s
+      → (e : ℕ) → e ≡ endCard s → scaled e ≡ false → isImage s ≡ true → 0 ≡ unfitNumber s
   unfolding headerClauses any endCard
-  unfit-none width rows end plain image =
+  unfit-none width rows end e is plain image =
       let cs = headerCards s in
       let three = and-true-all (isTrue (ascii "SIMPLE  ") (getD cs 0 [])) (isNumber 16 (cardInteger "BITPIX  " 1 s))
       (isNumber 2 (cardInteger "NAXIS   " 2 s)) image in
-      let plain′ : (stands "BSCALE  " (beforeEnd cs) || stands "BZERO   " (beforeEnd cs)) ≡ false = rw (← front) at plain in
+      let plain′ : (stands "BSCALE  " (beforeEnd cs) || stands "BZERO   " (beforeEnd cs)) ≡ false = rw (front e is) at plain in
       rw (
         three .0,
         three .1,
@@ -199,70 +193,3 @@ pub judged-refused : (s : List ℕ) (n : ℕ) (h : ImageHeader) → n ≡ header
     → h ≡ unless (headerNumber s) noImage (imageOf s)
 judged-refused s zero h is some e = absurd (some refl)
 judged-refused s (suc n) h is some e = rw (← is) e
-
--- ---- the table's record
-table-writable : RecordWritable 1 noHeading newSheet plainBytes
-unfolding tablePlace
-table-writable = record { writable = refl; place = refl; given = plain-accepted }
-
-pub table-written : (x m m′ : List ℕ) (r : RecordWritten) → x ≡ plainBytes
-    → outcome r m′ ≡ recordWritten 1 noHeading newSheet x m → outcome (r .number) m′ ≡ tableWritten m
-unfolding tableWritten recordWritten tableRecord
-table-written x m m′ r plain e =
-    let short : Outcome RecordWritten → Outcome ℕ = λ o. outcome (o .answer .number) (o .memory) in
-    let e′ : outcome r m′ ≡ recordWritten 1 noHeading newSheet plainBytes m = rw plain at e in
-    let number = writeNumber 1 noHeading newSheet plainBytes (length m) in
-    ap short e′
-    ∙ unless-part short number (λ k. outcome (notWritten k) m)
-    (writes (recordDone 1 noHeading newSheet plainBytes) (recordFor 1 noHeading newSheet plainBytes) m)
-    ∙ ap (λ (k : ℕ). unless k (λ j. outcome j m) (writes 0 (recordFor 1 noHeading newSheet plainBytes) m))
-    (writeNumber-writable 1 noHeading newSheet plainBytes (length m) table-writable)
-
--- ---- the outcome, by the header's number e and the room's number d
-abbrev numberOf : ImageHeader → ℕ
-numberOf h = h .number
-
-abbrev left : ℕ → ImageHeader → List ℕ → List ℕ → Outcome ImageHeader
-left e i b m = unless e (λ k. outcome (noImage k) m) (writes i b m)
-
-refused-by : (e d : ℕ) (i h : ImageHeader) (b m : List ℕ) → h ≡ unless e noImage i → i .number ≡ 0 → (h .number ≡ 0 → ⊥)
-    → outcome h m ≡ left (e orElse d) i b m
-refused-by zero d i h b m judged none some = absurd (some (ap numberOf judged ∙ none))
-refused-by (suc e) d i h b m judged none some = rw judged
-
-accepted-by : (e : ℕ) (i h : ImageHeader) → h ≡ unless e noImage i → h .number ≡ 0 → e ≡ 0
-accepted-by zero i h judged none = refl
-accepted-by (suc e) i h judged none = sym (ap numberOf judged) ∙ none
-
-full-by : (d n : ℕ) (i h : ImageHeader) (b m m′ : List ℕ) → outcome n m′ ≡ unless d (λ k. outcome k m) (writes 0 b m)
-    → (n ≡ 0 → ⊥) → h ≡ noImage n → outcome h m′ ≡ left d i b m
-full-by zero n i h b m m′ table some is = absurd (some (ap (λ (o : Outcome ℕ). o .answer) table))
-full-by (suc d) n i h b m m′ table some is =
-    rw (is, ap (λ (o : Outcome ℕ). o .answer) table, ap (λ (o : Outcome ℕ). o .memory) table)
-
-done-by : (d n : ℕ) (i : ImageHeader) (b m m′ : List ℕ) → outcome n m′ ≡ unless d (λ k. outcome k m) (writes 0 b m)
-    → n ≡ 0 → outcome i m′ ≡ left d i b m
-done-by zero n i b m m′ table none = rw (ap (λ (o : Outcome ℕ). o .memory) table)
-done-by (suc d) n i b m m′ table none = absurd (omega (arith, ap (λ (o : Outcome ℕ). o .answer) table))
-
-module _ (s m : List ℕ) (h : ImageHeader) (judged : h ≡ unless (headerNumber s) noImage (imageOf s)) where
-  room : ℕ
-  room = roomNumber (lent (length m)) (length tableRecord)
-
-  pub header-refused : (h .number ≡ 0 → ⊥) → outcome h m ≡ headerRead s m
-  unfolding headerRead room
-  header-refused some = refused-by (headerNumber s) room (imageOf s) h tableRecord m judged refl some
-
-  module _ (n : ℕ) (m′ : List ℕ) (none : h .number ≡ 0) (table : outcome n m′ ≡ tableWritten m) where
-    accepted : headerNumber s ≡ 0
-    accepted = accepted-by (headerNumber s) (imageOf s) h judged none
-
-    pub header-full : (r : ImageHeader) → (n ≡ 0 → ⊥) → r ≡ noImage n → outcome r m′ ≡ headerRead s m
-    unfolding headerRead tableWritten room
-    header-full r some is = rw accepted (full-by room n (imageOf s) r tableRecord m m′ table some is)
-
-    pub header-done : n ≡ 0 → outcome h m′ ≡ headerRead s m
-    unfolding headerRead tableWritten room
-    header-done zeros =
-        let image : h ≡ imageOf s = rw accepted at judged in
-        rw (accepted, image) (done-by room n (imageOf s) tableRecord m m′ table zeros)

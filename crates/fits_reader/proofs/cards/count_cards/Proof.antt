@@ -1,4 +1,4 @@
--- `fits_reader::cards::count_cards` meets its contract. Assumes nothing.
+-- `fits_reader::cards::count_cards` meets its contract: as many as the bytes have, or ten blocks. Assumes nothing.
 use native.Mathlib.Omega.{arith}
 use Rattle.fits_format.specs.Header.Laws.{length-cardsOf}
 use Rattle.fits_reader.proofs.cards.count_cards.Statement.{statement}

@@ -1,6 +1,6 @@
--- `fits_reader::header::fits_header` meets its contract. Assumes nothing.
+-- `fits_reader::header::fits_header` meets its contract: refused for its header or for room, or done. Assumes nothing.
 use borrow.Author.Needs.{needs}
-use Rattle.fits_reader.proofs.header.Laws.{header-refused, header-full, header-done}
+use Rattle.fits_reader.proofs.header.Written.{header-refused, header-full, header-done}
 use Rattle.fits_reader.proofs.header.fits_header.Statement.{statement}
 use Rattle.fits_reader.proofs.header.fits_header.Tie as tie
 

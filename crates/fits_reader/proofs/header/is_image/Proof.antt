@@ -1,4 +1,4 @@
--- `fits_reader::header::is_image` meets its contract. Assumes nothing.
+-- `fits_reader::header::is_image` meets its contract: a clipped integer tells 16 and 2 from all others. Assumes nothing.
 use native.Mathlib.Omega.{arith}
 use mathlib.Core.Path.{sym, _∙_}
 use borrow.Author.Needs.{needs}

@@ -1,4 +1,4 @@
--- `fits_reader::header::judge` meets its contract. Assumes nothing.
+-- `fits_reader::header::judge` meets its contract: too few cards, the number that they give, or the image. Assumes nothing.
 use Prim.Native.Nat.{_≤_}
 use native.Mathlib.Omega.{arith}
 use mathlib.Core.Path.{_≡_, sym, _∙_}

@@ -1,4 +1,4 @@
--- `fits_reader::header::unfit_number` meets its contract. Assumes nothing.
+-- `fits_reader::header::unfit_number` meets its contract: each way out is a clause, and the last is none. Assumes nothing.
 use native.Mathlib.Omega.{arith}
 use mathlib.Core.Path.{sym, _∙_}
 use borrow.Author.Needs.{needs}
@@ -32,8 +32,8 @@ is-scaled-requires c κs =
 returns-4 : tie.Need-returns-4
 returns-4 c =
     let at-start = c .before .before .before .before .before .before .before in
-    let scaled = sym (c .before .is-scaled .ensures) ∙ c .if4 .taken in
-    scaled-refused (at-start .args .fits .now) (rw (at-start .pre .end) at scaled)
+    scaled-refused (at-start .args .fits .now) (at-start .args .end) (at-start .pre .end)
+    (sym (c .before .is-scaled .ensures) ∙ c .if4 .taken)
 
 is-image-requires : tie.Need-is-image-requires
 is-image-requires c κs = search needs
@@ -48,7 +48,7 @@ returns-5 c =
     (λ e. at-else2 .before .if1 .left (at-start .pre .width ∙ e))
     (λ e. at-else2 .if2 .left (at-start .pre .rows ∙ e))
     (λ e. at-else3 .if3 .left (at-start .pre .end ∙ e ∙ sym (at-else3 .before .count-cards .ensures)))
-    (rw (at-start .pre .end) at (sym (at-else4 .before .is-scaled .ensures) ∙ at-else4 .if4 .left))
+    (at-start .args .end) (at-start .pre .end) (sym (at-else4 .before .is-scaled .ensures) ∙ at-else4 .if4 .left)
     (sym (c .before .is-image .ensures) ∙ c .if5 .taken)
 
 returns-6 : tie.Need-returns-6

@@ -1,6 +1,6 @@
--- `fits_reader::header::write_table_record` meets its contract. Assumes nothing.
+-- `fits_reader::header::write_table_record` meets its contract: a table may be written first, and this one is accepted. Assumes nothing.
 use borrow.Author.Needs.{needs}
-use Rattle.fits_reader.proofs.header.Laws.{table-written}
+use Rattle.fits_reader.proofs.header.Written.{table-written}
 use Rattle.fits_reader.proofs.header.write_table_record.Statement.{statement}
 use Rattle.fits_reader.proofs.header.write_table_record.Tie as tie
 

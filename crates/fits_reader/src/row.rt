@@ -3,7 +3,7 @@ use crate::pixels::copy_pixels;
 use crate::plain::plain_bytes;
 use answer::Answer;
 use sheet_format::SheetState;
-use sheet_writer::write_record;
+use sheet_writer::write_packed;
 ghost use mathlib.Core.Path.{_≡_};
 ghost use lib.ListN.{length};
 ghost use Rattle.answer.specs.Outcome.{outcome};
@@ -52,7 +52,8 @@ fn write_row(width: usize, row: u32, image: &[u8], out: &mut [u8]) -> Answer
         has_table: 1,
         least_row: row,
     };
-    let written = write_record(2, row, &pixels[..2 * width], &table, state, out);
+    // The plain table is accepted and its longest item has 14 bits, so no row needs a check of it.
+    let written = write_packed(row, &pixels[..2 * width], &table, 14, state, out);
     Answer {
         number: written.number,
         count: written.count,

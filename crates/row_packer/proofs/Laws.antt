@@ -55,7 +55,7 @@ packed-table tb pb m is n =
     ∙ sym (unless-first (tableNumber tb) _ (λ e. refused e m) (packedRow (wordsOf tb) (halvesOf pb) m) (λ e. n (answer-number tb is ∙ e)))
 
 -- the words that a row takes
-abbrev words : List ℕ → List ℕ → ℕ
+abbrev pub words : List ℕ → List ℕ → ℕ
 words tb pb = wordsFor (length (rowBits (wordsOf tb) (halvesOf pb)))
 
 module _ (tb pb m : List ℕ) (table : tableNumber tb ≡ 0) where

@@ -1,3 +1,4 @@
+pub mod Known
 pub mod Header
 pub mod Item
 pub mod Field

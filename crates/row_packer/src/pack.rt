@@ -7,12 +7,11 @@ use code_table::check::check;
 use row_format::MAX_PIXELS;
 use row_pixels::any_above;
 ghost use mathlib.Core.Path.{_≡_};
-ghost use Prim.Native.Nat.{_/_, _≤_};
-ghost use lib.ListN.{length};
 ghost use Rattle.bitstream.specs.Bits.{wordsOf};
 ghost use Rattle.answer.specs.Outcome.{outcome};
 ghost use Rattle.row_format.specs.Table.{tableNumber, maxItemBits};
 ghost use Rattle.row_format.specs.Calls.{packed};
+ghost use Rattle.row_packer.specs.Known.{Known};
 
 // Packs the pixels under the table into the words. The answer is the number and the bits that the row takes.
 pub fn pack(table: &[u8], pixels: &[u8], words: &mut [u8]) -> Answer
@@ -22,22 +21,33 @@ pub fn pack(table: &[u8], pixels: &[u8], words: &mut [u8]) -> Answer
     if checked.number != 0 {
         return checked;
     }
+    pack_row(table, checked.count, pixels, words)
+}
+
+// The same where the table may be known: to be accepted, with a longest item of `most` bits. Where `most` is 0 nothing is
+// known, and the table is checked.
+pub fn pack_known(table: &[u8], most: u32, pixels: &[u8], words: &mut [u8]) -> Answer
+    requires { ⌜ Known most (now table) ⌝ }
+    ensures { λ r. ⌜ outcome r (now (words .exit)) ≡ packed (now (table .entry)) (now (pixels .entry)) (now (words .entry)) ⌝ }
+{
+    if most == 0 {
+        return pack(table, pixels, words);
+    }
+    pack_row(table, most, pixels, words)
+}
+
+// The same under an accepted table whose longest item has `most` bits.
+fn pack_row(table: &[u8], most: u32, pixels: &[u8], words: &mut [u8]) -> Answer
+    requires { ⌜ tableNumber (now table) ≡ 0 ⌝ }
+    requires { ⌜ most ≡ maxItemBits (wordsOf (now table)) ⌝ }
+    ensures { λ r. ⌜ outcome r (now (words .exit)) ≡ packed (now (table .entry)) (now (pixels .entry)) (now (words .entry)) ⌝ }
+{
     if MAX_PIXELS < (pixels.len() / 2) as u64 {
         return Answer {
             number: 11,
             count: 0,
         };
     }
-    pack_row(table, checked.count, pixels, words)
-}
-
-// The same under an accepted table whose longest item has `most` bits, of few enough pixels.
-fn pack_row(table: &[u8], most: u32, pixels: &[u8], words: &mut [u8]) -> Answer
-    requires { ⌜ tableNumber (now table) ≡ 0 ⌝ }
-    requires { ⌜ most ≡ maxItemBits (wordsOf (now table)) ⌝ }
-    requires { ⌜ length (now pixels) / 2 ≤ 4096 ⌝ }
-    ensures { λ r. ⌜ outcome r (now (words .exit)) ≡ packed (now (table .entry)) (now (pixels .entry)) (now (words .entry)) ⌝ }
-{
     if any_above(pixels) {
         return Answer {
             number: 4,

@@ -10,4 +10,6 @@ mod plain;
 mod record;
 mod table;
 
+// Of the kinds a packed row alone has its own way in, for a caller whose table is known to be accepted.
+pub use packed::write_packed;
 pub use record::write_record;

@@ -28,7 +28,7 @@ pub fn write_record(
 {
     match kind {
         1 => write_table(content, state, out),
-        2 => write_packed(row, content, table, state, out),
+        2 => write_packed(row, content, table, 0, state, out),
         3 => write_plain(row, content, state, out),
         4 => write_line(content, state, out),
         _ => refused(15),

@@ -9,10 +9,12 @@ use lib.Dec.{eqb}
 use borrow.Author.Tests.{not-true}
 use Rattle.bitstream.specs.Bits.{digits, flat, cut, wordsOf, bitsOf, Below}
 use Rattle.bitstream.specs.Bits.Laws.{below-nil, below-cons, below-flat, pad-all, length-flat, length-cut, cut-flat, flat-cut}
+use Rattle.answer.specs.Outcome.{answerOf}
 use Rattle.row_format.specs.Lists.{any}
 use Rattle.row_format.specs.Lists.Laws.{and-true-all}
-use Rattle.row_format.specs.Table.{codeword, codewords, wrongSize, wrongWord, wrongCodeword, verdict, tableNumber}
+use Rattle.row_format.specs.Table.{codeword, codewords, wrongSize, wrongWord, wrongCodeword, verdict, tableNumber, longest, maxItemBits}
 use Rattle.row_format.specs.Plain.{plainEntries, plainTable, plainBytes}
+use Rattle.row_format.specs.Calls.{checked}
 use Rattle.prefix_free.specs.Branch.Fork.{apart, few, ended, branch, apart-clash}
 
 -- ---- acceptance, by one test over all 518 words
@@ -72,3 +74,12 @@ plain-accepted =
     ap (λ (k : ℕ). cond (eqb (k % 4) 0) (verdict (wordsOf plainBytes)) 1) length-plainBytes
     ∙ ap verdict plain-words
     ∙ plain-verdict
+
+-- its longest item is a raw pixel: two bits and twelve
+maxItemBits-plainTable : maxItemBits plainTable ≡ 14
+unfolding maxItemBits longest codewords codeword digits plainTable plainEntries
+maxItemBits-plainTable = refl
+
+pub plain-checked : checked plainBytes ≡ answerOf 0 14
+unfolding checked
+plain-checked = rw (plain-accepted, plain-words, maxItemBits-plainTable)

@@ -2,11 +2,13 @@
 -- nothing.
 use native.Mathlib.Omega.{arith}
 use Prim.Native.Nat.{_*_}
-use mathlib.Core.Path.{sym}
+use mathlib.Core.Path.{sym, ap, _∙_}
 use lib.ListN.{length}
 use lib.Seq.{length-take-le}
 use Rattle.bitstream.specs.Bits.{Below}
 use borrow.Author.Needs.{needs}
+use Rattle.row_format.specs.Calls.{checked}
+use Rattle.code_table.specs.Plain.Laws.{plain-checked}
 use Rattle.fits_format.specs.Image.Call.{RowStands, beforePixels-zero, imageRow-given}
 use Rattle.fits_reader.proofs.row.write_row.Statement.{statement}
 use Rattle.fits_reader.proofs.row.write_row.Tie as tie
@@ -36,17 +38,18 @@ array-share-prefix-pixels c =
     let row = stands (c .before .before .before .before .before .before) in
     omega (arith, row .narrow, c .before .before .copy-pixels .kept)
 
-slice-aggregate-write-record : tie.Need-slice-aggregate-write-record
-slice-aggregate-write-record c =
+slice-aggregate-write-packed : tie.Need-slice-aggregate-write-packed
+slice-aggregate-write-packed c =
     let start = c .before .before .before .before .before .before .before in
     let copied = c .before .before .before .copy-pixels in
     sym (length-take-le (2 * start .args .width) (copied .last .1 .1 .0) (omega (arith, stands start .narrow, copied .kept)))
 
-slice-aggregate-write-record-2 : tie.Need-slice-aggregate-write-record-2
-slice-aggregate-write-record-2 c = search needs
+slice-aggregate-write-packed-2 : tie.Need-slice-aggregate-write-packed-2
+slice-aggregate-write-packed-2 c = search needs
 
-write-record-requires : tie.Need-write-record-requires
-write-record-requires c κs = search needs
+-- the table is the plain one, which is known to be accepted
+write-packed-requires : tie.Need-write-packed-requires
+write-packed-requires c κs = λ some. ap checked (c .before .before .before .plain-bytes .ensures) ∙ plain-checked
 
 same-length : tie.Need-same-length
 same-length c = search needs
@@ -60,7 +63,7 @@ returns c =
     let args = start .args in
     let bytes : Below 256 (args .image .now) = record { below = λ i. copied .before .before .before .shared-slice-known .given i .fits } in
     imageRow-given (args .width) (args .row) (args .image .now) (args .out .now) bytes (stands start)
-    (table .plain-bytes .ensures) (copied .copy-pixels .ensures) (written .write-record .ensures)
+    (table .plain-bytes .ensures) (copied .copy-pixels .ensures) (written .write-packed .ensures)
 
 pub write-row-spec : {M : Type 1} → statement M
 write-row-spec =
@@ -71,8 +74,8 @@ write-row-spec =
     plain-bytes-requires
     mul-pixels
     array-share-prefix-pixels
-    slice-aggregate-write-record
-    slice-aggregate-write-record-2
-    write-record-requires
+    slice-aggregate-write-packed
+    slice-aggregate-write-packed-2
+    write-packed-requires
     same-length
     returns)

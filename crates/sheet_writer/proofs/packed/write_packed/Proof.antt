@@ -34,14 +34,14 @@ placed : (c : tie.Else1) → rowPlace (context (entry c)) (heading (entry c)) �
 placed c = sym (c .before .row-place .ensures (context (entry c)) (state-is (entry c))) ∙ c .if1 .left
 
 -- what holds when packing has run
-abbrev Ran-at : tie.After-pack → Type 0
+abbrev Ran-at : tie.After-pack-known → Type 0
 Ran-at c =
     let at-lesser = c .before .before in
     let at-start = entry (at-lesser .before) in
     Ran (heading at-start) (context at-start) (at-start .args .content .now) (at-start .args .out .now)
-    (at-lesser .lesser .result) (c .pack .result) (c .pack .last .1 .1 .0)
+    (at-lesser .lesser .result) (c .pack-known .result) (c .pack-known .last .1 .1 .1 .0)
 
-ran : (c : tie.After-pack) → Ran-at c
+ran : (c : tie.After-pack-known) → Ran-at c
 ran c =
     let at-lesser = c .before .before in
     let at-if1 = at-lesser .before in
@@ -51,7 +51,7 @@ ran c =
       placed = placed at-if1;
       place = at-lesser .lesser .ensures;
       packs =
-          c .pack .ensures
+          c .pack-known .ensures
           ∙ ap (λ (t : List ℕ). packed t (a .content .now) (partFrom (at-lesser .lesser .result) (a .out .now)))
           (sym (table-lent (a .table .now) (a .state) (heading at-start) (placed at-if1)));
     }
@@ -75,17 +75,17 @@ returns c =
 lesser-requires : tie.Need-lesser-requires
 lesser-requires c κs = search needs
 
-sub-pack : tie.Need-sub-pack
-sub-pack c = search needs
+sub-pack-known : tie.Need-sub-pack-known
+sub-pack-known c = search needs
 
-part-pack-start : tie.Need-part-pack-start
-part-pack-start c = search needs
+part-pack-known-start : tie.Need-part-pack-known-start
+part-pack-known-start c = search needs
 
-part-pack-end : tie.Need-part-pack-end
-part-pack-end c = search needs
+part-pack-known-end : tie.Need-part-pack-known-end
+part-pack-known-end c = search needs
 
-pack-requires : tie.Need-pack-requires
-pack-requires c κs = search needs
+pack-known-requires : tie.Need-pack-known-requires
+pack-known-requires c κs = search needs
 
 refused-requires-2 : tie.Need-refused-requires-2
 refused-requires-2 c κs = search needs
@@ -176,10 +176,10 @@ write-packed-spec =
     refused-requires
     returns
     lesser-requires
-    sub-pack
-    part-pack-start
-    part-pack-end
-    pack-requires
+    sub-pack-known
+    part-pack-known-start
+    part-pack-known-end
+    pack-known-requires
     refused-requires-2
     same-length
     returns-2

@@ -1,7 +1,7 @@
 -- `sheet_writer::record::write_record` meets its contract: each kind by its own function, and any other number refused.
 -- Assumes nothing.
 use native.Mathlib.Omega.{arith}
-use mathlib.Core.Path.{_≡_}
+use mathlib.Core.Path.{_≡_, refl}
 use borrow.Author.Needs.{needs}
 use Rattle.sheet_format.specs.Context.{Heading, Context, stateOf, contextOf}
 use Rattle.sheet_format.specs.Context.Laws.{stateOf-contextOf}
@@ -23,8 +23,9 @@ state-is c = stateOf-contextOf (c .args .table .now) (c .args .state)
 write-table-requires : tie.Need-write-table-requires
 write-table-requires c κs = search needs
 
+-- of the table nothing is known
 write-packed-requires : tie.Need-write-packed-requires
-write-packed-requires c κs = search needs
+write-packed-requires c κs = λ some. absurd (some refl)
 
 write-plain-requires : tie.Need-write-plain-requires
 write-plain-requires c κs = search needs

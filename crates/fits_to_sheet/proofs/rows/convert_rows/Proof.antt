@@ -1,0 +1,200 @@
+-- `fits_to_sheet::rows::convert_rows` meets its contract. The loop's invariant: the memory keeps its lengths, r is at most the
+-- rows, and for some bytes that were taken, r rows were, none of which is refused. The measure is the rows that are left. Assumes
+-- nothing.
+use Prim.Native.Nat.{_-_, _≤_}
+use native.Mathlib.Omega.{arith}
+use mathlib.Core.Path.{_≡_, refl, sym, ap}
+use lib.ListN.{length, take, length-take}
+use lib.Seq.{length-take-le}
+use Rattle.row_format.specs.Lists.Laws.{true-false}
+use Rattle.fits_to_sheet.specs.declared.rows.Rows.{Rows}
+use Rattle.fits_to_sheet.specs.Scan.{rowSpan, RowsBefore}
+use Rattle.fits_to_sheet.specs.Scan.Calls.{before-none, all-ended, row-ended, before-more, row-next}
+use borrow.Author.Needs.{needs}
+use Rattle.fits_to_sheet.proofs.rows.convert_rows.Statement.{statement}
+use Rattle.fits_to_sheet.proofs.rows.convert_rows.Tie as tie
+
+abbrev Inv-loop : tie.InvT-loop
+Inv-loop file name header row₀ out₀ width rows span r₀ row out r =
+    (length row ≡ length row₀) × (length out ≡ length out₀) × (r ≤ rows) × RowsBefore header r
+
+abbrev μ-loop : tie.MeasureT-loop
+μ-loop file name header row₀ out₀ width rows span r₀ row out r = rows - r
+
+cast-width : tie.Need-cast-width Inv-loop μ-loop
+cast-width c = search needs
+
+cast-rows : tie.Need-cast-rows Inv-loop μ-loop
+cast-rows c = search needs
+
+row-span-requires : tie.Need-row-span-requires Inv-loop μ-loop
+row-span-requires c κs = search needs
+
+loop-holds : tie.Need-loop-holds Inv-loop μ-loop
+loop-holds c = (refl, refl, omega arith, before-none (c .before .before .before .before .before .before .before .pre .0))
+
+take-row-requires : tie.Need-take-row-requires Inv-loop μ-loop
+take-row-requires c κs = search needs
+
+fail-requires : tie.Need-fail-requires Inv-loop μ-loop
+fail-requires c κs = search needs
+
+same-length : tie.Need-same-length Inv-loop μ-loop
+same-length c = search needs
+
+same-length-2 : tie.Need-same-length-2 Inv-loop μ-loop
+same-length-2 c = search needs
+
+returns : tie.Need-returns Inv-loop μ-loop
+returns c =
+    let failed = c .fail .ensures in
+    (rw failed (omega arith), λ f. true-false (ap (λ (x : Rows). x .failed) failed) f)
+
+same-length-3 : tie.Need-same-length-3 Inv-loop μ-loop
+same-length-3 c = search needs
+
+same-length-4 : tie.Need-same-length-4 Inv-loop μ-loop
+same-length-4 c = search needs
+
+returns-2 : tie.Need-returns-2 Inv-loop μ-loop
+returns-2 c =
+    let turn = c .before .before .before .before .before .before in
+    let inside = turn .before .before .before in
+    let at-loop = inside .before in
+    let spanned = at-loop .before in
+    let start = spanned .before .before .before .before .before .before .before in
+    let stands = start .pre .0 in
+    let held = turn .take-row .result .held in
+    let row = turn .take-row .last .1 .1 .1 .1 .1 .0 in
+    let few : length (take held row) ≤ rowSpan (start .args .header .now) =
+    omega (arith, length-take held row, turn .take-row .ensures .0, spanned .row-span .ensures .0) in
+    let made = turn .take-row .ensures .1 .1 in
+    let before = at-loop .loop .inv .3 in
+    let less = inside .loop-test .taken in
+    (omega (arith, turn .take-row .ensures .0, spanned .row-span .ensures .1), λ f. row-ended stands before less few made (c .if2 .taken))
+
+slice-reshare-prefix-print-row : tie.Need-slice-reshare-prefix-print-row Inv-loop μ-loop
+slice-reshare-prefix-print-row c = search needs
+
+slice-aggregate-print-row : tie.Need-slice-aggregate-print-row Inv-loop μ-loop
+slice-aggregate-print-row c =
+    let turn = c .before .before .before .before .before .before .before in
+    let at-loop = turn .before .before .before .before in
+    let spanned = at-loop .before in
+    let start = spanned .before .before .before .before .before .before .before in
+    let row = turn .take-row .last .1 .1 .1 .1 .1 .0 in
+    let within = spanned .row-span .ensures .1 in
+    sym (length-take-le (turn .take-row .result .held) row
+    (omega (arith, turn .take-row .ensures .0, within, turn .take-row .kept, at-loop .loop .inv .0, start .pre .1 .0)))
+
+slice-reshare-prefix-print-row-2 : tie.Need-slice-reshare-prefix-print-row-2 Inv-loop μ-loop
+slice-reshare-prefix-print-row-2 c = search needs
+
+slice-aggregate-print-row-2 : tie.Need-slice-aggregate-print-row-2 Inv-loop μ-loop
+slice-aggregate-print-row-2 c =
+    let turn = c .before .before .before .before .before .before .before .before .take-row in
+    sym (length-take-le (turn .result .count) (turn .last .1 .1 .1 .1 .1 .1 .0) (turn .ensures .1 .0))
+
+print-row-requires : tie.Need-print-row-requires Inv-loop μ-loop
+print-row-requires c κs =
+    let turn = c .before .before .before .before .before .before .before .before in
+    let inside = turn .before .before .before in
+    let at-loop = inside .before in
+    let spanned = at-loop .before in
+    let start = spanned .before .before .before .before .before .before .before in
+    let stands = start .pre .0 in
+    let held = turn .take-row .result .held in
+    let row = turn .take-row .last .1 .1 .1 .1 .1 .0 in
+    let few : length (take held row) ≤ rowSpan (start .args .header .now) =
+    omega (arith, length-take held row, turn .take-row .ensures .0, spanned .row-span .ensures .0) in
+    let made = turn .take-row .ensures .1 .1 in
+    let before = at-loop .loop .inv .3 in
+    let less = inside .loop-test .taken in
+    row-next stands before less few made (c .before .before .if2 .left)
+
+add-r : tie.Need-add-r Inv-loop μ-loop
+add-r c = search needs
+
+loop-less : tie.Need-loop-less Inv-loop μ-loop
+loop-less c = search needs
+
+loop-again : tie.Need-loop-again Inv-loop μ-loop
+loop-again c =
+    let turn = c .before .before .before .before .before .before .before .before .before .before in
+    let inside = turn .before .before .before in
+    let at-loop = inside .before in
+    let spanned = at-loop .before in
+    let start = spanned .before .before .before .before .before .before .before in
+    let stands = start .pre .0 in
+    let held = turn .take-row .result .held in
+    let row = turn .take-row .last .1 .1 .1 .1 .1 .0 in
+    let few : length (take held row) ≤ rowSpan (start .args .header .now) =
+    omega (arith, length-take held row, turn .take-row .ensures .0, spanned .row-span .ensures .0) in
+    let made = turn .take-row .ensures .1 .1 in
+    let before = at-loop .loop .inv .3 in
+    let less = inside .loop-test .taken in
+    let kept = turn .take-row .kept in (
+      omega (arith, kept),
+      omega (arith, kept),
+      omega (arith, less),
+      before-more stands before less few made (c .before .before .before .before .if2 .left),
+    )
+
+fail-requires-2 : tie.Need-fail-requires-2 Inv-loop μ-loop
+fail-requires-2 c κs = search needs
+
+same-length-5 : tie.Need-same-length-5 Inv-loop μ-loop
+same-length-5 c = search needs
+
+same-length-6 : tie.Need-same-length-6 Inv-loop μ-loop
+same-length-6 c = search needs
+
+returns-3 : tie.Need-returns-3 Inv-loop μ-loop
+returns-3 c =
+    let failed = c .fail2 .ensures in
+    (rw failed (omega arith), λ f. true-false (ap (λ (x : Rows). x .failed) failed) f)
+
+same-length-7 : tie.Need-same-length-7 Inv-loop μ-loop
+same-length-7 c = search needs
+
+same-length-8 : tie.Need-same-length-8 Inv-loop μ-loop
+same-length-8 c = search needs
+
+returns-4 : tie.Need-returns-4 Inv-loop μ-loop
+returns-4 c =
+    let at-loop = c .before in
+    (omega arith, λ f. all-ended (at-loop .before .before .before .before .before .before .before .before .pre .0) (at-loop .loop .inv .3) (c .loop-test .left))
+
+pub convert-rows-spec : {M : Type 1} → statement M
+convert-rows-spec =
+    tie.close
+    (tie.spec
+    Inv-loop
+    μ-loop
+    cast-width
+    cast-rows
+    row-span-requires
+    loop-holds
+    take-row-requires
+    fail-requires
+    same-length
+    same-length-2
+    returns
+    same-length-3
+    same-length-4
+    returns-2
+    slice-reshare-prefix-print-row
+    slice-aggregate-print-row
+    slice-reshare-prefix-print-row-2
+    slice-aggregate-print-row-2
+    print-row-requires
+    add-r
+    loop-less
+    loop-again
+    fail-requires-2
+    same-length-5
+    same-length-6
+    returns-3
+    same-length-7
+    same-length-8
+    returns-4)

@@ -10,7 +10,6 @@ use lib.IntN.{ℤ, pos, negℤ}
 use Rattle.row_format.specs.Lists.{any}
 use Rattle.text.specs.Text.{ascii}
 use Rattle.text.specs.Same.{sameBytes}
-pub mod Laws
 
 -- ---- the parts of a card
 abbrev pub columns : ℕ → ℕ → List ℕ → List ℕ

@@ -1,6 +1,6 @@
 -- Document 02, ticket 1, "Read the header": which headers are refused and by which number, and what an accepted one says of
 -- its image. s is the bytes of a file. Definitions only. Assumes nothing.
-use Prim.Native.Nat.{ℕ, zero, suc, _+_, _*_, _/_, _%_, _≤_}
+use Prim.Native.Nat.{ℕ, zero, suc, _+_, _*_, _/_, _%_, _≤_, _<_}
 use mathlib.Core.Path.{_≡_}
 use Prim.Native.String.{String}
 use mathlib.Core.Bool.{Bool, true, false, cond, not}
@@ -76,19 +76,25 @@ abbrev pub stands : String → List (List ℕ) → Bool
 stands k cs = any (hasKeyword (ascii k)) cs
 
 -- ---- "17 exactly when the first five cards aren't SIMPLE T, BITPIX 16, NAXIS 2, NAXIS1, NAXIS2 in fixed format, an axis is
--- below 1, a BSCALE or BZERO card stands, or no END comes in ten blocks; then 11 for an axis above 4096"
+-- below 1, a BSCALE or BZERO card stands, or no END comes in ten blocks"
+unfoldable pub headerClauses : List ℕ → List Bool
+headerClauses s =
+    not (isTrue (ascii "SIMPLE  ") (getD (headerCards s) 0 []))
+    ∷ not (isNumber 16 (cardInteger "BITPIX  " 1 s))
+    ∷ not (isNumber 2 (cardInteger "NAXIS   " 2 s))
+    ∷ lacking (axis1 s)
+    ∷ lacking (axis2 s)
+    ∷ belowOne (axis1 s)
+    ∷ belowOne (axis2 s)
+    ∷ stands "BSCALE  " (beforeEnd (headerCards s))
+    ∷ stands "BZERO   " (beforeEnd (headerCards s))
+    ∷ not (stands "END     " (headerCards s))
+    ∷ []
+
+-- "then 11 for an axis above 4096"
 unfoldable pub headerNumber : List ℕ → ℕ
 headerNumber s =
-    refuseIf (not (isTrue (ascii "SIMPLE  ") (getD (headerCards s) 0 []))) 17
-    orElse refuseIf (not (isNumber 16 (cardInteger "BITPIX  " 1 s))) 17
-    orElse refuseIf (not (isNumber 2 (cardInteger "NAXIS   " 2 s))) 17
-    orElse refuseIf (lacking (axis1 s)) 17
-    orElse refuseIf (lacking (axis2 s)) 17
-    orElse refuseIf (belowOne (axis1 s)) 17
-    orElse refuseIf (belowOne (axis2 s)) 17
-    orElse refuseIf (stands "BSCALE  " (beforeEnd (headerCards s))) 17
-    orElse refuseIf (stands "BZERO   " (beforeEnd (headerCards s))) 17
-    orElse refuseIf (not (stands "END     " (headerCards s))) 17
+    refuseIf (any (λ (b : Bool). b) (headerClauses s)) 17
     orElse refuseIf (aboveMost (axis1 s)) 11
     orElse refuseIf (aboveMost (axis2 s)) 11
 
@@ -107,8 +113,8 @@ headerSpan s = cond (stands "END     " (headerCards s)) (imageStart s) 28800
 
 -- ---- the call
 -- "packed under the plain table, whose record is written once the header is accepted"
-unfoldable pub tableRecord : List ℕ
-tableRecord = recordFor 1 noHeading newSheet plainBytes
+unfoldable pub plainTableRecord : List ℕ
+plainTableRecord = recordFor 1 noHeading newSheet plainBytes
 
 abbrev pub noImage : ℕ → ImageHeader
 noImage e = record { number = e; width = 0; rows = 0; start = 0; count = 0 }
@@ -120,7 +126,7 @@ imageOf s =
       width = axisLength (axis1 s);
       rows = axisLength (axis2 s);
       start = imageStart s;
-      count = length tableRecord;
+      count = length plainTableRecord;
     }
 
 -- the numbers that it may answer
@@ -130,12 +136,14 @@ headerNumbers = 0 ∷ 17 ∷ 11 ∷ 5 ∷ []
 -- "then 5 for the table's record"
 unfoldable pub headerRead : List ℕ → List ℕ → Outcome ImageHeader
 headerRead s m =
-    unless (headerNumber s orElse roomNumber (lent (length m)) (length tableRecord)) (λ e. outcome (noImage e) m)
-    (writes (imageOf s) tableRecord m)
+    unless (headerNumber s orElse roomNumber (lent (length m)) (length plainTableRecord)) (λ e. outcome (noImage e) m)
+    (writes (imageOf s) plainTableRecord m)
 
 -- ---- what is to be true of it
 -- what an accepted header says of its image: the axes, and where it starts
 pub record HeaderAccepted (s : List ℕ) (h : ImageHeader) : Type 0 where
+  pub width : axis1 s ≡ isInteger (pos (h .width))
+  pub rows : axis2 s ≡ isInteger (pos (h .rows))
   pub width-least : 1 ≤ h .width
   pub width-most : h .width ≤ 4096
   pub rows-least : 1 ≤ h .rows
@@ -143,10 +151,11 @@ pub record HeaderAccepted (s : List ℕ) (h : ImageHeader) : Type 0 where
   -- END's card is there, and whole
   pub end-stands : stands "END     " (headerCards s) ≡ true
   pub end-whole : 80 * (endCard s + 1) ≤ length s
-  -- the image starts with a block, past END's card
+  -- the image starts with the next block, past END's card
   pub start-block : h .start % 2880 ≡ 0
   pub start-least : 2880 ≤ h .start
   pub start-most : h .start ≤ 28800
   pub start-past : 80 * (endCard s + 1) ≤ h .start
+  pub start-next : h .start < 80 * (endCard s + 1) + 2880
   -- the table's record is written
   pub count : h .count ≡ 2078

@@ -15,6 +15,7 @@ use Rattle.sheet_format.specs.Context.{Context}
 use Rattle.sheet_format.specs.Writing.{recordFor}
 pub mod Laws
 pub mod Call
+pub mod Room
 
 -- ---- "big-endian signed pixels": two bytes, the higher one first, in two's complement
 unfoldable pub twosComplement : ℕ → ℤ
@@ -32,9 +33,9 @@ abbrev pub signedPixels : ℕ → List ℕ → List ℤ
 signedPixels w s = map twosComplement (bigEndian w s)
 
 -- ---- "a pixel below 0 or above 4095 refused with 4, since masking would invent a height"
-abbrev pub noHeight : ℤ → Bool
-noHeight (pos k) = ltb 4095 k
-noHeight (negsuc k) = true
+abbrev pub outOfRange : ℤ → Bool
+outOfRange (pos k) = ltb 4095 k
+outOfRange (negsuc k) = true
 
 abbrev pub heightOf : ℤ → ℕ
 heightOf (pos k) = k
@@ -63,7 +64,7 @@ beforePixels w r n =
 unfoldable pub imageRowNumber : ℕ → ℕ → List ℕ → ℕ → ℕ
 imageRowNumber w r s roomBytes =
     beforePixels w r (length s)
-    orElse refuseIf (any noHeight (signedPixels w s)) 4
+    orElse refuseIf (any outOfRange (signedPixels w s)) 4
     orElse roomNumber (lent roomBytes) (length (rowRecord w r s))
 
 -- the numbers that it may answer

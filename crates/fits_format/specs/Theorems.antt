@@ -10,19 +10,21 @@ use lib.Dec.{eqb}
 use lib.IntN.{pos}
 use Rattle.answer.specs.Outcome.{refusal, refused, Kept, Within}
 use Rattle.row_format.specs.Lists.{any}
-use Rattle.fits_format.specs.Header.{headerCards, stands, endCard, headerSpan, tableRecord, noImage, headerNumbers, headerRead, HeaderAccepted}
-use Rattle.fits_format.specs.Image.{signedPixels, noHeight, rowHeights, beforePixels, imageRowNumbers, imageRow}
+use Rattle.fits_format.specs.Header.{headerCards, stands, endCard, headerSpan, plainTableRecord, noImage, headerNumbers, headerRead, HeaderAccepted}
+use Rattle.fits_format.specs.Image.{signedPixels, outOfRange, rowHeights, beforePixels, imageRowNumbers, imageRow}
 use Rattle.fits_format.specs.Conversion.{rowCalls, headerRefused, conversion, rowNumberAt, rowRecordAt, inOrder, FirstFault, SheetOfImage}
 use Rattle.fits_format.specs.Conversion.Laws.{rowCalls-fault, rowCalls-bytes}
 use Rattle.fits_format.specs.Conversion.Alike.{imageRow-take, rowCalls-alike, conversion-alike}
 use Header.{headerRead-numbers, headerRead-kept, headerRead-within, headerRead-accepted}
-use Row.{imageRow-numbers, imageRow-kept, imageRow-within, imageRow-pixel, imageRow-same}
+use Row.{imageRow-numbers, imageRow-kept, imageRow-within, imageRow-pixel, imageRow-same, imageRow-room-enough}
+use Start.{blocks-start}
 use Scan.{scan-refused, scan-fault, scan-bytes, scan-sheet}
 use Span.{through-end, prefix-final, headerSpan-same}
 pub mod Header
 pub mod Row
 pub mod Scan
 pub mod Span
+pub mod Start
 
 -- ---- the header
 -- an accepted header: axes of 1 to 4096, an END that is there, and a start past it
@@ -43,15 +45,25 @@ pub header-final : (n : ℕ) (s m : List ℕ) → (headerRead (take n s) m .answ
     → headerRead (take n s) m ≡ headerRead s m
 header-final = prefix-final
 
+-- Where the first k blocks get 17 and with one more the header is accepted, the image begins with the byte after that one.
+pub header-start : (k : ℕ) (s m : List ℕ) → headerRead (take (2880 * k) s) m .answer .number ≡ 17
+    → headerRead (take (2880 * (k + 1)) s) m .answer .number ≡ 0
+    → headerRead (take (2880 * (k + 1)) s) m .answer .start ≡ 2880 * (k + 1)
+header-start = blocks-start
+
 -- ---- a row
 -- "a pixel below 0 or above 4095 refused with 4": of a row that is there, whatever its other pixels and the room
-pub row-pixel-refused : (w r : ℕ) (s m : List ℕ) → beforePixels w r (length s) ≡ 0 → any noHeight (signedPixels w s) ≡ true
+pub row-pixel-refused : (w r : ℕ) (s m : List ℕ) → beforePixels w r (length s) ≡ 0 → any outOfRange (signedPixels w s) ≡ true
     → imageRow w r s m ≡ refused 4 m
 row-pixel-refused = imageRow-pixel
 
 -- "since masking would invent a height": the heights of a row that is done are its pixels
 pub row-pixels-same : (w r : ℕ) (s m : List ℕ) → imageRow w r s m .answer .number ≡ 0 → map pos (rowHeights w s) ≡ signedPixels w s
 row-pixels-same = imageRow-same
+
+-- 7178 bytes are always room enough
+pub row-room : (w r : ℕ) (s m : List ℕ) → 7178 ≤ length m → imageRow w r s m .answer .number ≡ 5 → ⊥
+row-room = imageRow-room-enough
 
 -- Nothing after the row's bytes is looked at, and so two bytes a pixel are enough, cut short or not.
 pub row-span : (w r : ℕ) (s m : List ℕ) → imageRow w r (take (2 * w) s) m ≡ imageRow w r s m
@@ -85,7 +97,7 @@ module _ (m : List ℕ) (lends : ℕ → List ℕ) (s : List ℕ) where
     pub scan-written :
         let h = headerRead s m .answer in
         let c = conversion m lends s in
-        c .bytes ≡ tableRecord ++ inOrder (rowRecordAt (h .width) (drop (h .start) s)) 0 (c .rows)
+        c .bytes ≡ plainTableRecord ++ inOrder (rowRecordAt (h .width) (drop (h .start) s)) 0 (c .rows)
     scan-written = scan-bytes m lends s ok
 
     -- "turn each image row into a row of a sheet": what was written is a sheet, and its rows are the image's
@@ -109,8 +121,8 @@ scan-alike m lends s t there alike = conversion-alike m lends s t (through-end s
 pub header-numbers : (s m : List ℕ) → any (eqb (headerRead s m .answer .number)) headerNumbers ≡ true
 header-numbers = headerRead-numbers
 
-pub row-numbers : (w r : ℕ) (s m : List ℕ) → any (eqb (imageRow w r s m .answer .number)) imageRowNumbers ≡ true
-row-numbers = imageRow-numbers
+pub row-call-numbers : (w r : ℕ) (s m : List ℕ) → any (eqb (imageRow w r s m .answer .number)) imageRowNumbers ≡ true
+row-call-numbers = imageRow-numbers
 
 -- "A refused call gives its number, zero for every count and value, and leaves the lent memory as found"
 pub header-refused-keeps : (s m : List ℕ) → (headerRead s m .answer .number ≡ 0 → ⊥)

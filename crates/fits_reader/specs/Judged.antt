@@ -8,8 +8,7 @@ use Rattle.answer.specs.Outcome.{Outcome, outcome, writes, refuseIf, unless, le
 use Rattle.row_format.specs.Lists.{any}
 use Rattle.text.specs.Text.{ascii}
 use Rattle.fits_format.specs.Card.{isTrue}
-use Rattle.fits_format.specs.Header.{headerCards, cardInteger, axis1, axis2, isNumber, endCard, tableRecord}
-use Rattle.fits_format.specs.Header.Clauses.{headerClauses}
+use Rattle.fits_format.specs.Header.{headerCards, cardInteger, axis1, axis2, isNumber, endCard, plainTableRecord, headerClauses}
 use Rattle.fits_reader.specs.Clipped.{clipped}
 
 -- the first three cards are SIMPLE T, BITPIX 16 and NAXIS 2
@@ -32,4 +31,4 @@ pub record CardsRead (s : List ℕ) (w r e : ℕ) : Type 0 where
 -- the table's record at the front of the memory, or 5 where it has no room there
 unfoldable pub tableWritten : List ℕ → Outcome ℕ
 tableWritten m =
-    unless (roomNumber (lent (length m)) (length tableRecord)) (λ e. outcome e m) (writes 0 tableRecord m)
+    unless (roomNumber (lent (length m)) (length plainTableRecord)) (λ e. outcome e m) (writes 0 plainTableRecord m)

@@ -13,7 +13,6 @@ use Rattle.fits_format.specs.Image.{rowRecord, imageRowNumber}
 use Rattle.fits_format.specs.Conversion.{Conversion, conversion, rowAt}
 use Rattle.fits_to_sheet.specs.declared.rows.RowTurn.{RowTurn}
 use Rattle.fits_to_sheet.specs.Verdict.{verdictLine}
-pub mod Room
 pub mod Header
 pub mod Rows
 pub mod Laws
@@ -43,7 +42,7 @@ pub record ImageStands (header : List ℕ) (x : ImageHeader) : Type 0 where
 -- ---- the memory that is lent for the table's record and for row i's: never too little
 pub record Enough (m : List ℕ) (lends : ℕ → List ℕ) : Type 0 where
   pub table : 2078 ≤ length m
-  pub rows : (i : ℕ) → 13834 ≤ length (lends i)
+  pub rows : (i : ℕ) → 7178 ≤ length (lends i)
 
 -- what converting some bytes comes to, with memory that is enough, has a property
 abbrev pub Converted : List ℕ → (Conversion → Type 0) → Type 0
@@ -59,7 +58,7 @@ pub record FirstRecord (header b : List ℕ) : Type 0 where
 pub record RowsTaken (header image : List ℕ) (r : ℕ) : Type 0 where
   pub within : r ≤ imageRows header
   pub size : length image ≡ rowSpan header * r
-  pub right : (i : ℕ) → i < r → imageRowNumber (imageWidth header) i (rowAt (imageWidth header) image i) 13834 ≡ 0
+  pub right : (i : ℕ) → i < r → imageRowNumber (imageWidth header) i (rowAt (imageWidth header) image i) 7178 ≡ 0
 
 -- they were, for some bytes
 pub record RowsBefore (header : List ℕ) (r : ℕ) : Type 0 where
@@ -77,7 +76,7 @@ pub record NextRecord (header held : List ℕ) (r : ℕ) (b : List ℕ) : Type 0
 
 -- a row as its turn has it: what its call answered with the bytes that are held
 pub record RowMade (w r : ℕ) (held : List ℕ) (x : RowTurn) (record′ : List ℕ) : Type 0 where
-  pub number : x .number ≡ imageRowNumber w r held 13834
+  pub number : x .number ≡ imageRowNumber w r held 7178
   pub bytes : x .number ≡ 0 → take (x .count) record′ ≡ rowRecord w r held
 
 -- ---- how it ends

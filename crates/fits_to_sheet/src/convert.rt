@@ -11,11 +11,11 @@ ghost use Prim.Native.Nat.{_≤_};
 ghost use lib.ListN.{length, take};
 ghost use Rattle.fits_to_sheet.specs.Scan.{HeaderHeld, ImageStands, FirstRecord};
 
-// 2078 bytes are enough for the table's record and 13834 for a row's, whatever its pixels, so that no record is refused for room.
+// 2078 bytes are enough for the table's record and 7178 for a row's, whatever its pixels, so that no record is refused for room.
 pub fn convert_input(file: i32, name: &[u8]) {
     let mut header = [0u8; 28800];
     let mut row = [0u8; 8192];
-    let mut out = [0u8; 13834];
+    let mut out = [0u8; 7178];
     convert(file, name, &mut header, &mut row, &mut out);
 }
 
@@ -26,7 +26,7 @@ pub fn convert_input(file: i32, name: &[u8]) {
 fn convert(file: i32, name: &[u8], header: &mut [u8], row: &mut [u8], out: &mut [u8])
     requires { ⌜ 28800 ≤ length (now header) ⌝ }
     requires { ⌜ 8192 ≤ length (now row) ⌝ }
-    requires { ⌜ 13834 ≤ length (now out) ⌝ }
+    requires { ⌜ 7178 ≤ length (now out) ⌝ }
 {
     let got = fill_header(file, name, header);
     if got.failed {
@@ -39,7 +39,7 @@ fn convert(file: i32, name: &[u8], header: &mut [u8], row: &mut [u8], out: &mut 
 fn convert_scan(file: i32, name: &[u8], header: &[u8], row: &mut [u8], out: &mut [u8])
     requires { ⌜ HeaderHeld (now header) ⌝ }
     requires { ⌜ 8192 ≤ length (now row) ⌝ }
-    requires { ⌜ 13834 ≤ length (now out) ⌝ }
+    requires { ⌜ 7178 ≤ length (now out) ⌝ }
 {
     let image = fits_header(header, out);
     let number = image.number;
@@ -64,7 +64,7 @@ fn convert_image(
 )
     requires { ⌜ ImageStands (now header) image ⌝ }
     requires { ⌜ 8192 ≤ length (now row) ⌝ }
-    requires { ⌜ 13834 ≤ length (now out) ⌝ }
+    requires { ⌜ 7178 ≤ length (now out) ⌝ }
 {
     let done = convert_rows(file, name, header, image, row, out);
     if done.failed {

@@ -38,7 +38,7 @@ pub fn convert_rows(
 ) -> Rows
     requires { ⌜ ImageStands (now header) image ⌝ }
     requires { ⌜ 8192 ≤ length (now row) ⌝ }
-    requires { ⌜ 13834 ≤ length (now out) ⌝ }
+    requires { ⌜ 7178 ≤ length (now out) ⌝ }
     ensures held { λ r. ⌜ r .held ≤ 8192 ⌝ }
     ensures ended { λ r. ⌜ (r .failed ≡ false → Ended (now (header .entry)) (take (r .held) (now (row .exit))) 0 (r .number) (r .rows)) ⌝ }
 {
@@ -122,7 +122,7 @@ fn take_row(
 ) -> RowTurn
     requires { ⌜ span ≤ 8192 ⌝ }
     requires { ⌜ 8192 ≤ length (now row) ⌝ }
-    requires { ⌜ 13834 ≤ length (now out) ⌝ }
+    requires { ⌜ 7178 ≤ length (now out) ⌝ }
     ensures held { λ x. ⌜ x .held ≤ span ⌝ }
     ensures count { λ x. ⌜ x .count ≤ length (now (out .exit)) ⌝ }
     ensures made { λ x. ⌜ RowMade width r (take (x .held) (now (row .exit))) x (now (out .exit)) ⌝ }

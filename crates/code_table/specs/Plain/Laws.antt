@@ -80,6 +80,9 @@ maxItemBits-plainTable : maxItemBits plainTable ≡ 14
 unfolding maxItemBits longest codewords codeword digits plainTable plainEntries
 maxItemBits-plainTable = refl
 
+pub maxItemBits-plain : maxItemBits (wordsOf plainBytes) ≡ 14
+maxItemBits-plain = ap maxItemBits plain-words ∙ maxItemBits-plainTable
+
 pub plain-checked : checked plainBytes ≡ answerOf 0 14
 unfolding checked
-plain-checked = rw (plain-accepted, plain-words, maxItemBits-plainTable)
+plain-checked = rw (plain-accepted, maxItemBits-plain)

@@ -8,7 +8,7 @@ use Rattle.row_format.specs.Lists.{any}
 use Rattle.text.specs.Text.{ascii}
 use Rattle.text.specs.Same.{sameBytes}
 use Rattle.fits_format.specs.Card.{hasKeyword, hasValue, isTrue, isDigit, digitsValue, signedDigits, fixedInteger, integerOf}
-use Rattle.fits_format.specs.Header.{cardsOf, beforeEnd, cardInteger, axis1, axis2, axisLength, headerNumber, endCard, imageStart}
+use Rattle.fits_format.specs.Header.{cardsOf, beforeEnd, cardInteger, headerClauses, headerNumber, endCard, imageOf}
 
 -- a card by its text up to its last character that is no blank
 abbrev pub cardBytes : String → List ℕ
@@ -96,13 +96,15 @@ headerCases =
 pub headers-right : map (λ (c : HeaderCase). headerNumber (fileOf (c .cards))) headerCases
     ≡ map (λ (c : HeaderCase). c .number) headerCases
 unfolding fileOf sameBytes hasKeyword hasValue isTrue any isDigit digitsValue signedDigits fixedInteger integerOf
-    cardsOf beforeEnd cardInteger headerNumber
+    cardsOf beforeEnd cardInteger headerClauses headerNumber
 headers-right = refl
 
 -- what the accepted one says of its image, and one whose END is the last card of ten blocks
-pub header-image : (axisLength (axis1 (fileOf (after5 endOnly))) ≡ 3) × (axisLength (axis2 (fileOf (after5 endOnly))) ≡ 2)
-    × (imageStart (fileOf (after5 endOnly)) ≡ 2880)
-    × (imageStart (fileOf (after5 (replicate 354 "" ++ ("END" ∷ [])))) ≡ 28800)
+abbrev scan : List ℕ
+scan = fileOf (after5 endOnly)
+
+pub header-image : (imageOf scan .width ≡ 3) × (imageOf scan .rows ≡ 2) × (imageOf scan .start ≡ 2880)
+    × (imageOf (fileOf (after5 (replicate 354 "" ++ ("END" ∷ [])))) .start ≡ 28800)
 unfolding fileOf sameBytes hasKeyword hasValue any isDigit digitsValue signedDigits fixedInteger integerOf
     cardsOf beforeEnd cardInteger endCard
 header-image = (refl, refl, refl, refl)
@@ -110,5 +112,5 @@ header-image = (refl, refl, refl, refl)
 -- cut where END's card ends, and a byte before
 pub header-cut : (headerNumber (take 560 (fileOf (after5 endOnly))) ≡ 0) × (headerNumber (take 559 (fileOf (after5 endOnly))) ≡ 17)
 unfolding fileOf sameBytes hasKeyword hasValue isTrue any isDigit digitsValue signedDigits fixedInteger integerOf
-    cardsOf beforeEnd cardInteger headerNumber
+    cardsOf beforeEnd cardInteger headerClauses headerNumber
 header-cut = (refl, refl)

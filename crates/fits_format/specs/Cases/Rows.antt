@@ -48,6 +48,7 @@ rowCases =
     -- room a byte short; bytes after the row
     ∷ rowCase 3 0 row0 13 5
     ∷ rowCase 2 0 row0 100 0
+    ∷ rowCase 1 0 (0x00 ∷ 0x00 ∷ 0xFF ∷ 0xFF ∷ []) 100 0
     -- no width, too wide, a row that no image has; these before bytes that are missing
     ∷ rowCase 0 0 row0 100 17
     ∷ rowCase 0 4096 [] 0 17
@@ -64,8 +65,8 @@ rowCases =
     ∷ rowCase 1 1 (0x7F ∷ 0xFF ∷ []) 0 4
     ∷ []
 
-pub rows-right : map (λ (c : RowCase). imageRowNumber (c .width) (c .row) (c .bytes) (c .room)) rowCases
+pub row-cases-right : map (λ (c : RowCase). imageRowNumber (c .width) (c .row) (c .bytes) (c .room)) rowCases
     ≡ map (λ (c : RowCase). c .number) rowCases
 unfolding digits numOf flat cut any plainEntries plainTable plainBytes codeword codewordAt byDifference itemFor itemsFor bits rowBits
     packedBody recordBytes twosComplement numberAt bigEndian rowRecord beforePixels imageRowNumber
-rows-right = refl
+row-cases-right = refl

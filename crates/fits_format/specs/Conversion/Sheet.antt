@@ -28,9 +28,9 @@ use Rattle.sheet_format.specs.Writing.Laws.{writeNumber-writable, recordWritten
 use Rattle.sheet_format.specs.Sheet.{StoredRow, SheetRead, sheetRead, storedRows, heightsOf, absent, present}
 use Rattle.sheet_format.specs.Given.{Write, writtenBy, contextWritten, bytesWritten, Done, AllDone, sheetBytes, givenBy, sheetGiven}
 use Rattle.sheet_format.specs.Theorems.Sheets.{sheetRead-written}
-use Rattle.fits_format.specs.Header.{tableRecord}
-use Rattle.fits_format.specs.Image.{bigEndian, twosComplement, signedPixels, noHeight, rowHeights, imageContext, rowRecord, imageRowNumber}
-use Rattle.fits_format.specs.Image.Laws.{length-bigEndian, noHeight-any, heights-same, below-heights, pixels-same}
+use Rattle.fits_format.specs.Header.{plainTableRecord}
+use Rattle.fits_format.specs.Image.{bigEndian, twosComplement, signedPixels, outOfRange, rowHeights, imageContext, rowRecord, imageRowNumber}
+use Rattle.fits_format.specs.Image.Laws.{length-bigEndian, outOfRange-any, heights-same, below-heights, pixels-same}
 use Rattle.fits_format.specs.Image.Call.{packed-number}
 use Rattle.fits_format.specs.Conversion.{rowAt, rowRecordAt, inOrder, SheetOfImage}
 
@@ -39,7 +39,7 @@ use Rattle.fits_format.specs.Conversion.{rowAt, rowRecordAt, inOrder, Sh
 pub record RowRight (w r : ℕ) (s : List ℕ) : Type 0 where
   pub narrow : w ≤ 4096
   pub low : r ≤ 4095
-  pub heights : any noHeight (signedPixels w s) ≡ false
+  pub heights : any outOfRange (signedPixels w s) ≡ false
 
 abbrev pub rowWrite : ℕ → ℕ → List ℕ → Write
 rowWrite w r s = record { kind = 2; heading = record { row = r }; content = pixelBytes (rowHeights w s); memory = rowRecord w r s }
@@ -47,7 +47,7 @@ rowWrite w r s = record { kind = 2; heading = record { row = r }; content = pixe
 module _ (w r : ℕ) (s : List ℕ) (right : RowRight w r s) where
   -- its numbers are its heights
   low-numbers : any (ltb 4095) (bigEndian w s) ≡ false
-  low-numbers = sym (noHeight-any (bigEndian w s)) ∙ right .heights
+  low-numbers = sym (outOfRange-any (bigEndian w s)) ∙ right .heights
 
   same : rowHeights w s ≡ bigEndian w s
   same = heights-same (bigEndian w s) low-numbers
@@ -152,10 +152,10 @@ module _ (w : ℕ) (image : List ℕ) where
 
 -- ---- the sheet
 abbrev tableWrite : Write
-tableWrite = record { kind = 1; heading = noHeading; content = plainBytes; memory = tableRecord }
+tableWrite = record { kind = 1; heading = noHeading; content = plainBytes; memory = plainTableRecord }
 
-table-number : writeNumber 1 noHeading newSheet plainBytes (length tableRecord) ≡ 0
-unfolding tableRecord
+table-number : writeNumber 1 noHeading newSheet plainBytes (length plainTableRecord) ≡ 0
+unfolding plainTableRecord
 table-number =
     let size = length (recordFor 1 noHeading newSheet plainBytes) in
     let can : RecordWritable 1 noHeading newSheet plainBytes =
@@ -165,12 +165,12 @@ table-number =
 table-done : Done newSheet tableWrite
 table-done = record {
   bytes = unfold plainBytes in (below-cut 8 2072 (flat 32 plainTable) (below-flat 32 plainTable));
-  done = recordWritten-number 1 noHeading newSheet plainBytes tableRecord ∙ table-number;
+  done = recordWritten-number 1 noHeading newSheet plainBytes plainTableRecord ∙ table-number;
 }
 
-table-bytes : bytesWritten newSheet tableWrite ≡ tableRecord
-unfolding tableRecord
-table-bytes = recordWritten-front 1 noHeading newSheet plainBytes tableRecord table-number
+table-bytes : bytesWritten newSheet tableWrite ≡ plainTableRecord
+unfolding plainTableRecord
+table-bytes = recordWritten-front 1 noHeading newSheet plainBytes plainTableRecord table-number
 
 module _ (w : ℕ) (image : List ℕ) (k : ℕ)
     (right : (i : ℕ) → i < k → RowRight w i (rowAt w image i)) where
@@ -178,7 +178,7 @@ module _ (w : ℕ) (image : List ℕ) (k : ℕ)
   all-right i h = rw (zero-add i) (right i h)
 
   abbrev sheet : List ℕ
-  sheet = tableRecord ++ inOrder (rowRecordAt w image) 0 k
+  sheet = plainTableRecord ++ inOrder (rowRecordAt w image) 0 k
 
   sheet-is : sheetRead sheet ≡ record { records = sheetGiven newSheet (tableWrite ∷ rowWrites w image 0 k); number = 0 }
   sheet-is =

@@ -17,7 +17,7 @@ use Rattle.row_format.specs.Plain.{plainBytes}
 use Rattle.code_table.specs.Plain.Laws.{length-plainBytes}
 use Rattle.sheet_format.specs.Writing.Laws.{length-recordBytes}
 use Rattle.fits_format.specs.Card.{hasKeyword}
-use Rattle.fits_format.specs.Header.{cardsOf, headerCards, beforeEnd, stands, endCard, tableRecord}
+use Rattle.fits_format.specs.Header.{cardsOf, headerCards, beforeEnd, stands, endCard, plainTableRecord}
 
 -- ---- the cards by their places
 pub length-cardsOf : (n : ℕ) (s : List ℕ) → length (cardsOf n s) ≡ min n (length s / 80)
@@ -178,6 +178,6 @@ unfolding endCard
 endCard-most s = omega (arith, beforeEnd-most (headerCards s), length-cardsOf 360 s)
 
 -- ---- the table's record
-pub length-tableRecord : length tableRecord ≡ 2078
-unfolding tableRecord
-length-tableRecord = length-recordBytes 1 plainBytes ∙ ap (6 +_) length-plainBytes
+pub length-plainTableRecord : length plainTableRecord ≡ 2078
+unfolding plainTableRecord
+length-plainTableRecord = length-recordBytes 1 plainBytes ∙ ap (6 +_) length-plainBytes

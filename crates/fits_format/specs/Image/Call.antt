@@ -12,7 +12,7 @@ use borrow.Author.Tests.{le-ltb, eqb-false, ne-eqb, eq-eqb}
 use Rattle.bitstream.specs.Bits.{halvesOf, Below}
 use Rattle.answer.specs.Outcome.{Outcome, outcome, wrote, refused, answerOf, refuseIf, _orElse_, unless, lent, roomNumber}
 use Rattle.answer.specs.declared.Answer.{Answer}
-use Rattle.answer.specs.Outcome.Laws.{orElse-zero-left, orElse-zero-right, orElse-same, lessNumber-zero, lessNumber-none, lessNumber-given, refuseIf-zero, unless-part, unless-first, unless-number}
+use Rattle.answer.specs.Outcome.Laws.{orElse-zero-left, orElse-zero-right, orElse-same, lessNumber-zero, lessNumber-none, lessNumber-given, refuseIf-zero, unless-part, unless-first, unless-number, refuseIf-in, orElse-in}
 use Rattle.row_format.specs.Lists.{any}
 use Rattle.row_format.specs.Row.{pixelBytes, tooMany, tooHigh}
 use Rattle.row_format.specs.Theorems.Words.{halvesOf-bytesOf}
@@ -24,8 +24,8 @@ use Rattle.sheet_format.specs.Kind.Row.{rowPlace}
 use Rattle.sheet_format.specs.Kind.PackedRow.{packedGivenNumber}
 use Rattle.sheet_format.specs.Kinds.{kindOf}
 use Rattle.sheet_format.specs.Writing.{recordFor, recordWritten, writeNumber}
-use Rattle.fits_format.specs.Image.{twosComplement, bigEndian, signedPixels, noHeight, rowHeights, imageContext, rowRecord, beforePixels, imageRowNumber, imageRow}
-use Rattle.fits_format.specs.Image.Laws.{length-bigEndian, below-bigEndian, noHeight-any, heights-same}
+use Rattle.fits_format.specs.Image.{twosComplement, bigEndian, signedPixels, outOfRange, rowHeights, imageContext, rowRecord, beforePixels, imageRowNumber, imageRow}
+use Rattle.fits_format.specs.Image.Laws.{length-bigEndian, below-bigEndian, outOfRange-any, heights-same}
 
 -- ---- before a pixel is looked at
 pub record RowStands (w r n : ℕ) : Type 0 where
@@ -55,6 +55,15 @@ module _ (w r n : ℕ) where
       let some : eqb w 0 ≡ false = ne-eqb w 0 (λ e. absurd (omega (arith, e, h .some))) in
       rw (some, lessNumber-none 4096 w 11 (h .narrow), lessNumber-none 4095 r 11 (h .low))
       (lessNumber-none n (2 * w) 18 (h .there))
+
+  -- it is one of these
+  pub beforePixels-in : (P : ℕ → Type 0) → P 0 → P 17 → P 11 → P 18 → P (beforePixels w r n)
+  unfolding beforePixels
+  beforePixels-in P p0 p17 p11 p18 =
+      orElse-in P (refuseIf (eqb w 0) 17) _ (refuseIf-in P (eqb w 0) 17 p0 p17)
+      (orElse-in P (refuseIf (ltb 4096 w) 11) _ (refuseIf-in P (ltb 4096 w) 11 p0 p11)
+      (orElse-in P (refuseIf (ltb 4095 r) 11) _ (refuseIf-in P (ltb 4095 r) 11 p0 p11)
+      (refuseIf-in P (ltb n (2 * w)) 18 p0 p18)))
 
   -- the ways out, in order
   pub beforePixels-none : w ≡ 0 → beforePixels w r n ≡ 17
@@ -111,11 +120,11 @@ module _ (w r : ℕ) (s m : List ℕ) (bytes : Below 256 s) (stands : RowStands 
   vs = bigEndian w s
 
   -- a row whose pixels are heights has its record
-  own-record : refuseIf (any noHeight (signedPixels w s)) 4 ≡ 0
+  own-record : refuseIf (any outOfRange (signedPixels w s)) 4 ≡ 0
       → recordFor 2 (record { row = r }) (imageContext r) (pixelBytes vs) ≡ rowRecord w r s
   unfolding rowRecord
   own-record e =
-      let none : any (ltb 4095) vs ≡ false = sym (noHeight-any vs) ∙ refuseIf-zero (any noHeight (signedPixels w s)) 3 e in
+      let none : any (ltb 4095) vs ≡ false = sym (outOfRange-any vs) ∙ refuseIf-zero (any outOfRange (signedPixels w s)) 3 e in
       ap (λ (ps : List ℕ). recordFor 2 (record { row = r }) (imageContext r) (pixelBytes ps)) (sym (heights-same vs none))
 
   numbers-same : writeNumber 2 (record { row = r }) (imageContext r) (pixelBytes vs) (length m)
@@ -124,14 +133,14 @@ module _ (w r : ℕ) (s m : List ℕ) (bytes : Below 256 s) (stands : RowStands 
   numbers-same =
       let few : length vs ≤ 4096 = omega (arith, length-bigEndian w s, stands .narrow) in
       packed-number r vs (stands .low) few (below-bigEndian w s bytes) (length m)
-      ∙ rw (← noHeight-any vs, beforePixels-stands w r (length s) stands)
-      (orElse-same (refuseIf (any noHeight (signedPixels w s)) 4) _ _
+      ∙ rw (← outOfRange-any vs, beforePixels-stands w r (length s) stands)
+      (orElse-same (refuseIf (any outOfRange (signedPixels w s)) 4) _ _
       (λ e. ap (λ (b : List ℕ). roomNumber (lent (length m)) (length b)) (own-record e)))
 
-  right : imageRowNumber w r s (length m) ≡ 0 → refuseIf (any noHeight (signedPixels w s)) 4 ≡ 0
+  right : imageRowNumber w r s (length m) ≡ 0 → refuseIf (any outOfRange (signedPixels w s)) 4 ≡ 0
   unfolding imageRowNumber
   right e =
-      orElse-zero-left (refuseIf (any noHeight (signedPixels w s)) 4) _
+      orElse-zero-left (refuseIf (any outOfRange (signedPixels w s)) 4) _
       (orElse-zero-right (beforePixels w r (length s)) _ e)
 
   pub imageRow-written : rowAnswer (recordWritten 2 (record { row = r }) (imageContext r) (pixelBytes (bigEndian w s)) m)
@@ -165,11 +174,11 @@ module _ (w r : ℕ) (s m : List ℕ) where
   imageRow-counted e = rw e (take-append-seam (rowRecord w r s) (drop (length (rowRecord w r s)) m))
 
   -- and its pixels are heights
-  pub imageRow-heights : imageRowNumber w r s (length m) ≡ 0 → any noHeight (signedPixels w s) ≡ false
+  pub imageRow-heights : imageRowNumber w r s (length m) ≡ 0 → any outOfRange (signedPixels w s) ≡ false
   unfolding imageRowNumber
   imageRow-heights e =
-      refuseIf-zero (any noHeight (signedPixels w s)) 3
-      (orElse-zero-left (refuseIf (any noHeight (signedPixels w s)) 4) _ (orElse-zero-right (beforePixels w r (length s)) _ e))
+      refuseIf-zero (any outOfRange (signedPixels w s)) 3
+      (orElse-zero-left (refuseIf (any outOfRange (signedPixels w s)) 4) _ (orElse-zero-right (beforePixels w r (length s)) _ e))
 
   pub imageRow-stands : imageRowNumber w r s (length m) ≡ 0 → RowStands w r (length s)
   unfolding imageRowNumber
@@ -181,4 +190,4 @@ module _ (w r : ℕ) (s m : List ℕ) where
   imageRow-room e =
       let e1 = orElse-zero-right (beforePixels w r (length s)) _ e in
       lessNumber-zero (length m) (length (rowRecord w r s)) 4
-      (orElse-zero-right (refuseIf (any noHeight (signedPixels w s)) 4) _ e1)
+      (orElse-zero-right (refuseIf (any outOfRange (signedPixels w s)) 4) _ e1)

@@ -14,7 +14,7 @@ use Rattle.bitstream.specs.Bits.{Below}
 use Rattle.bitstream.specs.Bits.Laws.{below-nil, below-cons, below-drop}
 use Rattle.row_format.specs.Lists.{any}
 use Rattle.row_format.specs.Lists.Laws.{by-test, any-false-head, any-false-tail}
-use Rattle.fits_format.specs.Image.{twosComplement, numberAt, bigEndian, noHeight, heightOf}
+use Rattle.fits_format.specs.Image.{twosComplement, numberAt, bigEndian, outOfRange, heightOf}
 
 -- ---- the numbers
 pub length-bigEndian : (n : ℕ) (s : List ℕ) → length (bigEndian n s) ≡ n
@@ -54,17 +54,17 @@ bigEndian-take (suc n) (x ∷ []) = rw (twice n)
 bigEndian-take (suc n) (x ∷ y ∷ s) = rw (twice n, bigEndian-take n s)
 
 -- ---- heights: a number of 16 bits stands for a pixel outside 0 to 4095 exactly when it is above 4095
-noHeight-twosComplement : (v : ℕ) → noHeight (twosComplement v) ≡ ltb 4095 v
+outOfRange-twosComplement : (v : ℕ) → outOfRange (twosComplement v) ≡ ltb 4095 v
 unfolding twosComplement
-noHeight-twosComplement v =
+outOfRange-twosComplement v =
     by-test (ltb v 32768)
     (λ e. rw e)
     (λ e. rw e (sym (lt-ltb 4095 v (omega (arith, ltb-false v 32768 e)))))
 
-pub noHeight-any : (vs : List ℕ) → any noHeight (map twosComplement vs) ≡ any (ltb 4095) vs
+pub outOfRange-any : (vs : List ℕ) → any outOfRange (map twosComplement vs) ≡ any (ltb 4095) vs
 unfolding any
-noHeight-any [] = refl
-noHeight-any (v ∷ vs) = rw (noHeight-twosComplement v, noHeight-any vs)
+outOfRange-any [] = refl
+outOfRange-any (v ∷ vs) = rw (outOfRange-twosComplement v, outOfRange-any vs)
 
 heightOf-twosComplement : (v : ℕ) → ltb 4095 v ≡ false → heightOf (twosComplement v) ≡ v
 unfolding twosComplement

@@ -1,6 +1,7 @@
 -- The row call: its numbers, what a refusal keeps, what a done call writes, and that its heights are its pixels. Assumes
 -- nothing.
-use Prim.Native.Nat.{ℕ, zero, suc, _*_}
+use Prim.Native.Nat.{ℕ, zero, suc, _≤_}
+use native.Mathlib.Omega.{arith}
 use mathlib.Core.Path.{_≡_, refl, sym, ap, _∙_}
 use mathlib.Core.Bool.{true, false}
 use mathlib.Core.List.{List, [], _∷_, map}
@@ -9,22 +10,19 @@ use lib.Dec.{ltb, eqb}
 use lib.IntN.{pos}
 use Rattle.answer.specs.declared.Answer.{Answer}
 use Rattle.answer.specs.Outcome.{Outcome, answerOf, refusal, refused, wrote, refuseIf, lent, roomNumber, Kept, Within}
-use Rattle.answer.specs.Outcome.Laws.{refuseIf-in, orElse-in, roomNumber-in, unless-in, unless-kept, writes-within}
+use Rattle.answer.specs.Outcome.Laws.{lessNumber-none, orElse-none, refuseIf-in, orElse-in, roomNumber-in, unless-in, unless-kept, writes-within}
 use Rattle.row_format.specs.Lists.{any}
-use Rattle.fits_format.specs.Image.{bigEndian, signedPixels, noHeight, rowHeights, rowRecord, beforePixels, imageRowNumber, imageRowNumbers, imageRow}
-use Rattle.fits_format.specs.Image.Laws.{noHeight-any, heights-same, pixels-same}
-use Rattle.fits_format.specs.Image.Call.{imageRow-number, imageRow-heights, imageRow-room}
+use Rattle.fits_format.specs.Image.{bigEndian, signedPixels, outOfRange, rowHeights, rowRecord, beforePixels, imageRowNumber, imageRowNumbers, imageRow}
+use Rattle.fits_format.specs.Image.Laws.{outOfRange-any, heights-same, pixels-same}
+use Rattle.fits_format.specs.Image.Room.{length-rowRecord}
+use Rattle.fits_format.specs.Image.Call.{beforePixels-zero, beforePixels-in, imageRow-number, imageRow-heights, imageRow-room}
 
 module _ (P : ℕ → Type 0) (p0 : P 0) (p17 : P 17) (p11 : P 11) (p18 : P 18) (p4 : P 4) (p5 : P 5) where
   imageRowNumber-in : (w r : ℕ) (s : List ℕ) (room : ℕ) → P (imageRowNumber w r s room)
-  unfolding imageRowNumber beforePixels
+  unfolding imageRowNumber
   imageRowNumber-in w r s room =
-      orElse-in P (beforePixels w r (length s)) _
-      (orElse-in P (refuseIf (eqb w 0) 17) _ (refuseIf-in P (eqb w 0) 17 p0 p17)
-      (orElse-in P (refuseIf (ltb 4096 w) 11) _ (refuseIf-in P (ltb 4096 w) 11 p0 p11)
-      (orElse-in P (refuseIf (ltb 4095 r) 11) _ (refuseIf-in P (ltb 4095 r) 11 p0 p11)
-      (refuseIf-in P (ltb (length s) (2 * w)) 18 p0 p18))))
-      (orElse-in P (refuseIf (any noHeight (signedPixels w s)) 4) _ (refuseIf-in P (any noHeight (signedPixels w s)) 4 p0 p4)
+      orElse-in P (beforePixels w r (length s)) _ (beforePixels-in w r (length s) P p0 p17 p11 p18)
+      (orElse-in P (refuseIf (any outOfRange (signedPixels w s)) 4) _ (refuseIf-in P (any outOfRange (signedPixels w s)) 4 p0 p4)
       (roomNumber-in P (lent room) (length (rowRecord w r s)) p0 p5))
 
 module _ (w r : ℕ) (s m : List ℕ) where
@@ -49,13 +47,41 @@ module _ (w r : ℕ) (s m : List ℕ) where
       (λ k e. record { size = refl; rest = refl })
       (λ e. writes-within (answerOf 0 (length b)) (length b) b m refl (imageRow-room w r s m e))
 
+  -- ---- room
+  number-past : beforePixels w r (length s) ≡ 0 → length (rowRecord w r s) ≤ length m
+      → imageRowNumber w r s (length m) ≡ refuseIf (any outOfRange (signedPixels w s)) 4
+  unfolding imageRowNumber
+  number-past e room =
+      rw (e, lessNumber-none (length m) (length (rowRecord w r s)) 5 room)
+      (orElse-none (refuseIf (any outOfRange (signedPixels w s)) 4))
+
+  number-before : (k : ℕ) → beforePixels w r (length s) ≡ suc k → imageRowNumber w r s (length m) ≡ suc k
+  unfolding imageRowNumber
+  number-before k e = rw e
+
+  pub imageRow-room-enough : 7178 ≤ length m → imageRow w r s m .answer .number ≡ 5 → ⊥
+  imageRow-room-enough enough full = by-before (beforePixels w r (length s)) refl
+    where
+      number : imageRowNumber w r s (length m) ≡ 5
+      number = sym (imageRow-number w r s m) ∙ full
+
+      by-before : (b : ℕ) → beforePixels w r (length s) ≡ b → ⊥
+      by-before zero e =
+          let most = length-rowRecord w r s (beforePixels-zero w r (length s) e .narrow) in
+          refuseIf-in (λ k. k ≡ 5 → ⊥) (any outOfRange (signedPixels w s)) 4 (λ z. omega (arith, z)) (λ z. omega (arith, z))
+          (sym (number-past e (omega (arith, most, enough))) ∙ number)
+      by-before (suc k) e =
+          let five : beforePixels w r (length s) ≡ 5 = e ∙ sym (number-before k e) ∙ number in
+          beforePixels-in w r (length s) (λ b. b ≡ 5 → ⊥)
+          (λ z. omega (arith, z)) (λ z. omega (arith, z)) (λ z. omega (arith, z)) (λ z. omega (arith, z)) five
+
   -- ---- pixels
-  pub imageRow-pixel : beforePixels w r (length s) ≡ 0 → any noHeight (signedPixels w s) ≡ true → imageRow w r s m ≡ refused 4 m
+  pub imageRow-pixel : beforePixels w r (length s) ≡ 0 → any outOfRange (signedPixels w s) ≡ true → imageRow w r s m ≡ refused 4 m
   unfolding imageRow imageRowNumber
   imageRow-pixel before out = rw (before, out)
 
   pub imageRow-same : imageRow w r s m .answer .number ≡ 0 → map pos (rowHeights w s) ≡ signedPixels w s
   imageRow-same e =
       let heights = imageRow-heights w r s m (sym (imageRow-number w r s m) ∙ e) in
-      let low : any (ltb 4095) (bigEndian w s) ≡ false = sym (noHeight-any (bigEndian w s)) ∙ heights in
+      let low : any (ltb 4095) (bigEndian w s) ≡ false = sym (outOfRange-any (bigEndian w s)) ∙ heights in
       ap (map pos) (heights-same (bigEndian w s) low) ∙ pixels-same (bigEndian w s) low

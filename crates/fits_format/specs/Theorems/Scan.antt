@@ -6,7 +6,7 @@ use lib.ListN.{length, take, drop}
 use lib.Seq.{take-append-seam}
 use Rattle.answer.specs.Outcome.{_orElse_, lent, roomNumber}
 use Rattle.answer.specs.Outcome.Laws.{unless-refused}
-use Rattle.fits_format.specs.Header.{headerNumber, tableRecord, headerRead}
+use Rattle.fits_format.specs.Header.{headerNumber, plainTableRecord, headerRead}
 use Rattle.fits_format.specs.Image.{imageRowNumber}
 use Rattle.fits_format.specs.Image.Call.{imageRow-stands, imageRow-heights}
 use Rattle.fits_format.specs.Conversion.{RowsWritten, rowCalls, Conversion, headerRefused, afterHeader, conversion, rowAt, rowNumberAt, rowRecordAt, inOrder, FirstFault, SheetOfImage}
@@ -27,14 +27,14 @@ module _ (m : List ℕ) (lends : ℕ → List ℕ) (s : List ℕ) where
     rowsWritten = rowCalls lends (headerRead s m .answer .width) (headerRead s m .answer .rows) 0 image
 
     -- the header's call wrote the table's record
-    header-none : headerNumber s orElse roomNumber (lent (length m)) (length tableRecord) ≡ 0
+    header-none : headerNumber s orElse roomNumber (lent (length m)) (length plainTableRecord) ≡ 0
     header-none = sym (headerRead-number s m) ∙ ok
 
-    table-counted : take (headerRead s m .answer .count) (headerRead s m .memory) ≡ tableRecord
+    table-counted : take (headerRead s m .answer .count) (headerRead s m .memory) ≡ plainTableRecord
     unfolding headerRead
-    table-counted = rw header-none (take-append-seam tableRecord (drop (length tableRecord) m))
+    table-counted = rw header-none (take-append-seam plainTableRecord (drop (length plainTableRecord) m))
 
-    scan-is : conversion m lends s ≡ afterHeader tableRecord rowsWritten
+    scan-is : conversion m lends s ≡ afterHeader plainTableRecord rowsWritten
     unfolding conversion
     scan-is = rw (ok, table-counted)
 
@@ -43,10 +43,10 @@ module _ (m : List ℕ) (lends : ℕ → List ℕ) (s : List ℕ) where
     scan-fault = rw scan-is (refl, rowCalls-fault lends (headerRead s m .answer .width) image (headerRead s m .answer .rows))
 
     pub scan-bytes : let c = conversion m lends s in
-        c .bytes ≡ tableRecord ++ inOrder (rowRecordAt (headerRead s m .answer .width) image) 0 (c .rows)
+        c .bytes ≡ plainTableRecord ++ inOrder (rowRecordAt (headerRead s m .answer .width) image) 0 (c .rows)
     scan-bytes =
         rw scan-is
-        (ap (λ (b : List ℕ). tableRecord ++ b) (rowCalls-bytes lends (headerRead s m .answer .width) image (headerRead s m .answer .rows)))
+        (ap (λ (b : List ℕ). plainTableRecord ++ b) (rowCalls-bytes lends (headerRead s m .answer .width) image (headerRead s m .answer .rows)))
 
     -- the rows before the fault are right
     rows-right : (i : ℕ) → i < conversion m lends s .rows

@@ -14,9 +14,9 @@ use Rattle.text.specs.Text.{ascii}
 use Rattle.text.specs.Same.{sameBytes}
 use Rattle.text.specs.Same.Laws.{same-is}
 use Rattle.fits_format.specs.Card.{hasKeyword, hasValue, isTrue, integerOf}
-use Rattle.fits_format.specs.Header.{cardsOf, headerCards, beforeEnd, cardInteger, stands, headerNumber, endCard, imageStart, headerSpan, headerRead}
+use Rattle.fits_format.specs.Header.{cardsOf, headerCards, beforeEnd, cardInteger, stands, headerClauses, headerNumber, endCard, imageStart, headerSpan, headerRead}
 use Rattle.fits_format.specs.Header.Laws.{length-cardsOf, take-cardsOf, drop-cardsOf, cardsOf-less, stands-less, end-is, stands-take, beforeEnd-take, beforeEnd-within, beforeEnd-past}
-use Rattle.fits_format.specs.Header.Clauses.{headerClauses, headerNumber-17}
+use Rattle.fits_format.specs.Header.Clauses.{headerNumber-17}
 
 -- ---- an END among the first five cards
 -- a card has one keyword
@@ -70,7 +70,7 @@ module _ (s t : List ℕ) (k : ℕ) (there : stands "END     " (take k (headerCa
       ∙ getD-take k (headerCards s) i [] h
 
   front-same : (m : List ℕ) → headerRead t m ≡ headerRead s m
-  unfolding headerRead headerNumber cardInteger endCard
+  unfolding headerRead headerNumber headerClauses cardInteger endCard
   front-same m =
       let within = beforeEnd-within k (headerCards s) there in
       by-test (ltb (endCard s) 5)
@@ -136,7 +136,7 @@ ten-blocks n s h =
     sym (all (take n s)) ∙ ap headerCards (take-take 28800 n s h) ∙ all s
 
 pub prefix-ten : (n : ℕ) (s m : List ℕ) → 28800 ≤ n → headerRead (take n s) m ≡ headerRead s m
-unfolding headerRead headerNumber cardInteger endCard
+unfolding headerRead headerNumber headerClauses cardInteger endCard
 prefix-ten n s m h = rw (ten-blocks n s h)
 
 -- an answer other than 17 is the answer to the file, since END was there
@@ -147,7 +147,7 @@ prefix-final n s m other =
     (λ e. absurd (other (no-end (take n s) m e)))
 
 -- ---- the span
-headerSpan-end : (s : List ℕ) → stands "END     " (headerCards s) ≡ true → headerSpan s ≡ imageStart s
+pub headerSpan-end : (s : List ℕ) → stands "END     " (headerCards s) ≡ true → headerSpan s ≡ imageStart s
 unfolding headerSpan
 headerSpan-end s e = rw e
 

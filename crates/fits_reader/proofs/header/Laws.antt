@@ -16,9 +16,9 @@ use Rattle.text.specs.Text.{ascii}
 use Rattle.text.specs.Same.{sameBytes}
 use Rattle.fits_format.specs.declared.ImageHeader.{ImageHeader}
 use Rattle.fits_format.specs.Card.{FieldValue, noInteger, isInteger, hasKeyword, hasValue, isTrue, integerOf}
-use Rattle.fits_format.specs.Header.{headerCards, beforeEnd, cardInteger, axis1, axis2, lacking, isNumber, belowOne, aboveMost, axisLength, stands, headerNumber, endCard, noImage, imageOf}
-use Rattle.fits_format.specs.Header.Laws.{beforeEnd-front, beforeEnd-most, stands-less, less-stands, length-tableRecord}
-use Rattle.fits_format.specs.Header.Clauses.{headerClauses, longNumber, headerNumber-17, headerNumber-parts, accepted-long}
+use Rattle.fits_format.specs.Header.{headerCards, beforeEnd, cardInteger, axis1, axis2, lacking, isNumber, belowOne, aboveMost, axisLength, stands, headerNumber, endCard, noImage, imageOf, headerClauses}
+use Rattle.fits_format.specs.Header.Laws.{beforeEnd-front, beforeEnd-most, stands-less, less-stands, length-plainTableRecord}
+use Rattle.fits_format.specs.Header.Clauses.{longNumber, headerNumber-17, headerNumber-parts, accepted-long}
 use Rattle.fits_reader.specs.Clipped.{clipped}
 use Rattle.fits_reader.specs.Judged.{isImage, unfitNumber, CardsRead}
 
@@ -186,7 +186,7 @@ module _ (s : List ℕ) (w r e : ℕ) (cards : CardsRead s w r e) where
         cards .width ∙ clipped-length (axis1 s) first,
         cards .rows ∙ clipped-length (axis2 s) second,
         cards .end,
-        length-tableRecord,
+        length-plainTableRecord,
       )
 
 pub judged-refused : (s : List ℕ) (n : ℕ) (h : ImageHeader) → n ≡ headerNumber s → (n ≡ 0 → ⊥) → h ≡ noImage n

@@ -14,7 +14,7 @@ use Rattle.sheet_format.specs.Kind.Table.{tablePlace}
 use Rattle.sheet_format.specs.Writing.{recordFor, writeNumber, RecordWritable, notWritten, recordDone, recordWritten}
 use Rattle.sheet_format.specs.Writing.Laws.{writeNumber-writable}
 use Rattle.fits_format.specs.declared.ImageHeader.{ImageHeader}
-use Rattle.fits_format.specs.Header.{headerNumber, tableRecord, noImage, imageOf, headerRead}
+use Rattle.fits_format.specs.Header.{headerNumber, plainTableRecord, noImage, imageOf, headerRead}
 use Rattle.fits_reader.specs.Judged.{tableWritten}
 
 -- ---- the table's record
@@ -24,7 +24,7 @@ table-writable = record { writable = refl; place = refl; given = plain-accepted 
 
 pub table-written : (x m m′ : List ℕ) (r : RecordWritten) → x ≡ plainBytes
     → outcome r m′ ≡ recordWritten 1 noHeading newSheet x m → outcome (r .number) m′ ≡ tableWritten m
-unfolding tableWritten recordWritten tableRecord
+unfolding tableWritten recordWritten plainTableRecord
 table-written x m m′ r plain e =
     let short : Outcome RecordWritten → Outcome ℕ = λ o. outcome (o .answer .number) (o .memory) in
     let e′ : outcome r m′ ≡ recordWritten 1 noHeading newSheet plainBytes m = rw plain at e in
@@ -64,11 +64,11 @@ done-by (suc d) n i b m m′ table none = absurd (omega (arith, ap (λ (o : Outc
 
 module _ (s m : List ℕ) (h : ImageHeader) (judged : h ≡ unless (headerNumber s) noImage (imageOf s)) where
   room : ℕ
-  room = roomNumber (lent (length m)) (length tableRecord)
+  room = roomNumber (lent (length m)) (length plainTableRecord)
 
   pub header-refused : (h .number ≡ 0 → ⊥) → outcome h m ≡ headerRead s m
   unfolding headerRead room
-  header-refused some = refused-by (headerNumber s) room (imageOf s) h tableRecord m judged refl some
+  header-refused some = refused-by (headerNumber s) room (imageOf s) h plainTableRecord m judged refl some
 
   module _ (n : ℕ) (m′ : List ℕ) (none : h .number ≡ 0) (table : outcome n m′ ≡ tableWritten m) where
     accepted : headerNumber s ≡ 0
@@ -76,10 +76,10 @@ module _ (s m : List ℕ) (h : ImageHeader) (judged : h ≡ unless (headerNumber
 
     pub header-full : (r : ImageHeader) → (n ≡ 0 → ⊥) → r ≡ noImage n → outcome r m′ ≡ headerRead s m
     unfolding headerRead tableWritten room
-    header-full r some is = rw accepted (full-by room n (imageOf s) r tableRecord m m′ table some is)
+    header-full r some is = rw accepted (full-by room n (imageOf s) r plainTableRecord m m′ table some is)
 
     pub header-done : n ≡ 0 → outcome h m′ ≡ headerRead s m
     unfolding headerRead tableWritten room
     header-done zeros =
         let image : h ≡ imageOf s = rw accepted at judged in
-        rw (accepted, image) (done-by room n (imageOf s) tableRecord m m′ table zeros)
+        rw (accepted, image) (done-by room n (imageOf s) plainTableRecord m m′ table zeros)

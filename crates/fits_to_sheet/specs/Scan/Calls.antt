@@ -13,21 +13,21 @@ use Rattle.answer.specs.Outcome.{Outcome, outcome, writes, refused, wrote}
 use Rattle.answer.specs.Outcome.Laws.{unless-in}
 use Rattle.row_format.specs.Lists.Laws.{by-test}
 use Rattle.fits_format.specs.declared.ImageHeader.{ImageHeader}
-use Rattle.fits_format.specs.Header.{headerNumber, tableRecord, noImage, imageOf, headerRead}
+use Rattle.fits_format.specs.Header.{headerNumber, plainTableRecord, noImage, imageOf, headerRead}
 use Rattle.fits_format.specs.Image.{rowRecord, imageRowNumber, imageRow}
 use Rattle.fits_format.specs.Image.Call.{imageRow-number, imageRow-counted}
 use Rattle.fits_to_sheet.specs.declared.rows.RowTurn.{RowTurn}
 use Rattle.fits_to_sheet.specs.Scan.{HeaderHeld, rowSpan, ImageStands, FirstRecord, RowsBefore, NextRecord, RowMade, Ended}
-use Rattle.fits_to_sheet.specs.Scan.Room.{imageRowNumber-room}
+use Rattle.fits_format.specs.Image.Room.{imageRowNumber-room}
 use Rattle.fits_to_sheet.specs.Scan.Laws.{header-refused, header-accepted, ended-header, width-most, span-cut, span-whole, span-most, first-record, taken-none, ended-rows, taken-more, next-record}
 
 -- ---- the header's
-module _ (header m : List ℕ) {x : ImageHeader} {m′ : List ℕ} (room : 13834 ≤ length m)
+module _ (header m : List ℕ) {x : ImageHeader} {m′ : List ℕ} (room : 7178 ≤ length m)
     (read : outcome x m′ ≡ headerRead header m) where
   as-refused : (headerNumber header ≡ 0 → ⊥) → outcome x m′ ≡ outcome (noImage (headerNumber header)) m
   as-refused some = read ∙ header-refused header m some
 
-  as-accepted : headerNumber header ≡ 0 → outcome x m′ ≡ writes (imageOf header) tableRecord m
+  as-accepted : headerNumber header ≡ 0 → outcome x m′ ≡ writes (imageOf header) plainTableRecord m
   as-accepted ok = read ∙ header-accepted header m ok (omega (arith, room))
 
   number-is : x .number ≡ headerNumber header
@@ -48,7 +48,7 @@ module _ (header m : List ℕ) {x : ImageHeader} {m′ : List ℕ} (room : 13834
     says : x ≡ imageOf header
     says = ap (λ (o : Outcome ImageHeader). o .answer) (as-accepted ok)
 
-    memory : m′ ≡ tableRecord ++ drop (length tableRecord) m
+    memory : m′ ≡ plainTableRecord ++ drop (length plainTableRecord) m
     memory = ap (λ (o : Outcome ImageHeader). o .memory) (as-accepted ok)
 
     pub answered-stands : ImageStands header x
@@ -56,13 +56,13 @@ module _ (header m : List ℕ) {x : ImageHeader} {m′ : List ℕ} (room : 13834
 
     pub answered-first : FirstRecord header (take (x .count) m′)
     answered-first =
-        rw (says, memory, take-append-seam tableRecord (drop (length tableRecord) m)) (first-record header held ok)
+        rw (says, memory, take-append-seam plainTableRecord (drop (length plainTableRecord) m)) (first-record header held ok)
 
     pub answered-within : x .count ≤ length m′
-    answered-within = rw (says, memory, length-append tableRecord (drop (length tableRecord) m)) (omega arith)
+    answered-within = rw (says, memory, length-append plainTableRecord (drop (length plainTableRecord) m)) (omega arith)
 
 -- ---- a row's
-module _ (w r : ℕ) (held m : List ℕ) {a : Answer} {m′ : List ℕ} (room : 13834 ≤ length m)
+module _ (w r : ℕ) (held m : List ℕ) {a : Answer} {m′ : List ℕ} (room : 7178 ≤ length m)
     (read : outcome a m′ ≡ imageRow w r held m) where
   row-number : a .number ≡ imageRowNumber w r held (length m)
   row-number = ap (λ (o : Outcome Answer). o .answer .number) read ∙ imageRow-number w r held m
@@ -118,7 +118,7 @@ module _ {header : List ℕ} {x : ImageHeader} (stands : ImageStands header x) w
       less-here : r < imageOf header .rows
       less-here = rw rows-is at less
 
-      number-here : turn .number ≡ imageRowNumber (imageOf header .width) r held 13834
+      number-here : turn .number ≡ imageRowNumber (imageOf header .width) r held 7178
       number-here = rw width-is at (made .number)
 
       pub row-ended : (turn .number ≡ 0 → ⊥) → Ended header held 0 (turn .number) r
@@ -127,7 +127,7 @@ module _ {header : List ℕ} {x : ImageHeader} (stands : ImageStands header x) w
           (λ h. number-here) (λ h. some) (λ e. absurd (omega (arith, e, less-here)))
 
       module _ (none : turn .number ≡ 0) where
-        right : imageRowNumber (imageOf header .width) r held 13834 ≡ 0
+        right : imageRowNumber (imageOf header .width) r held 7178 ≡ 0
         right = sym number-here ∙ none
 
         pub before-more : RowsBefore header (r + 1)

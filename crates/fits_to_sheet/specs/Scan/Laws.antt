@@ -14,17 +14,17 @@ use Rattle.answer.specs.Outcome.{outcome, writes, lent, roomNumber}
 use Rattle.answer.specs.Outcome.Laws.{lessNumber-none, unless-first, unless-refused}
 use Rattle.row_format.specs.Lists.Laws.{by-test}
 use Rattle.fits_format.specs.declared.ImageHeader.{ImageHeader}
-use Rattle.fits_format.specs.Header.{headerCards, stands, headerNumber, imageStart, headerSpan, tableRecord, noImage, imageOf, headerRead}
-use Rattle.fits_format.specs.Header.Laws.{length-tableRecord}
+use Rattle.fits_format.specs.Header.{headerCards, stands, headerNumber, imageStart, headerSpan, plainTableRecord, noImage, imageOf, headerRead}
+use Rattle.fits_format.specs.Header.Laws.{length-plainTableRecord}
 use Rattle.fits_format.specs.Image.{rowRecord, imageRowNumber}
 use Rattle.fits_format.specs.Image.Call.{RowStands}
 use Rattle.fits_format.specs.Conversion.{RowsWritten, Conversion, headerRefused, afterHeader, conversion, rowCalls, rowAt, inOrder}
-use Rattle.fits_format.specs.Conversion.Laws.{numberOfRow, recordOfRow}
+use Rattle.fits_format.specs.Conversion.{rowNumberAt, rowRecordAt}
 use Rattle.fits_format.specs.Theorems.Header.{HeaderAccepted, headerRead-accepted}
 use Rattle.fits_format.specs.Theorems.Span.{prefix-end}
 use Rattle.fits_to_sheet.specs.Verdict.{verdictText}
 use Rattle.fits_to_sheet.specs.Scan.{HeaderHeld, imageWidth, imageRows, rowSpan, ImageStands, Enough, FirstRecord, RowsTaken, NextRecord, Ended, EndVerdict}
-use Rattle.fits_to_sheet.specs.Scan.Room.{imageRowNumber-room}
+use Rattle.fits_format.specs.Image.Room.{imageRowNumber-room}
 use Rattle.fits_to_sheet.specs.Scan.Rows.{rowRecord-front, imageRowNumber-front, imageRowNumber-stands, inOrder-same, inOrder-last, rows-written, bytes-written, fault-written, none-written}
 
 -- ---- the header's call
@@ -33,17 +33,17 @@ module _ (s m : List ℕ) where
   unfolding headerRead
   header-refused some = unless-first (headerNumber s) _ (λ e. outcome (noImage e) m) _ some
 
-  pub header-accepted : headerNumber s ≡ 0 → 2078 ≤ length m → headerRead s m ≡ writes (imageOf s) tableRecord m
+  pub header-accepted : headerNumber s ≡ 0 → 2078 ≤ length m → headerRead s m ≡ writes (imageOf s) plainTableRecord m
   unfolding headerRead
   header-accepted ok enough =
-      rw (ok, lessNumber-none (length m) (length tableRecord) 5 (omega (arith, length-tableRecord, enough)))
+      rw (ok, lessNumber-none (length m) (length plainTableRecord) 5 (omega (arith, length-plainTableRecord, enough)))
 
 -- what follows it, where it was read so
-conversion-read : (m : List ℕ) (lends : ℕ → List ℕ) (s header : List ℕ) → headerRead s m ≡ writes (imageOf header) tableRecord m
+conversion-read : (m : List ℕ) (lends : ℕ → List ℕ) (s header : List ℕ) → headerRead s m ≡ writes (imageOf header) plainTableRecord m
     → conversion m lends s
-    ≡ afterHeader tableRecord (rowCalls lends (imageWidth header) (imageRows header) 0 (drop (imageStart header) s))
+    ≡ afterHeader plainTableRecord (rowCalls lends (imageWidth header) (imageRows header) 0 (drop (imageStart header) s))
 unfolding conversion
-conversion-read m lends s header read = rw (read, take-append-seam tableRecord (drop (length tableRecord) m))
+conversion-read m lends s header read = rw (read, take-append-seam plainTableRecord (drop (length plainTableRecord) m))
 
 -- ---- a header that is refused
 module _ (header : List ℕ) (some : headerNumber header ≡ 0 → ⊥) where
@@ -71,13 +71,13 @@ module _ (header : List ℕ) (held : HeaderHeld header) (ok : headerNumber heade
   abbrev n : ℕ
   n = imageRows header
 
-  number : headerRead header tableRecord .answer .number ≡ 0
-  number = rw (header-accepted header tableRecord ok (omega (arith, length-tableRecord)))
+  number : headerRead header plainTableRecord .answer .number ≡ 0
+  number = rw (header-accepted header plainTableRecord ok (omega (arith, length-plainTableRecord)))
 
   found : HeaderAccepted header (imageOf header)
   found =
-      rw (header-accepted header tableRecord ok (omega (arith, length-tableRecord)))
-      at (headerRead-accepted header tableRecord number)
+      rw (header-accepted header plainTableRecord ok (omega (arith, length-plainTableRecord)))
+      at (headerRead-accepted header plainTableRecord number)
 
   pub width-most : w ≤ 4096
   width-most = found .width-most
@@ -110,7 +110,7 @@ module _ (header : List ℕ) (held : HeaderHeld header) (ok : headerNumber heade
 
     -- what follows a header that is whole is the image; nothing follows one that is cut short
     converted : (x : List ℕ) → (rowSpan header ≡ 0 → length x ≡ 0)
-        → conversion m lends (header ++ x) ≡ afterHeader tableRecord (image-calls x)
+        → conversion m lends (header ++ x) ≡ afterHeader plainTableRecord (image-calls x)
     converted x none =
         by-test (ltb (length header) (imageStart header))
         (λ t.
@@ -122,7 +122,7 @@ module _ (header : List ℕ) (held : HeaderHeld header) (ok : headerNumber heade
         whole x (omega (arith, long, most)))
       where
         cut : (x : List ℕ) → length x ≡ 0 → length header ≤ imageStart header
-            → conversion m lends (header ++ x) ≡ afterHeader tableRecord (image-calls x)
+            → conversion m lends (header ++ x) ≡ afterHeader plainTableRecord (image-calls x)
         cut [] e h =
             rw (append-nil header)
             (conversion-read m lends header header (header-accepted header m ok (enough .table))
@@ -130,33 +130,33 @@ module _ (header : List ℕ) (held : HeaderHeld header) (ok : headerNumber heade
         cut (y ∷ x) e h = absurd (omega arith)
 
         whole : (x : List ℕ) → length header ≡ imageStart header
-            → conversion m lends (header ++ x) ≡ afterHeader tableRecord (image-calls x)
+            → conversion m lends (header ++ x) ≡ afterHeader plainTableRecord (image-calls x)
         whole x e =
             let front = take-append-seam header x in
             let end : stands "END     " (headerCards (take (length header) (header ++ x))) ≡ true = rw front (found .end-stands) in
             let same = prefix-end (length header) (header ++ x) m end in
-            let read : headerRead (header ++ x) m ≡ writes (imageOf header) tableRecord m =
+            let read : headerRead (header ++ x) m ≡ writes (imageOf header) plainTableRecord m =
             sym same ∙ rw front (header-accepted header m ok (enough .table)) in
             conversion-read m lends (header ++ x) header read ∙ rw (drop-at header x (imageStart header) e)
 
     -- where no row of x before row r is refused, and row r is or there is none
     module _ (x : List ℕ) (none : rowSpan header ≡ 0 → length x ≡ 0) (r : ℕ) (within : r ≤ n)
-        (right : (i : ℕ) → i < r → imageRowNumber w i (rowAt w x i) 13834 ≡ 0)
-        (stops : r < n → imageRowNumber w r (rowAt w x r) 13834 ≡ 0 → ⊥) where
-      room : (i : ℕ) → numberOfRow lends w x i ≡ imageRowNumber w i (rowAt w x i) 13834
+        (right : (i : ℕ) → i < r → imageRowNumber w i (rowAt w x i) 7178 ≡ 0)
+        (stops : r < n → imageRowNumber w r (rowAt w x r) 7178 ≡ 0 → ⊥) where
+      room : (i : ℕ) → rowNumberAt lends w x i ≡ imageRowNumber w i (rowAt w x i) 7178
       room i = imageRowNumber-room w i (rowAt w x i) (length (lends i)) (enough .rows i)
 
-      right-here : (i : ℕ) → i < r → numberOfRow lends w x i ≡ 0
+      right-here : (i : ℕ) → i < r → rowNumberAt lends w x i ≡ 0
       right-here i h = room i ∙ right i h
 
-      stops-here : r < n → numberOfRow lends w x r ≡ 0 → ⊥
+      stops-here : r < n → rowNumberAt lends w x r ≡ 0 → ⊥
       stops-here h e = stops h (sym (room r) ∙ e)
 
-      converted-bytes : conversion m lends (header ++ x) .bytes ≡ tableRecord ++ inOrder (recordOfRow lends w x) 0 r
+      converted-bytes : conversion m lends (header ++ x) .bytes ≡ plainTableRecord ++ inOrder (rowRecordAt w x) 0 r
       converted-bytes =
-          rw (converted x none) (ap (tableRecord ++_) (bytes-written lends w n x r within right-here stops-here))
+          rw (converted x none) (ap (plainTableRecord ++_) (bytes-written lends w n x r within right-here stops-here))
 
-      converted-ends : (e : ℕ) → (r < n → e ≡ imageRowNumber w r (rowAt w x r) 13834) → (r ≡ n → e ≡ 0)
+      converted-ends : (e : ℕ) → (r < n → e ≡ imageRowNumber w r (rowAt w x r) 7178) → (r ≡ n → e ≡ 0)
           → conversion m lends (header ++ x) ≡ endedWith e r (conversion m lends (header ++ x) .bytes)
       converted-ends e faulty whole =
           let number : image-calls x .number ≡ e =
@@ -170,20 +170,20 @@ module _ (header : List ℕ) (held : HeaderHeld header) (ok : headerNumber heade
           rw (converted x none, number, rows-written lends w n x r within right-here stops-here)
 
   -- a row that is not there is refused
-  absent-row : (r : ℕ) (s : List ℕ) → length s ≡ 0 → imageRowNumber w r s 13834 ≡ 0 → ⊥
+  absent-row : (r : ℕ) (s : List ℕ) → length s ≡ 0 → imageRowNumber w r s 7178 ≡ 0 → ⊥
   absent-row r s none e =
-      absurd (omega (arith, imageRowNumber-stands w r s 13834 e .there, found .width-least, none))
+      absurd (omega (arith, imageRowNumber-stands w r s 7178 e .there, found .width-least, none))
 
   -- ---- before the first row
-  pub first-record : FirstRecord header tableRecord
+  pub first-record : FirstRecord header plainTableRecord
   unfolding inOrder
   first-record = record {
     held = held;
     bytes = λ m lends enough.
-        let stops : 0 < n → imageRowNumber w 0 (rowAt w [] 0) 13834 ≡ 0 → ⊥ =
+        let stops : 0 < n → imageRowNumber w 0 (rowAt w [] 0) 7178 ≡ 0 → ⊥ =
         λ h. absent-row 0 (rowAt w [] 0) (omega (arith, length-drop {A = ℕ} (2 * w * 0) [])) in
         let bytes = converted-bytes m lends enough [] (λ e. refl) 0 (omega arith) (λ i h. absurd (not-suc-le-zero h)) stops in
-        rw (append-nil header, append-nil tableRecord) at bytes;
+        rw (append-nil header, append-nil plainTableRecord) at bytes;
   }
 
   pub taken-none : RowsTaken header [] 0
@@ -199,7 +199,7 @@ module _ (header : List ℕ) (held : HeaderHeld header) (ok : headerNumber heade
     image-none e = taken .size ∙ rw e (zero-mul r)
 
     row-there : (i : ℕ) → i < r → RowStands w i (length (rowAt w image i))
-    row-there i h = imageRowNumber-stands w i (rowAt w image i) 13834 (taken .right i h)
+    row-there i h = imageRowNumber-stands w i (rowAt w image i) 7178 (taken .right i h)
 
     image-size : length image ≡ 2 * w * r
     image-size =
@@ -222,9 +222,9 @@ module _ (header : List ℕ) (held : HeaderHeld header) (ok : headerNumber heade
           let there = row-there i h .there in
           drop-append-le (2 * w * i) image here (omega (arith, there, length-drop (2 * w * i) image, found .width-least))
 
-      old-right : (i : ℕ) → i < r → imageRowNumber w i (rowAt w (image ++ here) i) 13834 ≡ 0
+      old-right : (i : ℕ) → i < r → imageRowNumber w i (rowAt w (image ++ here) i) 7178 ≡ 0
       old-right i h =
-          rw (old-row i h) (imageRowNumber-front w i (rowAt w image i) here (row-there i h .there) 13834 ∙ taken .right i h)
+          rw (old-row i h) (imageRowNumber-front w i (rowAt w image i) here (row-there i h .there) 7178 ∙ taken .right i h)
 
       old-record : (i : ℕ) → i < r → rowRecord w i (rowAt w (image ++ here) i) ≡ rowRecord w i (rowAt w image i)
       old-record i h = rw (old-row i h) (rowRecord-front w i (rowAt w image i) here (row-there i h .there))
@@ -244,9 +244,9 @@ module _ (header : List ℕ) (held : HeaderHeld header) (ok : headerNumber heade
     records i = rowRecord w i (rowAt w image i)
 
     bytes-before : (m : List ℕ) (lends : ℕ → List ℕ) → Enough m lends
-        → conversion m lends (header ++ image) .bytes ≡ tableRecord ++ inOrder records 0 r
+        → conversion m lends (header ++ image) .bytes ≡ plainTableRecord ++ inOrder records 0 r
     bytes-before m lends enough =
-        let stops : r < n → imageRowNumber w r (rowAt w image r) 13834 ≡ 0 → ⊥ =
+        let stops : r < n → imageRowNumber w r (rowAt w image r) 7178 ≡ 0 → ⊥ =
         λ h. absent-row r (rowAt w image r) (omega (arith, length-drop (2 * w * r) image, image-size)) in
         converted-bytes m lends enough image image-none r (taken .within) (taken .right) stops
 
@@ -257,32 +257,32 @@ module _ (header : List ℕ) (held : HeaderHeld header) (ok : headerNumber heade
           (λ i least most. old-record here i (omega (arith, most, h)))
 
       -- the next is refused, or there is none to come: nothing more is written
-      module _ (e : ℕ) (faulty : r < n → e ≡ imageRowNumber w r here 13834) (some : r < n → e ≡ 0 → ⊥) (whole : r ≡ n → e ≡ 0) where
+      module _ (e : ℕ) (faulty : r < n → e ≡ imageRowNumber w r here 7178) (some : r < n → e ≡ 0 → ⊥) (whole : r ≡ n → e ≡ 0) where
         pub ended-rows : Ended header here 0 e r
         ended-rows = record {
           image = image;
           size = taken .size;
           ends = λ m lends enough.
-              let number : r < n → e ≡ imageRowNumber w r (rowAt w (image ++ here) r) 13834 =
+              let number : r < n → e ≡ imageRowNumber w r (rowAt w (image ++ here) r) 7178 =
               λ h. rw (new-row here) (faulty h) in
-              let stops : r < n → imageRowNumber w r (rowAt w (image ++ here) r) 13834 ≡ 0 → ⊥ =
+              let stops : r < n → imageRowNumber w r (rowAt w (image ++ here) r) 7178 ≡ 0 → ⊥ =
               λ h z. some h (number h ∙ z) in
               let none = both-none here few in
               let bytes = converted-bytes m lends enough (image ++ here) none r (taken .within) (old-right here) stops in
               let same : conversion m lends (header ++ (image ++ here)) .bytes ≡ conversion m lends (header ++ image) .bytes =
-              bytes ∙ ap (tableRecord ++_) (records-same r (omega arith)) ∙ sym (bytes-before m lends enough) in
+              bytes ∙ ap (plainTableRecord ++_) (records-same r (omega arith)) ∙ sym (bytes-before m lends enough) in
               converted-ends m lends enough (image ++ here) none r (taken .within) (old-right here) stops e number whole
               ∙ ap (endedWith e r) same;
         }
 
       -- the next is right
-      module _ (next : r < n) (right : imageRowNumber w r here 13834 ≡ 0) where
+      module _ (next : r < n) (right : imageRowNumber w r here 7178 ≡ 0) where
         here-size : (length here ≡ 2 * w) × (rowSpan header ≡ 2 * w)
         here-size =
-            let there = imageRowNumber-stands w r here 13834 right .there in
+            let there = imageRowNumber-stands w r here 7178 right .there in
             (omega (arith, there, few, span-most), omega (arith, there, few, span-most))
 
-        all-right : (i : ℕ) → i < r + 1 → imageRowNumber w i (rowAt w (image ++ here) i) 13834 ≡ 0
+        all-right : (i : ℕ) → i < r + 1 → imageRowNumber w i (rowAt w (image ++ here) i) 7178 ≡ 0
         all-right i h =
             by-test (ltb i r)
             (λ t. old-right here i (ltb-true i r t))
@@ -304,7 +304,7 @@ module _ (header : List ℕ) (held : HeaderHeld header) (ok : headerNumber heade
           taken = taken;
           most = few;
           bytes = λ m lends enough.
-              let stops : r + 1 < n → imageRowNumber w (r + 1) (rowAt w (image ++ here) (r + 1)) 13834 ≡ 0 → ⊥ =
+              let stops : r + 1 < n → imageRowNumber w (r + 1) (rowAt w (image ++ here) (r + 1)) 7178 ≡ 0 → ⊥ =
               λ h. absent-row (r + 1) (rowAt w (image ++ here) (r + 1)) (next-row here (r + 1) refl (omega (arith, here-size .0))) in
               let none = both-none here few in
               let most : r + 1 ≤ n = omega (arith, next) in
@@ -315,8 +315,8 @@ module _ (header : List ℕ) (held : HeaderHeld header) (ok : headerNumber heade
               ∙ inOrder-last f r 0
               ∙ rw (zero-add r, records-same r (omega arith), new-row here) in
               bytes
-              ∙ ap (tableRecord ++_) last
-              ∙ sym (append-assoc tableRecord (inOrder records 0 r) (rowRecord w r here))
+              ∙ ap (plainTableRecord ++_) last
+              ∙ sym (append-assoc plainTableRecord (inOrder records 0 r) (rowRecord w r here))
               ∙ ap (_++ rowRecord w r here) (sym (bytes-before m lends enough));
         }
 

@@ -15,7 +15,7 @@ use Rattle.fits_format.specs.Image.{bigEndian, rowRecord, beforePixels, imageRo
 use Rattle.fits_format.specs.Image.Laws.{bigEndian-take}
 use Rattle.fits_format.specs.Image.Call.{RowStands, beforePixels-zero}
 use Rattle.fits_format.specs.Conversion.{RowsWritten, rowCalls, inOrder, FirstFault}
-use Rattle.fits_format.specs.Conversion.Laws.{numberOfRow, recordOfRow, rowCalls-fault, rowCalls-bytes}
+use Rattle.fits_format.specs.Conversion.Laws.{rowCalls-fault, rowCalls-bytes}
 
 -- ---- a row's own bytes
 bigEndian-front : (w : ℕ) (s t : List ℕ) → 2 * w ≤ length s → bigEndian w (s ++ t) ≡ bigEndian w s
@@ -62,12 +62,12 @@ inOrder-last f (suc k) r =
 
 -- ---- where no row before row r is refused, and r is refused or the last: what the calls come to
 module _ (lends : ℕ → List ℕ) (w n : ℕ) (image : List ℕ) (r : ℕ) (within : r ≤ n)
-    (right : (i : ℕ) → i < r → numberOfRow lends w image i ≡ 0)
-    (stops : r < n → numberOfRow lends w image r ≡ 0 → ⊥) where
+    (right : (i : ℕ) → i < r → rowNumberAt lends w image i ≡ 0)
+    (stops : r < n → rowNumberAt lends w image r ≡ 0 → ⊥) where
   abbrev x : RowsWritten
   x = rowCalls lends w n 0 image
 
-  fault : FirstFault (numberOfRow lends w image) n (x .rows) (x .number)
+  fault : FirstFault (rowNumberAt lends w image) n (x .rows) (x .number)
   fault = rowCalls-fault lends w image n
 
   not-before : x .rows < r → ⊥
@@ -86,11 +86,11 @@ module _ (lends : ℕ → List ℕ) (w n : ℕ) (image : List ℕ) (r : ℕ) (wi
       (λ u. absurd (not-after (ltb-true r (x .rows) u)))
       (λ u. omega (arith, ltb-false (x .rows) r t, ltb-false r (x .rows) u)))
 
-  pub bytes-written : x .bytes ≡ inOrder (recordOfRow lends w image) 0 r
+  pub bytes-written : x .bytes ≡ inOrder (rowRecordAt w image) 0 r
   bytes-written = rw rows-written at (rowCalls-bytes lends w image n)
 
-  pub fault-written : r < n → x .number ≡ numberOfRow lends w image r
-  fault-written h = fault .faulty (omega (arith, h, rows-written)) .0 ∙ ap (numberOfRow lends w image) rows-written
+  pub fault-written : r < n → x .number ≡ rowNumberAt lends w image r
+  fault-written h = fault .faulty (omega (arith, h, rows-written)) .0 ∙ ap (rowNumberAt lends w image) rows-written
 
   pub none-written : r ≡ n → x .number ≡ 0
   none-written h = fault .whole (rows-written ∙ h)

@@ -1,1 +1,0 @@
--- The laws of Card. Assumes nothing.

@@ -17,7 +17,7 @@ ghost use Rattle.sheet_format.specs.Writing.{recordWritten};
 // Length 4, kind 2, row number 2 and pixel count 2.
 const FIELD_BYTES: usize = 10;
 
-// The table may be known to be accepted, with a longest item of `most` bits, and is then not checked; with 0 nothing is known.
+// The table may be known to be accepted, with a longest item of `most` bits: it is then not checked. With 0 nothing is known.
 pub fn write_packed(
     row: u32,
     content: &[u8],

@@ -12,7 +12,8 @@ use Rattle.bitstream.specs.Bits.Laws.{below-nil, below-cons, below-flat, pad-al
 use Rattle.answer.specs.Outcome.{answerOf}
 use Rattle.row_format.specs.Lists.{any}
 use Rattle.row_format.specs.Lists.Laws.{and-true-all}
-use Rattle.row_format.specs.Table.{codeword, codewords, wrongSize, wrongWord, wrongCodeword, verdict, tableNumber, longest, maxItemBits}
+use Rattle.row_format.specs.Table.{codeword, codewords, wrongSize, wrongWord, wrongCodeword, verdict, tableNumber}
+use Rattle.row_format.specs.Table.{longest, maxItemBits}
 use Rattle.row_format.specs.Plain.{plainEntries, plainTable, plainBytes}
 use Rattle.row_format.specs.Calls.{checked}
 use Rattle.prefix_free.specs.Branch.Fork.{apart, few, ended, branch, apart-clash}

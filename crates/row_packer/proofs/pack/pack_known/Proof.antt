@@ -1,5 +1,4 @@
--- `row_packer::pack::pack_known` meets its contract: packing by the check, or without it under a table that is known. Assumes
--- nothing.
+-- `row_packer::pack::pack_known` meets its contract: packing with the check, or under a known table. Assumes nothing.
 use mathlib.Core.Path.{sym, refl}
 use borrow.Author.Needs.{needs}
 use Rattle.row_packer.proofs.Laws.{checked-zero, checked-count}

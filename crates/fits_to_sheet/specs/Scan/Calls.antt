@@ -19,7 +19,7 @@ use Rattle.fits_format.specs.Image.Call.{imageRow-number, imageRow-counted}
 use Rattle.fits_to_sheet.specs.declared.rows.RowTurn.{RowTurn}
 use Rattle.fits_to_sheet.specs.Scan.{HeaderHeld, rowSpan, ImageStands, FirstRecord, RowsBefore, NextRecord, RowMade, Ended}
 use Rattle.fits_format.specs.Image.Room.{imageRowNumber-room}
-use Rattle.fits_to_sheet.specs.Scan.Laws.{header-refused, header-accepted, ended-header, width-most, span-cut, span-whole, span-most, first-record, taken-none, ended-rows, taken-more, next-record}
+use Rattle.fits_to_sheet.specs.Scan.Laws.{header-refused, header-granted, ended-header, width-most, span-cut, span-whole, span-most, first-record, taken-none, ended-rows, taken-more, next-record}
 
 -- ---- the header's
 module _ (header m : List ℕ) {x : ImageHeader} {m′ : List ℕ} (room : 7178 ≤ length m)
@@ -28,7 +28,7 @@ module _ (header m : List ℕ) {x : ImageHeader} {m′ : List ℕ} (room : 7178 
   as-refused some = read ∙ header-refused header m some
 
   as-accepted : headerNumber header ≡ 0 → outcome x m′ ≡ writes (imageOf header) plainTableRecord m
-  as-accepted ok = read ∙ header-accepted header m ok (omega (arith, room))
+  as-accepted ok = read ∙ header-granted header m ok (omega (arith, room))
 
   number-is : x .number ≡ headerNumber header
   number-is =

@@ -14,13 +14,12 @@ use Rattle.answer.specs.Outcome.{outcome, writes, lent, roomNumber}
 use Rattle.answer.specs.Outcome.Laws.{lessNumber-none, unless-first, unless-refused}
 use Rattle.row_format.specs.Lists.Laws.{by-test}
 use Rattle.fits_format.specs.declared.ImageHeader.{ImageHeader}
-use Rattle.fits_format.specs.Header.{headerCards, stands, headerNumber, imageStart, headerSpan, plainTableRecord, noImage, imageOf, headerRead}
+use Rattle.fits_format.specs.Header.{headerCards, stands, headerNumber, imageStart, headerSpan, plainTableRecord, noImage, imageOf, headerRead, HeaderAccepted}
 use Rattle.fits_format.specs.Header.Laws.{length-plainTableRecord}
 use Rattle.fits_format.specs.Image.{rowRecord, imageRowNumber}
 use Rattle.fits_format.specs.Image.Call.{RowStands}
-use Rattle.fits_format.specs.Conversion.{RowsWritten, Conversion, headerRefused, afterHeader, conversion, rowCalls, rowAt, inOrder}
-use Rattle.fits_format.specs.Conversion.{rowNumberAt, rowRecordAt}
-use Rattle.fits_format.specs.Theorems.Header.{HeaderAccepted, headerRead-accepted}
+use Rattle.fits_format.specs.Conversion.{RowsWritten, Conversion, headerRefused, afterHeader, conversion, rowCalls, rowAt, rowNumberAt, rowRecordAt, inOrder}
+use Rattle.fits_format.specs.Theorems.Header.{headerRead-accepted}
 use Rattle.fits_format.specs.Theorems.Span.{prefix-end}
 use Rattle.fits_to_sheet.specs.Verdict.{verdictText}
 use Rattle.fits_to_sheet.specs.Scan.{HeaderHeld, imageWidth, imageRows, rowSpan, ImageStands, Enough, FirstRecord, RowsTaken, NextRecord, Ended, EndVerdict}
@@ -33,9 +32,9 @@ module _ (s m : List ℕ) where
   unfolding headerRead
   header-refused some = unless-first (headerNumber s) _ (λ e. outcome (noImage e) m) _ some
 
-  pub header-accepted : headerNumber s ≡ 0 → 2078 ≤ length m → headerRead s m ≡ writes (imageOf s) plainTableRecord m
+  pub header-granted : headerNumber s ≡ 0 → 2078 ≤ length m → headerRead s m ≡ writes (imageOf s) plainTableRecord m
   unfolding headerRead
-  header-accepted ok enough =
+  header-granted ok enough =
       rw (ok, lessNumber-none (length m) (length plainTableRecord) 5 (omega (arith, length-plainTableRecord, enough)))
 
 -- what follows it, where it was read so
@@ -72,11 +71,11 @@ module _ (header : List ℕ) (held : HeaderHeld header) (ok : headerNumber heade
   n = imageRows header
 
   number : headerRead header plainTableRecord .answer .number ≡ 0
-  number = rw (header-accepted header plainTableRecord ok (omega (arith, length-plainTableRecord)))
+  number = rw (header-granted header plainTableRecord ok (omega (arith, length-plainTableRecord)))
 
   found : HeaderAccepted header (imageOf header)
   found =
-      rw (header-accepted header plainTableRecord ok (omega (arith, length-plainTableRecord)))
+      rw (header-granted header plainTableRecord ok (omega (arith, length-plainTableRecord)))
       at (headerRead-accepted header plainTableRecord number)
 
   pub width-most : w ≤ 4096
@@ -125,7 +124,7 @@ module _ (header : List ℕ) (held : HeaderHeld header) (ok : headerNumber heade
             → conversion m lends (header ++ x) ≡ afterHeader plainTableRecord (image-calls x)
         cut [] e h =
             rw (append-nil header)
-            (conversion-read m lends header header (header-accepted header m ok (enough .table))
+            (conversion-read m lends header header (header-granted header m ok (enough .table))
             ∙ rw (drop-of-length-le header h))
         cut (y ∷ x) e h = absurd (omega arith)
 
@@ -136,7 +135,7 @@ module _ (header : List ℕ) (held : HeaderHeld header) (ok : headerNumber heade
             let end : stands "END     " (headerCards (take (length header) (header ++ x))) ≡ true = rw front (found .end-stands) in
             let same = prefix-end (length header) (header ++ x) m end in
             let read : headerRead (header ++ x) m ≡ writes (imageOf header) plainTableRecord m =
-            sym same ∙ rw front (header-accepted header m ok (enough .table)) in
+            sym same ∙ rw front (header-granted header m ok (enough .table)) in
             conversion-read m lends (header ++ x) header read ∙ rw (drop-at header x (imageStart header) e)
 
     -- where no row of x before row r is refused, and row r is or there is none

@@ -14,7 +14,7 @@ use Rattle.row_format.specs.Lists.Laws.{by-test}
 use Rattle.fits_format.specs.Image.{bigEndian, rowRecord, beforePixels, imageRowNumber}
 use Rattle.fits_format.specs.Image.Laws.{bigEndian-take}
 use Rattle.fits_format.specs.Image.Call.{RowStands, beforePixels-zero}
-use Rattle.fits_format.specs.Conversion.{RowsWritten, rowCalls, inOrder, FirstFault}
+use Rattle.fits_format.specs.Conversion.{RowsWritten, rowCalls, rowNumberAt, rowRecordAt, inOrder, FirstFault}
 use Rattle.fits_format.specs.Conversion.Laws.{rowCalls-fault, rowCalls-bytes}
 
 -- ---- a row's own bytes

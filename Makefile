@@ -9,7 +9,7 @@
 # make version    writes VERSION where it is said again: the header and the programs
 # make install    programs, libraries, header, man pages and docs below PREFIX; needs no rt after make
 # make uninstall  removes what make install with the same variables has put there
-.PHONY: all build test compare bench fuzz interop samples version install uninstall clean
+.PHONY: all build test compare bench fuzz interop have_cfitsio samples version install uninstall clean
 # rt proves crates in parallel itself; two runs of it at once would write the same files.
 .NOTPARALLEL:
 
@@ -83,8 +83,12 @@ fuzz:
 	@tests/second build
 	@$(SECOND)/fuzz 120 5
 
-interop: build
+# The package is asked for first: a build may take long.
+interop: have_cfitsio build
 	@tests/interop
+
+have_cfitsio:
+	@tests/interop package
 
 samples: $(ARCHIVE)
 	$(CC) $(CFLAGS) -Iinclude -o target/make_samples samples/make_samples.c $(ARCHIVE)

@@ -24,8 +24,12 @@ struct Row {
 
 pub fn print() {
     println!("Scans, nanoseconds a pixel; {WIDTH} x {ROWS} pixels, differences of sigma {SIGMA}");
-    println!("  row   the row call of FITS images, which writes the row's record and knows its table");
-    println!("  pack  the packing of the same rows under the plain table, which the proved call checks");
+    println!(
+        "  row   the row call of FITS images, which writes the row's record and knows its table"
+    );
+    println!(
+        "  pack  the packing of the same rows under the plain table, which the proved call checks"
+    );
     println!("        each time and second/ has checked before");
     println!("{:<11} {:>8} {:>8} {:>7}", "call", "proved", "second", "p/s");
     let [rows, packing] = times().map(|sides| sides.map(|time| 1e9 * time / (WIDTH * ROWS) as f64));

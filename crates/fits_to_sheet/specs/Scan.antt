@@ -1,9 +1,9 @@
--- A scan as a program converts it that holds the header and one row at a time: what it holds of a file, what it may write with
--- that, and how it ends. Each is said by what converting the bytes that were taken comes to (fits_format, `conversion`).
+-- A scan as a program converts it that holds the header and one row at a time: what it holds of a file, what it may write
+-- with that, and how it ends. Each is said by what converting the bytes that were taken comes to (fits_format, `conversion`).
 -- Definitions only. Assumes nothing.
 use Prim.Native.Nat.{ℕ, _+_, _*_, _≤_, _<_}
 use mathlib.Core.Path.{_≡_}
-use mathlib.Core.Bool.{false, cond}
+use mathlib.Core.Bool.{cond}
 use mathlib.Core.List.{List, _++_}
 use lib.ListN.{length, take}
 use lib.Dec.{ltb}
@@ -65,8 +65,8 @@ pub record RowsBefore (header : List ℕ) (r : ℕ) : Type 0 where
   pub image : List ℕ
   pub taken : RowsTaken header image r
 
--- the record of row r: for some rows that were taken before, it is what converting writes with the bytes that are held, after
--- what it writes without them
+-- the record of row r: for some rows that were taken before, it is what converting writes with the bytes that are held,
+-- after what it writes without them
 pub record NextRecord (header held : List ℕ) (r : ℕ) (b : List ℕ) : Type 0 where
   pub image : List ℕ
   pub taken : RowsTaken header image r
@@ -75,13 +75,13 @@ pub record NextRecord (header held : List ℕ) (r : ℕ) (b : List ℕ) : Type 0
       → conversion m lends (header ++ (image ++ held)) .bytes ≡ conversion m lends (header ++ image) .bytes ++ b
 
 -- a row as its turn has it: what its call answered with the bytes that are held
-pub record RowMade (w r : ℕ) (held : List ℕ) (x : RowTurn) (record′ : List ℕ) : Type 0 where
+pub record RowMade (w r : ℕ) (held : List ℕ) (x : RowTurn) (out : List ℕ) : Type 0 where
   pub number : x .number ≡ imageRowNumber w r held 7178
-  pub bytes : x .number ≡ 0 → take (x .count) record′ ≡ rowRecord w r held
+  pub bytes : x .number ≡ 0 → take (x .count) out ≡ rowRecord w r held
 
 -- ---- how it ends
--- for some rows that were taken before, converting with the bytes that are held comes to these numbers, and writes nothing that
--- it does not write without them
+-- for some rows that were taken before, converting with the bytes that are held comes to these numbers, and writes nothing
+-- that it does not write without them
 pub record Ended (header held : List ℕ) (number fault rows : ℕ) : Type 0 where
   pub image : List ℕ
   pub size : length image ≡ rowSpan header * rows
@@ -91,5 +91,8 @@ pub record Ended (header held : List ℕ) (number fault rows : ℕ) : Type 0 whe
 
 -- l is the verdict of all the bytes that were taken
 pub record EndVerdict (header held l : List ℕ) : Type 0 where
-  pub image : List ℕ
-  pub line : Converted (header ++ (image ++ held)) (λ c. l ≡ verdictLine c)
+  pub number : ℕ
+  pub fault : ℕ
+  pub rows : ℕ
+  pub ended : Ended header held number fault rows
+  pub line : Converted (header ++ (ended .image ++ held)) (λ c. l ≡ verdictLine c)

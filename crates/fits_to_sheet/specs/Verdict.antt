@@ -10,8 +10,8 @@ pub mod Laws
 abbrev pub refusedRowLine : ℕ → ℕ → List ℕ
 refusedRowLine number row = fields (ascii "refused ") number (ascii " at row ") row ++ newline
 
--- by the header's number, the number of the row that is refused, and the rows before it: rows are counted from 0, so that it has
--- their count as its number
+-- by the header's number, the number of the row that is refused, and the rows before it: their count is the row's own number,
+-- since rows are numbered from 0
 unfoldable pub verdictText : ℕ → ℕ → ℕ → List ℕ
 verdictText zero zero rows = doneLine rows
 verdictText zero (suc e) rows = refusedRowLine (suc e) rows

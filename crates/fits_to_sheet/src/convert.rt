@@ -6,12 +6,12 @@ use crate::verdict::end;
 use command::say::print;
 use fits_format::ImageHeader;
 use fits_reader::fits_header;
-ghost use mathlib.Core.Path.{_≡_};
 ghost use Prim.Native.Nat.{_≤_};
-ghost use lib.ListN.{length, take};
+ghost use lib.ListN.{length};
 ghost use Rattle.fits_to_sheet.specs.Scan.{HeaderHeld, ImageStands, FirstRecord};
 
-// 2078 bytes are enough for the table's record and 7178 for a row's, whatever its pixels, so that no record is refused for room.
+// 2078 bytes are enough for the table's record and 7178 for a row's, whatever its pixels (fits_format, `imageRowNumber-room`):
+// no record is refused for room.
 pub fn convert_input(file: i32, name: &[u8]) {
     let mut header = [0u8; 28800];
     let mut row = [0u8; 8192];

@@ -11,8 +11,8 @@ ghost use lib.ListN.{length, take};
 ghost use Rattle.fits_format.specs.Header.{headerCards, stands};
 ghost use Rattle.fits_to_sheet.specs.Scan.{HeaderHeld};
 
-// Block after block to the one that has END, but at most ten: enough to judge the header, whatever stands there (fits_format,
-// `headerSpan-same`), and no more. Fewer bytes come only at the input's end.
+// Block after block to the one that has END, but at most ten: enough to judge the header, whatever stands there, and no more
+// (fits_format, `headerSpan-same`). Fewer bytes come only at the input's end.
 pub fn fill_header(file: i32, name: &[u8], bytes: &mut [u8]) -> Filled
     requires { ⌜ 28800 ≤ length (now bytes) ⌝ }
     ensures within { λ r. ⌜ r .count ≤ 28800 ⌝ }

@@ -1,6 +1,6 @@
-// Turns a scan, a FITS image, into a sheet: the plain table's record and a record for each row go to standard output, and one
-// line on standard error says how it ended: `done rows N`, `refused N` of the header, or `refused N at row K`. An image may have
-// any number of rows: its header and one row are held at a time, and a record goes out as soon as it is known.
+// Turns a scan, a FITS image, into a sheet: the plain table's record and a record for each row go to standard output, and
+// one line on standard error says how it ended: `done rows N`, `refused N` of the header, or `refused N at row K`. The header
+// and one row are held at a time, and a record goes out as soon as it is known.
 mod convert;
 mod files;
 mod header;

@@ -26,8 +26,9 @@ pub struct Rows {
 // row      the bytes of row r
 // out      its record
 // r        the rows written so far, and so the number of the next
-// No contract can say that reading moves the input's next bytes, fewer than asked only at its end, and that writing moves the
-// record's bytes: only that is left to tests. With it what is written is what the scan's conversion has.
+// No contract can say that reading moves the input's next bytes, fewer than asked only at its end, and that writing moves
+// the record's bytes: only that is left to tests. With it what is written is what the scan's conversion has. The rows before
+// row r stand in no memory any more: `NextRecord` and `Ended` say that there are such.
 pub fn convert_rows(
     file: i32,
     name: &[u8],
@@ -40,7 +41,8 @@ pub fn convert_rows(
     requires { ⌜ 8192 ≤ length (now row) ⌝ }
     requires { ⌜ 7178 ≤ length (now out) ⌝ }
     ensures held { λ r. ⌜ r .held ≤ 8192 ⌝ }
-    ensures ended { λ r. ⌜ (r .failed ≡ false → Ended (now (header .entry)) (take (r .held) (now (row .exit))) 0 (r .number) (r .rows)) ⌝ }
+    ensures ended { λ r. ⌜ (r .failed ≡ false
+        → Ended (now (header .entry)) (take (r .held) (now (row .exit))) 0 (r .number) (r .rows)) ⌝ }
 {
     let width = image.width as u64;
     let rows = image.rows as u64;
@@ -51,7 +53,7 @@ pub fn convert_rows(
         let held = turn.held;
         let number = turn.number;
         if turn.failed {
-            return fail(r);
+            return unfinished(r);
         }
         if number != 0 {
             return Rows {
@@ -65,7 +67,7 @@ pub fn convert_rows(
         if print_row(header, &row[..held], r, &out[..count]) {
             r += 1;
         } else {
-            return fail(r);
+            return unfinished(r);
         }
     }
     Rows {
@@ -76,7 +78,7 @@ pub fn convert_rows(
     }
 }
 
-fn fail(rows: u64) -> Rows
+fn unfinished(rows: u64) -> Rows
     ensures { λ r. ⌜ r ≡ record { failed = true; number = 0; rows = rows; held = 0 } ⌝ }
 {
     Rows {
@@ -138,8 +140,8 @@ fn take_row(
     }
 }
 
-// Writes the record of row r; nothing else of it goes out. `header` and `held` say what the record must be; nothing else is done
-// with them.
+// Writes the record of row r; nothing else of it goes out. `header`, `held` and `r` say what the record must be; nothing else
+// is done with them.
 fn print_row(header: &[u8], held: &[u8], r: u64, bytes: &[u8]) -> bool
     requires { ⌜ NextRecord (now header) (now held) r (now bytes) ⌝ }
 {

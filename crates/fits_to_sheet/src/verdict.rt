@@ -44,8 +44,8 @@ pub fn end(header: &[u8], held: &[u8], number: u32, fault: u32, rows: u64)
     say_verdict(header, held, &line[..n]);
 }
 
-// Writes the verdict to standard error; nothing else goes there but complaints. `header` and `held` say what the line must be;
-// nothing else is done with them.
+// Writes the verdict to standard error; nothing else goes there but complaints. `header` and `held` say what the line must
+// be; nothing else is done with them.
 fn say_verdict(header: &[u8], held: &[u8], line: &[u8])
     requires { ⌜ EndVerdict (now header) (now held) (now line) ⌝ }
 {

@@ -1,5 +1,5 @@
--- What the calls answered, as the program goes on with it: the header is refused, or its record is the first; a row is refused,
--- or its record is the next. Assumes nothing.
+-- What the calls answered, as the program goes on with it: the header is refused, or its record is the first; a row is
+-- refused, or its record is the next. Assumes nothing.
 use Prim.Native.Nat.{ℕ, _+_, _*_, _≤_, _<_}
 use native.Mathlib.Omega.{arith}
 use mathlib.Core.Path.{_≡_, refl, sym, ap, _∙_}
@@ -19,13 +19,13 @@ use Rattle.fits_format.specs.Image.Call.{imageRow-number, imageRow-counted}
 use Rattle.fits_to_sheet.specs.declared.rows.RowTurn.{RowTurn}
 use Rattle.fits_to_sheet.specs.Scan.{HeaderHeld, rowSpan, ImageStands, FirstRecord, RowsBefore, NextRecord, RowMade, Ended}
 use Rattle.fits_format.specs.Image.Room.{imageRowNumber-room}
-use Rattle.fits_to_sheet.specs.Scan.Laws.{header-refused, header-granted, ended-header, width-most, span-cut, span-whole, span-most, first-record, taken-none, ended-rows, taken-more, next-record}
+use Rattle.fits_to_sheet.specs.Scan.Laws.{headerRead-refused, header-granted, ended-header, imageWidth-most, rowSpan-cut, rowSpan-whole, first-record, rowsTaken-none, ended-rows, rowsTaken-more, next-record}
 
 -- ---- the header's
 module _ (header m : List ℕ) {x : ImageHeader} {m′ : List ℕ} (room : 7178 ≤ length m)
     (read : outcome x m′ ≡ headerRead header m) where
   as-refused : (headerNumber header ≡ 0 → ⊥) → outcome x m′ ≡ outcome (noImage (headerNumber header)) m
-  as-refused some = read ∙ header-refused header m some
+  as-refused some = read ∙ headerRead-refused header m some
 
   as-accepted : headerNumber header ≡ 0 → outcome x m′ ≡ writes (imageOf header) plainTableRecord m
   as-accepted ok = read ∙ header-granted header m ok (omega (arith, room))
@@ -94,17 +94,17 @@ module _ {header : List ℕ} {x : ImageHeader} (stands : ImageStands header x) w
   start-is : x .start ≡ imageOf header .start
   start-is = ap (λ (i : ImageHeader). i .start) (stands .says)
 
-  pub row-most : x .width ≤ 4096
-  row-most = rw width-is (width-most header (stands .held) (stands .accepted))
+  pub stands-narrow : x .width ≤ 4096
+  stands-narrow = rw width-is (imageWidth-most header (stands .held) (stands .accepted))
 
-  pub row-none : length header < x .start → 0 ≡ rowSpan header
-  row-none h = sym (span-cut header (stands .held) (stands .accepted) (rw start-is at h))
+  pub stands-cut : length header < x .start → 0 ≡ rowSpan header
+  stands-cut h = sym (rowSpan-cut header (stands .held) (stands .accepted) (rw start-is at h))
 
-  pub row-whole : x .start ≤ length header → 2 * x .width ≡ rowSpan header
-  row-whole h = rw width-is (sym (span-whole header (stands .held) (stands .accepted) (rw start-is at h)))
+  pub stands-whole : x .start ≤ length header → 2 * x .width ≡ rowSpan header
+  stands-whole h = rw width-is (sym (rowSpan-whole header (stands .held) (stands .accepted) (rw start-is at h)))
 
   pub before-none : RowsBefore header 0
-  before-none = record { image = []; taken = taken-none header (stands .held) (stands .accepted) }
+  before-none = record { image = []; taken = rowsTaken-none header (stands .held) (stands .accepted) }
 
   module _ {r : ℕ} (before : RowsBefore header r) where
     pub all-ended : x .rows ≤ r → Ended header [] 0 0 r
@@ -133,7 +133,7 @@ module _ {header : List ℕ} {x : ImageHeader} (stands : ImageStands header x) w
         pub before-more : RowsBefore header (r + 1)
         before-more = record {
           image = before .image ++ held;
-          taken = taken-more header (stands .held) (stands .accepted) (before .image) r (before .taken) held few less-here right;
+          taken = rowsTaken-more header (stands .held) (stands .accepted) (before .image) r (before .taken) held few less-here right;
         }
 
         pub row-next : NextRecord header held r (take (turn .count) m′)

@@ -2,12 +2,12 @@
 use Prim.Native.Nat.{ℕ, _+_, _-_, _*_, _≤_, _<_}
 use native.Mathlib.Omega.{arith}
 use mathlib.Core.Path.{_≡_, refl, sym, ap, _∙_}
-use mathlib.Core.Bool.{Bool, true, false}
+use mathlib.Core.Bool.{false}
 use mathlib.Core.List.{List, []}
 use lib.ListN.{length, take, length-take}
 use lib.Seq.{take-all, take-take}
 use lib.Dec.{ltb}
-use borrow.Author.Tests.{ltb-true, ltb-false, lt-ltb, le-ltb}
+use borrow.Author.Tests.{ltb-true, ltb-false}
 use borrow.Rule.Slice.PartMut.{putMid, take-put}
 use Rattle.row_format.specs.Lists.{any}
 use Rattle.row_format.specs.Lists.Laws.{by-test}
@@ -28,9 +28,9 @@ stands-place s =
     (λ u. t ∙ sym u))
 
 -- there is none in no bytes
-pub no-end : stands "END     " (headerCards []) ≡ false
+pub end-in-none : stands "END     " (headerCards []) ≡ false
 unfolding cardsOf any
-no-end = refl
+end-in-none = refl
 
 -- in k blocks at the front of m there is none, and then c bytes y of the next came
 pub held-block : (k c n : ℕ) (m y : List ℕ) → k < 10 → c ≤ 2880 → 2880 * k ≤ length m

@@ -1,36 +1,36 @@
 -- The laws of a scan's turns: what converting comes to with the bytes that were taken, record by record. Assumes nothing.
-use Prim.Native.Nat.{ℕ, zero, suc, _+_, _*_, _≤_, _<_}
+use Prim.Native.Nat.{ℕ, _+_, _*_, _≤_, _<_}
 use native.Mathlib.Nat.{zero-add, zero-mul, mul-zero, not-suc-le-zero}
 use native.Mathlib.Numerals.{add-one}
 use native.Mathlib.Omega.{arith}
 use mathlib.Core.Path.{_≡_, refl, sym, ap, _∙_}
-use mathlib.Core.Bool.{true, false}
+use mathlib.Core.Bool.{true}
 use mathlib.Core.List.{List, [], _∷_, _++_, append-assoc, append-nil}
 use lib.ListN.{length, take, drop, length-append, length-drop, length-take, drop-of-length-le}
 use lib.Seq.{take-append-seam, drop-append-le, drop-at}
 use lib.Dec.{ltb}
 use borrow.Author.Tests.{ltb-true, ltb-false, lt-ltb, le-ltb}
-use Rattle.answer.specs.Outcome.{outcome, writes, lent, roomNumber}
+use Rattle.answer.specs.Outcome.{outcome, writes}
 use Rattle.answer.specs.Outcome.Laws.{lessNumber-none, unless-first, unless-refused}
 use Rattle.row_format.specs.Lists.Laws.{by-test}
-use Rattle.fits_format.specs.declared.ImageHeader.{ImageHeader}
 use Rattle.fits_format.specs.Header.{headerCards, stands, headerNumber, imageStart, headerSpan, plainTableRecord, noImage, imageOf, headerRead, HeaderAccepted}
 use Rattle.fits_format.specs.Header.Laws.{length-plainTableRecord}
 use Rattle.fits_format.specs.Image.{rowRecord, imageRowNumber}
 use Rattle.fits_format.specs.Image.Call.{RowStands}
-use Rattle.fits_format.specs.Conversion.{RowsWritten, Conversion, headerRefused, afterHeader, conversion, rowCalls, rowAt, rowNumberAt, rowRecordAt, inOrder}
+use Rattle.fits_format.specs.Conversion.{RowsWritten, Conversion, headerRefused, afterHeader, conversion}
+use Rattle.fits_format.specs.Conversion.{rowCalls, rowAt, rowNumberAt, rowRecordAt, inOrder}
 use Rattle.fits_format.specs.Theorems.Header.{headerRead-accepted}
 use Rattle.fits_format.specs.Theorems.Span.{prefix-end}
 use Rattle.fits_to_sheet.specs.Verdict.{verdictText}
-use Rattle.fits_to_sheet.specs.Scan.{HeaderHeld, imageWidth, imageRows, rowSpan, ImageStands, Enough, FirstRecord, RowsTaken, NextRecord, Ended, EndVerdict}
+use Rattle.fits_to_sheet.specs.Scan.{HeaderHeld, imageWidth, imageRows, rowSpan, Enough, FirstRecord, RowsTaken, NextRecord, Ended, EndVerdict}
 use Rattle.fits_format.specs.Image.Room.{imageRowNumber-room}
-use Rattle.fits_to_sheet.specs.Scan.Rows.{rowRecord-front, imageRowNumber-front, imageRowNumber-stands, inOrder-same, inOrder-last, rows-written, bytes-written, fault-written, none-written}
+use Rattle.fits_to_sheet.specs.Scan.Rows.{rowRecord-front, imageRowNumber-front, imageRowNumber-stands, inOrder-same, inOrder-last, rowCalls-rows, rowCalls-records, rowCalls-number, rowCalls-none}
 
 -- ---- the header's call
 module _ (s m : List ℕ) where
-  pub header-refused : (headerNumber s ≡ 0 → ⊥) → headerRead s m ≡ outcome (noImage (headerNumber s)) m
+  pub headerRead-refused : (headerNumber s ≡ 0 → ⊥) → headerRead s m ≡ outcome (noImage (headerNumber s)) m
   unfolding headerRead
-  header-refused some = unless-first (headerNumber s) _ (λ e. outcome (noImage e) m) _ some
+  headerRead-refused some = unless-first (headerNumber s) _ (λ e. outcome (noImage e) m) _ some
 
   pub header-granted : headerNumber s ≡ 0 → 2078 ≤ length m → headerRead s m ≡ writes (imageOf s) plainTableRecord m
   unfolding headerRead
@@ -38,7 +38,8 @@ module _ (s m : List ℕ) where
       rw (ok, lessNumber-none (length m) (length plainTableRecord) 5 (omega (arith, length-plainTableRecord, enough)))
 
 -- what follows it, where it was read so
-conversion-read : (m : List ℕ) (lends : ℕ → List ℕ) (s header : List ℕ) → headerRead s m ≡ writes (imageOf header) plainTableRecord m
+conversion-read : (m : List ℕ) (lends : ℕ → List ℕ) (s header : List ℕ)
+    → headerRead s m ≡ writes (imageOf header) plainTableRecord m
     → conversion m lends s
     ≡ afterHeader plainTableRecord (rowCalls lends (imageWidth header) (imageRows header) 0 (drop (imageStart header) s))
 unfolding conversion
@@ -49,7 +50,7 @@ module _ (header : List ℕ) (some : headerNumber header ≡ 0 → ⊥) where
   conversion-refused : (m : List ℕ) (lends : ℕ → List ℕ) → conversion m lends header ≡ headerRefused (headerNumber header)
   unfolding conversion
   conversion-refused m lends =
-      rw (header-refused header m some) (unless-refused (headerNumber header) headerRefused _ some)
+      rw (headerRead-refused header m some) (unless-refused (headerNumber header) headerRefused _ some)
 
   pub ended-header : Ended header [] (headerNumber header) 0 0
   ended-header = record {
@@ -78,30 +79,30 @@ module _ (header : List ℕ) (held : HeaderHeld header) (ok : headerNumber heade
       rw (header-granted header plainTableRecord ok (omega (arith, length-plainTableRecord)))
       at (headerRead-accepted header plainTableRecord number)
 
-  pub width-most : w ≤ 4096
-  width-most = found .width-most
+  pub imageWidth-most : w ≤ 4096
+  imageWidth-most = found .width-most
 
-  span-is : headerSpan header ≡ imageStart header
+  headerSpan-is : headerSpan header ≡ imageStart header
   unfolding headerSpan
-  span-is = rw (found .end-stands)
+  headerSpan-is = rw (found .end-stands)
 
   most : length header ≤ imageStart header
-  most = omega (arith, ap length held, length-take (headerSpan header) header, span-is)
+  most = omega (arith, ap length held, length-take (headerSpan header) header, headerSpan-is)
 
   -- the block that has END is cut short, or it is whole
-  pub span-cut : length header < imageStart header → rowSpan header ≡ 0
+  pub rowSpan-cut : length header < imageStart header → rowSpan header ≡ 0
   unfolding rowSpan
-  span-cut h = rw (lt-ltb (length header) (imageStart header) h)
+  rowSpan-cut h = rw (lt-ltb (length header) (imageStart header) h)
 
-  pub span-whole : imageStart header ≤ length header → rowSpan header ≡ 2 * w
+  pub rowSpan-whole : imageStart header ≤ length header → rowSpan header ≡ 2 * w
   unfolding rowSpan
-  span-whole h = rw (le-ltb (length header) (imageStart header) h)
+  rowSpan-whole h = rw (le-ltb (length header) (imageStart header) h)
 
-  pub span-most : rowSpan header ≤ 2 * w
-  span-most =
+  pub rowSpan-most : rowSpan header ≤ 2 * w
+  rowSpan-most =
       by-test (ltb (length header) (imageStart header))
-      (λ t. omega (arith, span-cut (ltb-true (length header) (imageStart header) t)))
-      (λ t. omega (arith, span-whole (ltb-false (length header) (imageStart header) t)))
+      (λ t. omega (arith, rowSpan-cut (ltb-true (length header) (imageStart header) t)))
+      (λ t. omega (arith, rowSpan-whole (ltb-false (length header) (imageStart header) t)))
 
   module _ (m : List ℕ) (lends : ℕ → List ℕ) (enough : Enough m lends) where
     abbrev image-calls : List ℕ → RowsWritten
@@ -114,7 +115,7 @@ module _ (header : List ℕ) (held : HeaderHeld header) (ok : headerNumber heade
         by-test (ltb (length header) (imageStart header))
         (λ t.
         let short = ltb-true (length header) (imageStart header) t in
-        let size = none (span-cut short) in
+        let size = none (rowSpan-cut short) in
         cut x size (omega (arith, short)))
         (λ t.
         let long = ltb-false (length header) (imageStart header) t in
@@ -132,7 +133,8 @@ module _ (header : List ℕ) (held : HeaderHeld header) (ok : headerNumber heade
             → conversion m lends (header ++ x) ≡ afterHeader plainTableRecord (image-calls x)
         whole x e =
             let front = take-append-seam header x in
-            let end : stands "END     " (headerCards (take (length header) (header ++ x))) ≡ true = rw front (found .end-stands) in
+            let end : stands "END     " (headerCards (take (length header) (header ++ x))) ≡ true =
+            rw front (found .end-stands) in
             let same = prefix-end (length header) (header ++ x) m end in
             let read : headerRead (header ++ x) m ≡ writes (imageOf header) plainTableRecord m =
             sym same ∙ rw front (header-granted header m ok (enough .table)) in
@@ -153,7 +155,7 @@ module _ (header : List ℕ) (held : HeaderHeld header) (ok : headerNumber heade
 
       converted-bytes : conversion m lends (header ++ x) .bytes ≡ plainTableRecord ++ inOrder (rowRecordAt w x) 0 r
       converted-bytes =
-          rw (converted x none) (ap (plainTableRecord ++_) (bytes-written lends w n x r within right-here stops-here))
+          rw (converted x none) (ap (plainTableRecord ++_) (rowCalls-records lends w n x r within right-here stops-here))
 
       converted-ends : (e : ℕ) → (r < n → e ≡ imageRowNumber w r (rowAt w x r) 7178) → (r ≡ n → e ≡ 0)
           → conversion m lends (header ++ x) ≡ endedWith e r (conversion m lends (header ++ x) .bytes)
@@ -162,11 +164,11 @@ module _ (header : List ℕ) (held : HeaderHeld header) (ok : headerNumber heade
           by-test (ltb r n)
           (λ t.
           let h = ltb-true r n t in
-          fault-written lends w n x r within right-here stops-here h ∙ room r ∙ sym (faulty h))
+          rowCalls-number lends w n x r within right-here stops-here h ∙ room r ∙ sym (faulty h))
           (λ t.
           let h : r ≡ n = omega (arith, ltb-false r n t, within) in
-          none-written lends w n x r within right-here stops-here h ∙ sym (whole h)) in
-          rw (converted x none, number, rows-written lends w n x r within right-here stops-here)
+          rowCalls-none lends w n x r within right-here stops-here h ∙ sym (whole h)) in
+          rw (converted x none, number, rowCalls-rows lends w n x r within right-here stops-here)
 
   -- a row that is not there is refused
   absent-row : (r : ℕ) (s : List ℕ) → length s ≡ 0 → imageRowNumber w r s 7178 ≡ 0 → ⊥
@@ -185,8 +187,8 @@ module _ (header : List ℕ) (held : HeaderHeld header) (ok : headerNumber heade
         rw (append-nil header, append-nil plainTableRecord) at bytes;
   }
 
-  pub taken-none : RowsTaken header [] 0
-  taken-none = record {
+  pub rowsTaken-none : RowsTaken header [] 0
+  rowsTaken-none = record {
     within = omega arith;
     size = sym (mul-zero (rowSpan header));
     right = λ i h. absurd (not-suc-le-zero h);
@@ -204,7 +206,7 @@ module _ (header : List ℕ) (held : HeaderHeld header) (ok : headerNumber heade
     image-size =
         by-test (ltb (length header) (imageStart header))
         (λ t.
-        let none = image-none (span-cut (ltb-true (length header) (imageStart header) t)) in
+        let none = image-none (rowSpan-cut (ltb-true (length header) (imageStart header) t)) in
         by-test (ltb 0 r)
         (λ u.
         let there = row-there 0 (ltb-true 0 r u) .there in
@@ -212,7 +214,7 @@ module _ (header : List ℕ) (held : HeaderHeld header) (ok : headerNumber heade
         (λ u.
         let zero-rows : r ≡ 0 = omega (arith, ltb-false 0 r u) in
         rw zero-rows (omega (arith, none))))
-        (λ t. taken .size ∙ rw (span-whole (ltb-false (length header) (imageStart header) t)))
+        (λ t. taken .size ∙ rw (rowSpan-whole (ltb-false (length header) (imageStart header) t)))
 
     module _ (here : List ℕ) where
       -- those rows, and what is held of the next
@@ -256,7 +258,8 @@ module _ (header : List ℕ) (held : HeaderHeld header) (ok : headerNumber heade
           (λ i least most. old-record here i (omega (arith, most, h)))
 
       -- the next is refused, or there is none to come: nothing more is written
-      module _ (e : ℕ) (faulty : r < n → e ≡ imageRowNumber w r here 7178) (some : r < n → e ≡ 0 → ⊥) (whole : r ≡ n → e ≡ 0) where
+      module _ (e : ℕ) (faulty : r < n → e ≡ imageRowNumber w r here 7178) (some : r < n → e ≡ 0 → ⊥)
+          (whole : r ≡ n → e ≡ 0) where
         pub ended-rows : Ended header here 0 e r
         ended-rows = record {
           image = image;
@@ -279,7 +282,7 @@ module _ (header : List ℕ) (held : HeaderHeld header) (ok : headerNumber heade
         here-size : (length here ≡ 2 * w) × (rowSpan header ≡ 2 * w)
         here-size =
             let there = imageRowNumber-stands w r here 7178 right .there in
-            (omega (arith, there, few, span-most), omega (arith, there, few, span-most))
+            (omega (arith, there, few, rowSpan-most), omega (arith, there, few, rowSpan-most))
 
         all-right : (i : ℕ) → i < r + 1 → imageRowNumber w i (rowAt w (image ++ here) i) 7178 ≡ 0
         all-right i h =
@@ -289,8 +292,8 @@ module _ (header : List ℕ) (held : HeaderHeld header) (ok : headerNumber heade
             let last : i ≡ r = omega (arith, ltb-false i r t, h) in
             rw (last, new-row here) right)
 
-        pub taken-more : RowsTaken header (image ++ here) (r + 1)
-        taken-more = record {
+        pub rowsTaken-more : RowsTaken header (image ++ here) (r + 1)
+        rowsTaken-more = record {
           within = omega (arith, next);
           size =
               rw (here-size .1) (omega (arith, length-append image here, image-size, here-size .0));
@@ -304,7 +307,9 @@ module _ (header : List ℕ) (held : HeaderHeld header) (ok : headerNumber heade
           most = few;
           bytes = λ m lends enough.
               let stops : r + 1 < n → imageRowNumber w (r + 1) (rowAt w (image ++ here) (r + 1)) 7178 ≡ 0 → ⊥ =
-              λ h. absent-row (r + 1) (rowAt w (image ++ here) (r + 1)) (next-row here (r + 1) refl (omega (arith, here-size .0))) in
+              λ h.
+              let none-left = next-row here (r + 1) refl (omega (arith, here-size .0)) in
+              absent-row (r + 1) (rowAt w (image ++ here) (r + 1)) none-left in
               let none = both-none here few in
               let most : r + 1 ≤ n = omega (arith, next) in
               let bytes = converted-bytes m lends enough (image ++ here) none (r + 1) most all-right stops in
@@ -322,7 +327,10 @@ module _ (header : List ℕ) (held : HeaderHeld header) (ok : headerNumber heade
 -- ---- the verdict
 pub verdict-ended : {header held l : List ℕ} {number fault rows : ℕ} → Ended header held number fault rows
     → l ≡ verdictText number fault rows → EndVerdict header held l
-verdict-ended ended is = record {
-  image = ended .image;
+verdict-ended {header} {held} {l} {number} {fault} {rows} ended is = record {
+  number = number;
+  fault = fault;
+  rows = rows;
+  ended = ended;
   line = λ m lends enough. rw (ended .ends m lends enough) is;
 }

@@ -1,10 +1,9 @@
--- Rows one after another, as far as the first that is refused: a row looks at its own bytes alone, and the rows before it settle
--- what converting comes to. Assumes nothing.
+-- Rows one after another, as far as the first that is refused: a row looks at its own bytes alone, and the rows before it
+-- settle what converting comes to. Assumes nothing.
 use Prim.Native.Nat.{ℕ, zero, suc, _+_, _*_, _≤_, _<_}
 use native.Mathlib.Omega.{arith}
 use mathlib.Core.Path.{_≡_, refl, sym, ap, _∙_}
-use mathlib.Core.Bool.{true, false}
-use mathlib.Core.List.{List, [], _∷_, _++_, append-assoc, append-nil}
+use mathlib.Core.List.{List, _++_, append-assoc, append-nil}
 use lib.ListN.{length, length-append}
 use lib.Seq.{take-append-le}
 use lib.Dec.{ltb}
@@ -78,19 +77,19 @@ module _ (lends : ℕ → List ℕ) (w n : ℕ) (image : List ℕ) (r : ℕ) (wi
   not-after : r < x .rows → ⊥
   not-after h = stops (omega (arith, h, fault .within)) (fault .before r h)
 
-  pub rows-written : x .rows ≡ r
-  rows-written =
+  pub rowCalls-rows : x .rows ≡ r
+  rowCalls-rows =
       by-test (ltb (x .rows) r)
       (λ t. absurd (not-before (ltb-true (x .rows) r t)))
       (λ t. by-test (ltb r (x .rows))
       (λ u. absurd (not-after (ltb-true r (x .rows) u)))
       (λ u. omega (arith, ltb-false (x .rows) r t, ltb-false r (x .rows) u)))
 
-  pub bytes-written : x .bytes ≡ inOrder (rowRecordAt w image) 0 r
-  bytes-written = rw rows-written at (rowCalls-bytes lends w image n)
+  pub rowCalls-records : x .bytes ≡ inOrder (rowRecordAt w image) 0 r
+  rowCalls-records = rw rowCalls-rows at (rowCalls-bytes lends w image n)
 
-  pub fault-written : r < n → x .number ≡ rowNumberAt lends w image r
-  fault-written h = fault .faulty (omega (arith, h, rows-written)) .0 ∙ ap (rowNumberAt lends w image) rows-written
+  pub rowCalls-number : r < n → x .number ≡ rowNumberAt lends w image r
+  rowCalls-number h = fault .faulty (omega (arith, h, rowCalls-rows)) .0 ∙ ap (rowNumberAt lends w image) rowCalls-rows
 
-  pub none-written : r ≡ n → x .number ≡ 0
-  none-written h = fault .whole (rows-written ∙ h)
+  pub rowCalls-none : r ≡ n → x .number ≡ 0
+  rowCalls-none h = fault .whole (rowCalls-rows ∙ h)

@@ -18,7 +18,8 @@ end-requires c κs =
     let answered = c .before .before .before .before in
     let start = answered .before .before .before .before .before .before in
     let args = start .args in
-    answered-refused (args .header .now) (args .out .now) (start .pre .1 .1) (answered .fits-header .ensures) (c .before .if1 .taken)
+    let answer = answered .fits-header .ensures in
+    answered-refused (args .header .now) (args .out .now) (start .pre .1 .1) answer (c .before .if1 .taken)
 
 same-length : tie.Need-same-length
 same-length c = search needs
@@ -43,7 +44,8 @@ slice-aggregate-print-table c =
     let start = answered .before .before .before .before .before .before in
     let args = start .args in
     let answer = answered .fits-header .ensures in
-    let within = answered-within (args .header .now) (args .out .now) (start .pre .1 .1) answer (start .pre .0) (c .before .before .if1 .left) in
+    let none = c .before .before .if1 .left in
+    let within = answered-within (args .header .now) (args .out .now) (start .pre .1 .1) answer (start .pre .0) none in
     sym (length-take-le (answered .fits-header .result .count) (answered .fits-header .last .1 .0) within)
 
 print-table-requires : tie.Need-print-table-requires
@@ -52,15 +54,17 @@ print-table-requires c κs =
     let start = answered .before .before .before .before .before .before in
     let args = start .args in
     let answer = answered .fits-header .ensures in
-    answered-first (args .header .now) (args .out .now) (start .pre .1 .1) answer (start .pre .0) (c .before .before .if1 .left)
+    let none = c .before .before .if1 .left in
+    answered-first (args .header .now) (args .out .now) (start .pre .1 .1) answer (start .pre .0) none
 
 convert-image-requires : tie.Need-convert-image-requires
 convert-image-requires c κs =
     let answered = c .before .before .before .before .before .before .before .before .before in
     let start = answered .before .before .before .before .before .before in
     let args = start .args in
-    let answer = answered .fits-header .ensures in (
-      answered-stands (args .header .now) (args .out .now) (start .pre .1 .1) answer (start .pre .0) (c .before .before .before .before .before .before .if1 .left),
+    let answer = answered .fits-header .ensures in
+    let none = c .before .before .before .before .before .before .if1 .left in (
+      answered-stands (args .header .now) (args .out .now) (start .pre .1 .1) answer (start .pre .0) none,
       (start .pre .1 .0, omega (arith, answered .fits-header .kept, start .pre .1 .1)),
     )
 

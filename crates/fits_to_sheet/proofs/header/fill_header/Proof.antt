@@ -1,14 +1,14 @@
--- `fits_to_sheet::header::fill_header` meets its contract. The loop's invariant: the memory keeps its length, at most ten blocks
--- were read, and END stands in none of them. The measure is the blocks that are left. Assumes nothing.
+-- `fits_to_sheet::header::fill_header` meets its contract. The loop's invariant: the memory keeps its length, at most ten
+-- blocks were read, and END stands in none of them. The measure is the blocks that are left. Assumes nothing.
 use Prim.Native.Nat.{_+_, _-_, _*_, _≤_, _<_}
 use native.Mathlib.Omega.{arith}
-use mathlib.Core.Path.{_≡_, refl, sym, ap, _∙_}
+use mathlib.Core.Path.{_≡_, refl, sym, _∙_}
 use mathlib.Core.Bool.{false}
-use lib.ListN.{length, take, drop, length-take}
+use lib.ListN.{length, take}
 use lib.Seq.{length-take-le}
 use borrow.Rule.Slice.PartMut.{putMid, same-len-mid}
 use Rattle.fits_format.specs.Header.{headerCards, stands}
-use Rattle.fits_to_sheet.specs.Scan.Header.{no-end, held-block, held-ten}
+use Rattle.fits_to_sheet.specs.Scan.Header.{end-in-none, held-block, held-ten}
 use borrow.Author.Needs.{needs}
 use Rattle.fits_to_sheet.proofs.header.fill_header.Statement.{statement}
 use Rattle.fits_to_sheet.proofs.header.fill_header.Tie as tie
@@ -21,7 +21,7 @@ abbrev μ-loop : tie.MeasureT-loop
 μ-loop file name bytes₀ blocks₀ bytes blocks = 10 - blocks
 
 loop-holds : tie.Need-loop-holds Inv-loop μ-loop
-loop-holds c = (refl, omega arith, no-end)
+loop-holds c = (refl, omega arith, end-in-none)
 
 mul-start : tie.Need-mul-start Inv-loop μ-loop
 mul-start c = search needs
@@ -57,9 +57,10 @@ returns c =
     let count = filled .fill-block .result .count in
     let here : k < 10 = filled .before .before .loop-test .taken in
     let part : count ≤ 2880 = omega (arith, c .if1 .taken) in
-    let there : 2880 * k ≤ length m = omega (arith, at-loop .loop .inv .0, start .pre, here) in (
+    let there : 2880 * k ≤ length m = omega (arith, at-loop .loop .inv .0, start .pre, here) in
+    let none = at-loop .loop .inv .2 in (
       omega (arith, here, part),
-      held-block k count (2880 * k + 2880 - 2880 * k) m (filled .fill-block .last .1 .1 .0) here part there (at-loop .loop .inv .2),
+      held-block k count (2880 * k + 2880 - 2880 * k) m (filled .fill-block .last .1 .1 .0) here part there none,
     )
 
 slice-reshare-prefix-has-end : tie.Need-slice-reshare-prefix-has-end Inv-loop μ-loop
@@ -92,9 +93,10 @@ returns-2 c =
     let k = at-loop .loop .blocks in
     let m = at-loop .loop .bytes in
     let here : k < 10 = filled .before .before .loop-test .taken in
-    let there : 2880 * k ≤ length m = omega (arith, at-loop .loop .inv .0, start .pre, here) in (
+    let there : 2880 * k ≤ length m = omega (arith, at-loop .loop .inv .0, start .pre, here) in
+    let none = at-loop .loop .inv .2 in (
       omega (arith, here),
-      held-block k 2880 (2880 * k + 2880 - 2880 * k) m (filled .fill-block .last .1 .1 .0) here (omega arith) there (at-loop .loop .inv .2),
+      held-block k 2880 (2880 * k + 2880 - 2880 * k) m (filled .fill-block .last .1 .1 .0) here (omega arith) there none,
     )
 
 add-blocks : tie.Need-add-blocks Inv-loop μ-loop

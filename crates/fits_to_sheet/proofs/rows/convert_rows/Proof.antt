@@ -1,6 +1,5 @@
--- `fits_to_sheet::rows::convert_rows` meets its contract. The loop's invariant: the memory keeps its lengths, r is at most the
--- rows, and for some bytes that were taken, r rows were, none of which is refused. The measure is the rows that are left. Assumes
--- nothing.
+-- `fits_to_sheet::rows::convert_rows` meets its contract. The loop's invariant: the memory keeps its lengths, and for some
+-- bytes r rows were taken, none of which is refused. The measure is the rows that are left. Assumes nothing.
 use Prim.Native.Nat.{_-_, _≤_}
 use native.Mathlib.Omega.{arith}
 use mathlib.Core.Path.{_≡_, refl, sym, ap}
@@ -16,7 +15,7 @@ use Rattle.fits_to_sheet.proofs.rows.convert_rows.Tie as tie
 
 abbrev Inv-loop : tie.InvT-loop
 Inv-loop file name header row₀ out₀ width rows span r₀ row out r =
-    (length row ≡ length row₀) × (length out ≡ length out₀) × (r ≤ rows) × RowsBefore header r
+    (length row ≡ length row₀) × (length out ≡ length out₀) × RowsBefore header r
 
 abbrev μ-loop : tie.MeasureT-loop
 μ-loop file name header row₀ out₀ width rows span r₀ row out r = rows - r
@@ -31,13 +30,13 @@ row-span-requires : tie.Need-row-span-requires Inv-loop μ-loop
 row-span-requires c κs = search needs
 
 loop-holds : tie.Need-loop-holds Inv-loop μ-loop
-loop-holds c = (refl, refl, omega arith, before-none (c .before .before .before .before .before .before .before .pre .0))
+loop-holds c = (refl, refl, before-none (c .before .before .before .before .before .before .before .pre .0))
 
 take-row-requires : tie.Need-take-row-requires Inv-loop μ-loop
 take-row-requires c κs = search needs
 
-fail-requires : tie.Need-fail-requires Inv-loop μ-loop
-fail-requires c κs = search needs
+unfinished-requires : tie.Need-unfinished-requires Inv-loop μ-loop
+unfinished-requires c κs = search needs
 
 same-length : tie.Need-same-length Inv-loop μ-loop
 same-length c = search needs
@@ -47,7 +46,7 @@ same-length-2 c = search needs
 
 returns : tie.Need-returns Inv-loop μ-loop
 returns c =
-    let failed = c .fail .ensures in
+    let failed = c .unfinished .ensures in
     (rw failed (omega arith), λ f. true-false (ap (λ (x : Rows). x .failed) failed) f)
 
 same-length-3 : tie.Need-same-length-3 Inv-loop μ-loop
@@ -69,9 +68,10 @@ returns-2 c =
     let few : length (take held row) ≤ rowSpan (start .args .header .now) =
     omega (arith, length-take held row, turn .take-row .ensures .0, spanned .row-span .ensures .0) in
     let made = turn .take-row .ensures .1 .1 in
-    let before = at-loop .loop .inv .3 in
+    let before = at-loop .loop .inv .2 in
     let less = inside .loop-test .taken in
-    (omega (arith, turn .take-row .ensures .0, spanned .row-span .ensures .1), λ f. row-ended stands before less few made (c .if2 .taken))
+    let most = spanned .row-span .ensures .1 in
+    (omega (arith, turn .take-row .ensures .0, most), λ f. row-ended stands before less few made (c .if2 .taken))
 
 slice-reshare-prefix-print-row : tie.Need-slice-reshare-prefix-print-row Inv-loop μ-loop
 slice-reshare-prefix-print-row c = search needs
@@ -108,7 +108,7 @@ print-row-requires c κs =
     let few : length (take held row) ≤ rowSpan (start .args .header .now) =
     omega (arith, length-take held row, turn .take-row .ensures .0, spanned .row-span .ensures .0) in
     let made = turn .take-row .ensures .1 .1 in
-    let before = at-loop .loop .inv .3 in
+    let before = at-loop .loop .inv .2 in
     let less = inside .loop-test .taken in
     row-next stands before less few made (c .before .before .if2 .left)
 
@@ -131,17 +131,16 @@ loop-again c =
     let few : length (take held row) ≤ rowSpan (start .args .header .now) =
     omega (arith, length-take held row, turn .take-row .ensures .0, spanned .row-span .ensures .0) in
     let made = turn .take-row .ensures .1 .1 in
-    let before = at-loop .loop .inv .3 in
+    let before = at-loop .loop .inv .2 in
     let less = inside .loop-test .taken in
     let kept = turn .take-row .kept in (
       omega (arith, kept),
       omega (arith, kept),
-      omega (arith, less),
       before-more stands before less few made (c .before .before .before .before .if2 .left),
     )
 
-fail-requires-2 : tie.Need-fail-requires-2 Inv-loop μ-loop
-fail-requires-2 c κs = search needs
+unfinished-requires-2 : tie.Need-unfinished-requires-2 Inv-loop μ-loop
+unfinished-requires-2 c κs = search needs
 
 same-length-5 : tie.Need-same-length-5 Inv-loop μ-loop
 same-length-5 c = search needs
@@ -151,7 +150,7 @@ same-length-6 c = search needs
 
 returns-3 : tie.Need-returns-3 Inv-loop μ-loop
 returns-3 c =
-    let failed = c .fail2 .ensures in
+    let failed = c .unfinished2 .ensures in
     (rw failed (omega arith), λ f. true-false (ap (λ (x : Rows). x .failed) failed) f)
 
 same-length-7 : tie.Need-same-length-7 Inv-loop μ-loop
@@ -163,7 +162,8 @@ same-length-8 c = search needs
 returns-4 : tie.Need-returns-4 Inv-loop μ-loop
 returns-4 c =
     let at-loop = c .before in
-    (omega arith, λ f. all-ended (at-loop .before .before .before .before .before .before .before .before .pre .0) (at-loop .loop .inv .3) (c .loop-test .left))
+    let start = at-loop .before .before .before .before .before .before .before .before in
+    (omega arith, λ f. all-ended (start .pre .0) (at-loop .loop .inv .2) (c .loop-test .left))
 
 pub convert-rows-spec : {M : Type 1} → statement M
 convert-rows-spec =
@@ -176,7 +176,7 @@ convert-rows-spec =
     row-span-requires
     loop-holds
     take-row-requires
-    fail-requires
+    unfinished-requires
     same-length
     same-length-2
     returns
@@ -191,7 +191,7 @@ convert-rows-spec =
     add-r
     loop-less
     loop-again
-    fail-requires-2
+    unfinished-requires-2
     same-length-5
     same-length-6
     returns-3

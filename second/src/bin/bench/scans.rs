@@ -30,22 +30,26 @@ pub fn print() {
     println!(
         "  pack  the packing of the same rows under the plain table, which the proved call checks"
     );
-    println!("        each time and second/ has checked before");
+    println!("        each time and second/ has checked before; \"pack alone\" is without that \"check\"");
     println!("{:<11} {:>8} {:>8} {:>7}", "call", "proved", "second", "p/s");
-    let [rows, packing] = times().map(|sides| sides.map(|time| 1e9 * time / (WIDTH * ROWS) as f64));
-    for (call, [proved, second]) in [("row", rows), ("pack", packing)] {
+    let [row, second_row, pack, second_pack, check] =
+        times().map(|time| 1e9 * time / (WIDTH * ROWS) as f64);
+    let line = |call: &str, [proved, second]: [f64; 2]| {
         println!("{call:<11} {proved:>8.2} {second:>8.2} {:>7.3}", proved / second);
-    }
-    let side = |side: usize| (rows[side] - packing[side], rows[side] / packing[side]);
-    let [(more, ratio), (second_more, second_ratio)] = [side(0), side(1)];
-    println!("{:<11} {more:>8.2} {second_more:>8.2}", "row - pack");
-    println!("{:<11} {ratio:>8.3} {second_ratio:>8.3}", "row / pack");
+    };
+    line("row", [row, second_row]);
+    line("pack", [pack, second_pack]);
+    println!("{:<11} {check:>8.2}", "check");
+    let alone = pack - check;
+    line("pack alone", [alone, second_pack]);
+    println!("{:<11} {:>8.2} {:>8.2}", "row - alone", row - alone, second_row - second_pack);
+    println!("{:<11} {:>8.3} {:>8.3}", "row / alone", row / alone, second_row / second_pack);
     println!();
 }
 
 /// Seconds for the whole image: the row call and packing, each proved and
-/// second.
-fn times() -> [[f64; 2]; 2] {
+/// second, and as many checks as it has rows.
+fn times() -> [f64; 5] {
     let (converter, plain, rows) = (Converter::default(), plain_table(), rows());
     let table = &converter.codec().table;
     assert_alike(&converter, &rows);
@@ -54,13 +58,14 @@ fn times() -> [[f64; 2]; 2] {
         |place, row: &Row, out: &mut [u8]| ffi::fits_row(width, place, &row.big_endian, out).pair();
     let second_row =
         |place, row: &Row, out: &mut [u8]| converter.row(width, place, &row.big_endian, out).pair();
-    let [row, row_second, pack, pack_second] = best_by_turns([
+    let times = best_by_turns([
         &mut each(&rows, proved_row),
         &mut each(&rows, second_row),
         &mut each(&rows, |_, row, out| ffi::pack(&plain, &row.pixels, out)),
         &mut each(&rows, |_, row, out| pack_under(table, &row.pixels, out)),
+        &mut each(&rows, |_, _, _| ffi::check(black_box(&plain))),
     ]);
-    [[row, row_second], [pack, pack_second]]
+    times
 }
 
 /// Makes a call for each row.

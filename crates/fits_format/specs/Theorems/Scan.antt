@@ -15,7 +15,8 @@ use Rattle.fits_format.specs.Theorems.Header.{headerRead-number}
 use Rattle.fits_format.specs.Conversion.Sheet.{RowRight, image-sheet}
 
 module _ (m : List ℕ) (lends : ℕ → List ℕ) (s : List ℕ) where
-  pub scan-refused : (headerRead s m .answer .number ≡ 0 → ⊥) → conversion m lends s ≡ headerRefused (headerRead s m .answer .number)
+  pub scan-refused : (headerRead s m .answer .number ≡ 0 → ⊥)
+      → conversion m lends s ≡ headerRefused (headerRead s m .answer .number)
   unfolding conversion
   scan-refused some = unless-refused (headerRead s m .answer .number) headerRefused _ some
 
@@ -39,14 +40,16 @@ module _ (m : List ℕ) (lends : ℕ → List ℕ) (s : List ℕ) where
     scan-is = rw (ok, table-counted)
 
     pub scan-fault : let c = conversion m lends s in
-        (c .header ≡ 0) × FirstFault (rowNumberAt lends (headerRead s m .answer .width) image) (headerRead s m .answer .rows) (c .rows) (c .fault)
+        (c .header ≡ 0)
+        × FirstFault (rowNumberAt lends (headerRead s m .answer .width) image) (headerRead s m .answer .rows) (c .rows) (c .fault)
     scan-fault = rw scan-is (refl, rowCalls-fault lends (headerRead s m .answer .width) image (headerRead s m .answer .rows))
 
     pub scan-bytes : let c = conversion m lends s in
         c .bytes ≡ plainTableRecord ++ inOrder (rowRecordAt (headerRead s m .answer .width) image) 0 (c .rows)
     scan-bytes =
         rw scan-is
-        (ap (λ (b : List ℕ). plainTableRecord ++ b) (rowCalls-bytes lends (headerRead s m .answer .width) image (headerRead s m .answer .rows)))
+        (ap (λ (b : List ℕ). plainTableRecord ++ b)
+        (rowCalls-bytes lends (headerRead s m .answer .width) image (headerRead s m .answer .rows)))
 
     -- the rows before the fault are right
     rows-right : (i : ℕ) → i < conversion m lends s .rows

@@ -53,7 +53,9 @@ returns-5 c =
 
 returns-6 : tie.Need-returns-6
 returns-6 c =
-    let at-start = c .before .before .before .before .before .before .before .before .before in
+    let at-else4 = c .before .before in
+    let at-else3 = at-else4 .before .before in
+    let at-start = at-else3 .before .before .before .before .before in
     image-refused (at-start .args .fits .now) (sym (c .before .is-image .ensures) ∙ c .if5 .left)
 
 pub unfit-number-spec : {M : Type 1} → statement M

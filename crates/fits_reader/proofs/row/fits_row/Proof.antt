@@ -21,7 +21,8 @@ cast-write-row : tie.Need-cast-write-row
 cast-write-row c =
     let judged = c .before in
     let args = judged .before .before .before .args in
-    let stands = beforePixels-zero (args .width) (args .row) (length (args .image .now)) (sym (judged .row-number .ensures) ∙ c .if1 .left) in
+    let none = sym (judged .row-number .ensures) ∙ c .if1 .left in
+    let stands = beforePixels-zero (args .width) (args .row) (length (args .image .now)) none in
     record { fits = omega (arith, stands .low) }
 
 write-row-requires : tie.Need-write-row-requires

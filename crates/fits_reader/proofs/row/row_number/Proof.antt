@@ -32,7 +32,8 @@ returns-4 c =
     let at-if3 = c .before in
     let at-if2 = at-if3 .before in
     let args = at-if2 .before .before .args in
-    let rest = beforePixels-rest (args .width) (args .row) (args .bytes) (at-if2 .before .if1 .left) (at-if2 .if2 .left) (at-if3 .if3 .left) in
+    let some = at-if2 .before .if1 .left in
+    let rest = beforePixels-rest (args .width) (args .row) (args .bytes) some (at-if2 .if2 .left) (at-if3 .if3 .left) in
     sym (rest ∙ lessNumber-given (args .bytes) (2 * args .width) 18 (omega (arith, c .if4 .taken)))
 
 returns-5 : tie.Need-returns-5
@@ -40,7 +41,8 @@ returns-5 c =
     let at-if3 = c .before in
     let at-if2 = at-if3 .before in
     let args = at-if2 .before .before .args in
-    let rest = beforePixels-rest (args .width) (args .row) (args .bytes) (at-if2 .before .if1 .left) (at-if2 .if2 .left) (at-if3 .if3 .left) in
+    let some = at-if2 .before .if1 .left in
+    let rest = beforePixels-rest (args .width) (args .row) (args .bytes) some (at-if2 .if2 .left) (at-if3 .if3 .left) in
     sym (rest ∙ lessNumber-none (args .bytes) (2 * args .width) 18 (omega (arith, c .if4 .left)))
 
 pub row-number-spec : {M : Type 1} → statement M

@@ -59,11 +59,12 @@ print-table-requires c κs =
 
 convert-image-requires : tie.Need-convert-image-requires
 convert-image-requires c κs =
-    let answered = c .before .before .before .before .before .before .before .before .before in
+    let accepted = c .before .before .before .before .before .before in
+    let answered = accepted .before .before .before in
     let start = answered .before .before .before .before .before .before in
     let args = start .args in
     let answer = answered .fits-header .ensures in
-    let none = c .before .before .before .before .before .before .if1 .left in (
+    let none = accepted .if1 .left in (
       answered-stands (args .header .now) (args .out .now) (start .pre .1 .1) answer (start .pre .0) none,
       (start .pre .1 .0, omega (arith, answered .fits-header .kept, start .pre .1 .1)),
     )

@@ -120,7 +120,8 @@ loop-less c = search needs
 
 loop-again : tie.Need-loop-again Inv-loop μ-loop
 loop-again c =
-    let turn = c .before .before .before .before .before .before .before .before .before .before in
+    let counted = c .before .before .before .before .before in
+    let turn = counted .before .before .before .before .before in
     let inside = turn .before .before .before in
     let at-loop = inside .before in
     let spanned = at-loop .before in

@@ -382,7 +382,7 @@ int main(int argc, char **argv)
 {
     int stored = argc == 3 && strcmp(argv[1], "--stored") == 0;
     if (argc != 2 && !stored) {
-        fprintf(stderr, "usage: interop [--stored] FOLDER\n");
+        fprintf(stderr, "usage: interop_writer [--stored] FOLDER\n");
         return EXIT_FAILURE;
     }
     folder = argv[argc - 1];

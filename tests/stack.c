@@ -1,7 +1,8 @@
 /*
  * The stack that each call takes, on the inputs that take most: a table of 8190 strings of up to 27 bits, a row of 4096
- * pixels, a record of each kind, a FITS header of ten blocks. A call runs on a thread whose stack was painted before; what is no longer painted was used.
- * It fails where a call takes more than the header asks for. With an argument it prints the bytes of each call.
+ * pixels, a record of each kind, a FITS header of ten blocks. A call runs on a thread whose stack was painted before; what
+ * is no longer painted was used. It fails where a call takes more than the header asks for. With an argument it prints the
+ * bytes of each call.
  */
 #define _POSIX_C_SOURCE 200809L
 #include <pthread.h>

@@ -50,9 +50,9 @@ pub fn help(file: i32) -> bool {
 
 Turns a scan, a FITS image of two axes and 16-bit pixels from 0 to 4095, into a
 sheet on standard output, a row at a time. How it ended is the last line on
-standard error: done rows N; refused N, where the header is refused; or refused N
-at row K, where the rows before that one stand. With no FILE, and where FILE is -,
-it reads standard input.
+standard error: done rows N; refused N, where the header is refused; or
+refused N at row K, where the rows before that one stand. With no FILE, and
+where FILE is -, it reads standard input.
 
   --help     prints this
   --version  prints the version

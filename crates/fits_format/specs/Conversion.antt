@@ -8,8 +8,8 @@ use lib.ListN.{length, take, drop}
 use lib.IntN.{pos}
 use Rattle.answer.specs.declared.Answer.{Answer}
 use Rattle.answer.specs.Outcome.{Outcome, unless}
-use Rattle.sheet_format.specs.Sheet.{SheetRecord, StoredRow, sheetRead, storedRows, heightsOf, absent, present}
-use Rattle.fits_format.specs.Header.{headerRead, plainTableRecord}
+use Rattle.sheet_format.specs.Sheet.{sheetRead, storedRows, heightsOf, absent, present}
+use Rattle.fits_format.specs.Header.{headerRead}
 use Rattle.fits_format.specs.Image.{signedPixels, rowRecord, imageRowNumber, imageRow}
 pub mod Laws
 pub mod Sheet

@@ -7,7 +7,7 @@ use mathlib.Core.Bool.{Bool, true, false, cond, not}
 use mathlib.Core.List.{List, [], _∷_}
 use lib.ListN.{length, take, drop, getD}
 use lib.Dec.{ltb, eqb}
-use lib.IntN.{ℤ, pos, negsuc}
+use lib.IntN.{pos, negsuc}
 use Rattle.answer.specs.Outcome.{Outcome, outcome, writes, _orElse_, refuseIf, unless, lent, roomNumber}
 use Rattle.row_format.specs.Lists.{any}
 use Rattle.row_format.specs.Plain.{plainBytes}

@@ -3,8 +3,8 @@
 -- call, as it was, and lends i the memory lent for row i. Assumes nothing.
 use Prim.Native.Nat.{ℕ, _+_, _*_, _≤_}
 use mathlib.Core.Path.{_≡_}
-use mathlib.Core.Bool.{true, false}
-use mathlib.Core.List.{List, [], _∷_, _++_, map}
+use mathlib.Core.Bool.{true}
+use mathlib.Core.List.{List, _++_, map}
 use lib.ListN.{length, take, drop}
 use lib.Dec.{eqb}
 use lib.IntN.{pos}
@@ -14,7 +14,7 @@ use Rattle.fits_format.specs.Header.{headerCards, stands, endCard, heade
 use Rattle.fits_format.specs.Image.{signedPixels, outOfRange, rowHeights, beforePixels, imageRowNumbers, imageRow}
 use Rattle.fits_format.specs.Conversion.{rowCalls, headerRefused, conversion, rowNumberAt, rowRecordAt, inOrder, FirstFault, SheetOfImage}
 use Rattle.fits_format.specs.Conversion.Laws.{rowCalls-fault, rowCalls-bytes}
-use Rattle.fits_format.specs.Conversion.Alike.{imageRow-take, rowCalls-alike, conversion-alike}
+use Rattle.fits_format.specs.Conversion.Alike.{imageRow-take, conversion-alike}
 use Header.{headerRead-numbers, headerRead-kept, headerRead-within, headerRead-accepted}
 use Row.{imageRow-numbers, imageRow-kept, imageRow-within, imageRow-pixel, imageRow-same, imageRow-room-enough}
 use Start.{blocks-start}

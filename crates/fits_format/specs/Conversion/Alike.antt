@@ -10,7 +10,7 @@ use lib.Dec.{ltb}
 use borrow.Author.Tests.{ltb-true, ltb-false, le-ltb}
 use Rattle.row_format.specs.Lists.Laws.{by-test, drop-take}
 use Rattle.fits_format.specs.Header.{headerRead}
-use Rattle.fits_format.specs.Image.{bigEndian, rowRecord, beforePixels, imageRowNumber, imageRow}
+use Rattle.fits_format.specs.Image.{rowRecord, beforePixels, imageRowNumber, imageRow}
 use Rattle.fits_format.specs.Image.Laws.{bigEndian-take}
 use Rattle.fits_format.specs.Conversion.{rowCalls, conversion}
 

@@ -3,14 +3,13 @@ use Prim.Native.Nat.{ℕ, zero, suc, _+_, _*_, _≤_, _<_}
 use native.Mathlib.Nat.{zero-add, add-zero, mul-zero, not-suc-le-zero, le-of-suc-le-suc}
 use native.Mathlib.Omega.{arith}
 use mathlib.Core.Path.{_≡_, refl, sym, ap, _∙_}
-use mathlib.Core.List.{List, [], _++_}
-use lib.ListN.{length, take, drop}
+use mathlib.Core.List.{List, _++_}
+use lib.ListN.{drop}
 use lib.Seq.{drop-drop}
-use Rattle.answer.specs.Outcome.{Outcome, unless}
 use Rattle.answer.specs.Outcome.Laws.{unless-in}
-use Rattle.fits_format.specs.Image.{rowRecord, imageRowNumber, imageRow}
+use Rattle.fits_format.specs.Image.{imageRow}
 use Rattle.fits_format.specs.Image.Call.{imageRow-number, imageRow-counted}
-use Rattle.fits_format.specs.Conversion.{RowsWritten, rowsEnd, rowFirst, bytesCounted, rowCalls, rowAt, rowNumberAt, rowRecordAt, inOrder, FirstFault}
+use Rattle.fits_format.specs.Conversion.{RowsWritten, rowsEnd, rowFirst, rowCalls, rowAt, rowNumberAt, rowRecordAt, inOrder, FirstFault}
 
 -- the image's bytes from the next row on
 pub rowAt-next : (w : ℕ) (image : List ℕ) (r : ℕ) → drop (2 * w) (rowAt w image r) ≡ rowAt w image (suc r)

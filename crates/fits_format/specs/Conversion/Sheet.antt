@@ -5,31 +5,28 @@ use native.Mathlib.Numerals.{add-one}
 use native.Mathlib.Omega.{arith}
 use mathlib.Core.Path.{_≡_, refl, sym, ap, _∙_}
 use mathlib.Core.Bool.{false}
-use mathlib.Core.List.{List, [], _∷_, _++_, map}
-use lib.ListN.{length, take, drop}
-use lib.Dec.{ltb, eqb}
-use lib.IntN.{pos}
+use mathlib.Core.List.{List, [], _∷_, _++_}
+use lib.ListN.{length}
+use lib.Dec.{ltb}
 use borrow.Author.Tests.{eq-eqb, ne-eqb}
 use Rattle.bitstream.specs.Bits.{halvesOf, flat, Below}
 use Rattle.bitstream.specs.Bits.Laws.{below-cut, below-flat}
-use Rattle.answer.specs.Outcome.{refuseIf, _orElse_}
 use Rattle.answer.specs.Outcome.Laws.{lessNumber-none}
 use Rattle.row_format.specs.Lists.{any}
 use Rattle.row_format.specs.Row.{pixelBytes, tooHigh}
 use Rattle.row_format.specs.Theorems.Words.{halvesOf-bytesOf}
 use Rattle.row_format.specs.Plain.{plainTable, plainBytes}
 use Rattle.code_table.specs.Plain.Laws.{plain-accepted}
-use Rattle.sheet_format.specs.Context.{Heading, noHeading, Context, newSheet}
+use Rattle.sheet_format.specs.Context.{noHeading, newSheet}
 use Rattle.sheet_format.specs.Kind.Table.{tablePlace}
 use Rattle.sheet_format.specs.Kind.Row.Laws.{halves-same}
-use Rattle.sheet_format.specs.Kind.PackedRow.{packedGivenNumber}
-use Rattle.sheet_format.specs.Writing.{recordFor, recordWritten, writeNumber, RecordWritable}
+use Rattle.sheet_format.specs.Writing.{recordFor, writeNumber, RecordWritable}
 use Rattle.sheet_format.specs.Writing.Laws.{writeNumber-writable, recordWritten-number, recordWritten-front}
 use Rattle.sheet_format.specs.Sheet.{StoredRow, SheetRead, sheetRead, storedRows, heightsOf, absent, present}
-use Rattle.sheet_format.specs.Given.{Write, writtenBy, contextWritten, bytesWritten, Done, AllDone, sheetBytes, givenBy, sheetGiven}
+use Rattle.sheet_format.specs.Given.{Write, bytesWritten, Done, AllDone, sheetBytes, givenBy, sheetGiven}
 use Rattle.sheet_format.specs.Theorems.Sheets.{sheetRead-written}
 use Rattle.fits_format.specs.Header.{plainTableRecord}
-use Rattle.fits_format.specs.Image.{bigEndian, twosComplement, signedPixels, outOfRange, rowHeights, imageContext, rowRecord, imageRowNumber}
+use Rattle.fits_format.specs.Image.{bigEndian, signedPixels, outOfRange, rowHeights, imageContext, rowRecord}
 use Rattle.fits_format.specs.Image.Laws.{length-bigEndian, outOfRange-any, heights-same, below-heights, pixels-same}
 use Rattle.fits_format.specs.Image.Call.{packed-number}
 use Rattle.fits_format.specs.Conversion.{rowAt, rowRecordAt, inOrder, SheetOfImage}

@@ -1,20 +1,20 @@
 -- The laws of the row call: what is asked before a pixel is looked at, and that the rest is what the record writer answers for
 -- a packed row under the plain table. Assumes nothing.
-use Prim.Native.Nat.{ℕ, zero, suc, _+_, _*_, _≤_, _<_}
+use Prim.Native.Nat.{ℕ, zero, suc, _*_, _≤_, _<_}
 use native.Mathlib.Omega.{arith}
 use mathlib.Core.Path.{_≡_, refl, sym, ap, _∙_}
 use mathlib.Core.Bool.{false}
-use mathlib.Core.List.{List, [], _∷_, map}
+use mathlib.Core.List.{List}
 use lib.ListN.{length, take, drop}
 use lib.Seq.{take-append-seam}
 use lib.Dec.{ltb, eqb}
 use borrow.Author.Tests.{le-ltb, eqb-false, ne-eqb, eq-eqb}
-use Rattle.bitstream.specs.Bits.{halvesOf, Below}
+use Rattle.bitstream.specs.Bits.{Below}
 use Rattle.answer.specs.Outcome.{Outcome, outcome, wrote, refused, answerOf, refuseIf, _orElse_, unless, lent, roomNumber}
 use Rattle.answer.specs.declared.Answer.{Answer}
 use Rattle.answer.specs.Outcome.Laws.{orElse-zero-left, orElse-zero-right, orElse-same, lessNumber-zero, lessNumber-none, lessNumber-given, refuseIf-zero, unless-part, unless-first, unless-number, refuseIf-in, orElse-in}
 use Rattle.row_format.specs.Lists.{any}
-use Rattle.row_format.specs.Row.{pixelBytes, tooMany, tooHigh}
+use Rattle.row_format.specs.Row.{pixelBytes, tooHigh}
 use Rattle.row_format.specs.Theorems.Words.{halvesOf-bytesOf}
 use Rattle.row_format.specs.Plain.{plainBytes}
 use Rattle.code_table.specs.Plain.Laws.{plain-accepted}
@@ -22,9 +22,8 @@ use Rattle.sheet_format.specs.declared.RecordWritten.{RecordWritten}
 use Rattle.sheet_format.specs.Context.{contextOf}
 use Rattle.sheet_format.specs.Kind.Row.{rowPlace}
 use Rattle.sheet_format.specs.Kind.PackedRow.{packedGivenNumber}
-use Rattle.sheet_format.specs.Kinds.{kindOf}
 use Rattle.sheet_format.specs.Writing.{recordFor, recordWritten, writeNumber}
-use Rattle.fits_format.specs.Image.{twosComplement, bigEndian, signedPixels, outOfRange, rowHeights, imageContext, rowRecord, beforePixels, imageRowNumber, imageRow}
+use Rattle.fits_format.specs.Image.{bigEndian, signedPixels, outOfRange, imageContext, rowRecord, beforePixels, imageRowNumber, imageRow}
 use Rattle.fits_format.specs.Image.Laws.{length-bigEndian, below-bigEndian, outOfRange-any, heights-same}
 
 -- ---- before a pixel is looked at

@@ -1,12 +1,12 @@
 -- That 7178 bytes are room for any row's record, so that 5 is never given for one. Assumes nothing.
 use Prim.Native.Nat.{ℕ, _+_, _*_, _≤_}
 use native.Mathlib.Omega.{arith}
-use mathlib.Core.Path.{_≡_, ap, _∙_}
-use mathlib.Core.List.{List, _++_, map}
+use mathlib.Core.Path.{_≡_, _∙_}
+use mathlib.Core.List.{List, _++_}
 use lib.ListN.{length, length-append, length-map}
 use Rattle.bitstream.specs.Bits.{flat, halvesOf, wordsOf, wordsFor}
 use Rattle.bitstream.specs.Bits.Laws.{length-cut}
-use Rattle.answer.specs.Outcome.{refuseIf, _orElse_, lent, roomNumber}
+use Rattle.answer.specs.Outcome.{refuseIf, _orElse_}
 use Rattle.answer.specs.Outcome.Laws.{orElse-same, lessNumber-none}
 use Rattle.row_format.specs.Lists.{any}
 use Rattle.row_format.specs.Row.{rowBits, rowBytes, pixelBytes}
@@ -18,9 +18,9 @@ use Rattle.sheet_format.specs.Fields.Laws.{length-twoBytes}
 use Rattle.sheet_format.specs.Kind.Row.Laws.{given-pixels}
 use Rattle.sheet_format.specs.Kind.PackedRow.{packedBody}
 use Rattle.sheet_format.specs.Writing.Laws.{length-recordBytes}
-use Rattle.fits_format.specs.Image.{twosComplement, bigEndian, signedPixels, outOfRange, heightOf, rowHeights, imageContext, rowRecord, beforePixels, imageRowNumber}
+use Rattle.fits_format.specs.Image.{twosComplement, bigEndian, signedPixels, outOfRange, heightOf, rowHeights, rowRecord, beforePixels, imageRowNumber}
 use Rattle.fits_format.specs.Image.Laws.{length-bigEndian}
-use Rattle.fits_format.specs.Image.Call.{RowStands, beforePixels-zero}
+use Rattle.fits_format.specs.Image.Call.{beforePixels-zero}
 
 -- 14 bits a pixel at most
 words-most : (ps : List ℕ) → length ps ≤ 4096 → length (rowBytes (wordsOf plainBytes) ps) ≤ 7168

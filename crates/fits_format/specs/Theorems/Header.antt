@@ -4,7 +4,7 @@ use Prim.Native.Nat.{ℕ, _≤_}
 use native.Mathlib.Omega.{arith}
 use mathlib.Core.Path.{_≡_, refl, sym, _∙_}
 use mathlib.Core.Bool.{Bool, true, false}
-use mathlib.Core.List.{List, [], _∷_}
+use mathlib.Core.List.{List}
 use lib.ListN.{length}
 use lib.IntN.{pos, negsuc}
 use lib.Dec.{eqb}
@@ -15,7 +15,7 @@ use Rattle.row_format.specs.Lists.{any}
 use Rattle.row_format.specs.Lists.Laws.{true-false}
 use Rattle.fits_format.specs.declared.ImageHeader.{ImageHeader}
 use Rattle.fits_format.specs.Card.{FieldValue, noInteger, isInteger}
-use Rattle.fits_format.specs.Header.{headerCards, axis1, axis2, lacking, belowOne, aboveMost, axisLength, stands, headerClauses, headerNumber, endCard, plainTableRecord, noImage, imageOf, headerNumbers, headerRead, HeaderAccepted}
+use Rattle.fits_format.specs.Header.{headerCards, axis1, axis2, lacking, belowOne, aboveMost, axisLength, stands, headerClauses, headerNumber, plainTableRecord, noImage, imageOf, headerNumbers, headerRead, HeaderAccepted}
 use Rattle.fits_format.specs.Header.Laws.{length-plainTableRecord}
 use Rattle.fits_format.specs.Header.Clauses.{longNumber, headerNumber-parts, accepted-clause, accepted-long}
 use Rattle.fits_format.specs.Theorems.Span.{end-few, end-whole}

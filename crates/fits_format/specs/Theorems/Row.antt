@@ -4,12 +4,12 @@ use Prim.Native.Nat.{ℕ, zero, suc, _≤_}
 use native.Mathlib.Omega.{arith}
 use mathlib.Core.Path.{_≡_, refl, sym, ap, _∙_}
 use mathlib.Core.Bool.{true, false}
-use mathlib.Core.List.{List, [], _∷_, map}
+use mathlib.Core.List.{List, map}
 use lib.ListN.{length}
 use lib.Dec.{ltb, eqb}
 use lib.IntN.{pos}
 use Rattle.answer.specs.declared.Answer.{Answer}
-use Rattle.answer.specs.Outcome.{Outcome, answerOf, refusal, refused, wrote, refuseIf, lent, roomNumber, Kept, Within}
+use Rattle.answer.specs.Outcome.{Outcome, answerOf, refusal, refused, wrote, refuseIf, lent, Kept, Within}
 use Rattle.answer.specs.Outcome.Laws.{lessNumber-none, orElse-none, refuseIf-in, orElse-in, roomNumber-in, unless-in, unless-kept, writes-within}
 use Rattle.row_format.specs.Lists.{any}
 use Rattle.fits_format.specs.Image.{bigEndian, signedPixels, outOfRange, rowHeights, rowRecord, beforePixels, imageRowNumber, imageRowNumbers, imageRow}

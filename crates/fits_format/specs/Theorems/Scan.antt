@@ -9,7 +9,7 @@ use Rattle.answer.specs.Outcome.Laws.{unless-refused}
 use Rattle.fits_format.specs.Header.{headerNumber, plainTableRecord, headerRead}
 use Rattle.fits_format.specs.Image.{imageRowNumber}
 use Rattle.fits_format.specs.Image.Call.{imageRow-stands, imageRow-heights}
-use Rattle.fits_format.specs.Conversion.{RowsWritten, rowCalls, Conversion, headerRefused, afterHeader, conversion, rowAt, rowNumberAt, rowRecordAt, inOrder, FirstFault, SheetOfImage}
+use Rattle.fits_format.specs.Conversion.{RowsWritten, rowCalls, headerRefused, afterHeader, conversion, rowAt, rowNumberAt, rowRecordAt, inOrder, FirstFault, SheetOfImage}
 use Rattle.fits_format.specs.Conversion.Laws.{rowCalls-fault, rowCalls-bytes}
 use Rattle.fits_format.specs.Theorems.Header.{headerRead-number}
 use Rattle.fits_format.specs.Conversion.Sheet.{RowRight, image-sheet}

@@ -1,9 +1,8 @@
 -- A row's pixels copied one by one. Assumes nothing.
-use Prim.Native.Nat.{ℕ, suc, _+_, _*_, _≤_, _<_}
-use native.Mathlib.Numerals.{add-one}
+use Prim.Native.Nat.{ℕ, _+_, _*_, _≤_, _<_}
 use native.Mathlib.Omega.{arith}
 use mathlib.Core.Path.{_≡_, refl, sym, ap, _∙_}
-use mathlib.Core.List.{List, [], _∷_, _++_, append-assoc, append-nil}
+use mathlib.Core.List.{List, [], _++_, append-assoc, append-nil}
 use lib.ListN.{length, take, drop, getD}
 use Rattle.bitstream.specs.Bits.{digits, flat, cut, bytesOf}
 use Rattle.bitstream.specs.Bits.Laws.{length-cut}
@@ -11,8 +10,7 @@ use Rattle.bitstream.specs.Memory.{ByteAt, overwritten}
 use Rattle.bitstream.specs.Memory.Laws.{take-overwritten, length-overwritten}
 use Rattle.row_format.specs.Row.{pixelBytes}
 use Rattle.row_pixels.specs.Laws.{bytes-cons, drop-more, drop-end}
-use Rattle.fits_format.specs.Image.{numberAt, bigEndian}
-use Rattle.fits_format.specs.Image.Laws.{length-bigEndian, bigEndian-at}
+use Rattle.fits_format.specs.Image.{numberAt}
 
 pub two-bytes : {s : List ℕ} (at : ℕ) {high low : ℕ} → ByteAt s at high → ByteAt s (at + 1) low → high * 256 + low ≡ numberAt at s
 unfolding numberAt

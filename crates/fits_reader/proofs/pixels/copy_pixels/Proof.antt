@@ -1,8 +1,8 @@
 -- `fits_reader::pixels::copy_pixels` meets its contract: of the pixels the first i stand in memory; the measure is the pixels
 -- left. Assumes nothing.
-use Prim.Native.Nat.{_-_, _*_, _≤_, _<_}
+use Prim.Native.Nat.{_-_, _<_}
 use native.Mathlib.Omega.{arith}
-use mathlib.Core.Path.{_≡_, refl, sym, _∙_}
+use mathlib.Core.Path.{refl, sym, _∙_}
 use lib.ListN.{length}
 use borrow.Author.Needs.{needs}
 use Rattle.fits_format.specs.Image.{bigEndian}

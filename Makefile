@@ -74,8 +74,8 @@ compare: $(ARCHIVE) $(PROGRAMS)
 	@$(SECOND)/compare_converter target/bin/fits_to_sheet 2000
 
 bench: $(ARCHIVE)
-	@tests/second build
-	@$(SECOND)/bench
+	@tests/second timed
+	@second/target/timed/bench
 
 fuzz:
 	@tests/sanitized

@@ -1,7 +1,7 @@
 /*
  * One row of a scan, as a scanner's program handles it: packs it under the plain
- * table, unpacks it again, compares, and shows what a refusal looks like. Prints
- * a line for each step.
+ * table, unpacks it again, compares, and shows what refusals look like. Prints a
+ * line for each step.
  */
 #include <stdint.h>
 #include <stdio.h>
@@ -33,12 +33,11 @@ static unsigned pixel_at(const uint8_t *bytes, size_t i)
     return bytes[2 * i] + 256u * bytes[2 * i + 1];
 }
 
-static int done(const char *step, struct tahliruz_answer answer)
+static int done(const char *step, uint32_t number)
 {
-    if (answer.number != TAHLIRUZ_DONE)
-        printf("%s: refused %u: %s\n", step, (unsigned)answer.number,
-               tahliruz_number_text(answer.number));
-    return answer.number == TAHLIRUZ_DONE;
+    if (number != TAHLIRUZ_DONE)
+        printf("%s: refused %u: %s\n", step, (unsigned)number, tahliruz_number_text(number));
+    return number == TAHLIRUZ_DONE;
 }
 
 /* Packs the row into words, which has room for any row of PIXELS pixels, and reads it back. */
@@ -46,14 +45,14 @@ static int there_and_back(uint8_t *words, size_t words_len)
 {
     struct tahliruz_answer packed =
         tahliruz_pack(table, sizeof table, row, sizeof row, words, words_len);
-    if (!done("pack", packed))
+    if (!done("pack", packed.number))
         return 0;
     size_t used = (packed.count + 31) / 32;
     printf("packed: %u bits in %zu words\n", (unsigned)packed.count, used);
 
-    struct tahliruz_answer unpacked = tahliruz_unpack(table, sizeof table, words, 4 * used, PIXELS,
-                                                      row_again, sizeof row_again);
-    if (!done("unpack", unpacked))
+    struct tahliruz_unpacked unpacked = tahliruz_unpack(
+        table, sizeof table, words, 4 * used, PIXELS, row_again, sizeof row_again);
+    if (!done("unpack", unpacked.number))
         return 0;
     printf("unpacked:");
     for (size_t i = 0; i < PIXELS; i++)
@@ -62,6 +61,17 @@ static int there_and_back(uint8_t *words, size_t words_len)
     int same = unpacked.count == packed.count && memcmp(row, row_again, sizeof row) == 0;
     printf("row and bits: %s\n", same ? "the same" : "different");
     return same;
+}
+
+/* Turns over the last bit of the third item: a refusal, with the place where that item begins. */
+static int refused_at_a_bit(uint8_t *words, size_t words_len)
+{
+    words[29 / 8] ^= 1u << 29 % 8;
+    struct tahliruz_unpacked answer = tahliruz_unpack(table, sizeof table, words, words_len, PIXELS,
+                                                      row_again, sizeof row_again);
+    printf("with bit 29 turned over: refused %u at bit %u: %s\n", (unsigned)answer.number,
+           (unsigned)answer.at, tahliruz_number_text(answer.number));
+    return answer.number == TAHLIRUZ_STEP_OUTSIDE && answer.at == 20;
 }
 
 /* Lends one word where the row takes more: a refusal, and the word is as it was. */
@@ -78,12 +88,12 @@ static int refused_for_room(void)
 
 int main(void)
 {
-    if (!done("plain table", tahliruz_plain_table(table, sizeof table)))
+    if (!done("plain table", tahliruz_plain_table(table, sizeof table).number))
         return EXIT_FAILURE;
     put_pixels(row, heights, PIXELS);
 
     struct tahliruz_answer room = tahliruz_room(table, sizeof table, PIXELS);
-    if (!done("room", room))
+    if (!done("room", room.number))
         return EXIT_FAILURE;
     printf("room for any row of %d pixels: %u words\n", PIXELS, (unsigned)room.count);
 
@@ -93,7 +103,7 @@ int main(void)
         fprintf(stderr, "pack_row: no memory for %zu bytes\n", words_len);
         return EXIT_FAILURE;
     }
-    int good = there_and_back(words, words_len);
+    int good = there_and_back(words, words_len) && refused_at_a_bit(words, words_len);
     free(words);
     return good && refused_for_room() ? EXIT_SUCCESS : EXIT_FAILURE;
 }

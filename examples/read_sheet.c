@@ -1,7 +1,7 @@
 /*
  * Reads a whole sheet, of any length, in bounded memory: read_sheet [FILE], or
  * standard input. Prints what each record holds, the sums over all rows, and
- * the verdict.
+ * the verdict, with the byte to look at where a row cannot be read.
  */
 #include <inttypes.h>
 #include <stdint.h>
@@ -20,6 +20,14 @@ static size_t window_len;
 static uint8_t table[TAHLIRUZ_MAX_TABLE_BYTES];
 static size_t table_len;
 static struct tahliruz_sheet state = {0, 0};
+
+/* What the sheet comes to. */
+struct verdict {
+    uint32_t number;
+    uint32_t at;        /* the bit place of 6 to 10 */
+    uint64_t records;   /* those that are done */
+    uint64_t start;     /* the byte of the sheet where the next record starts */
+};
 
 /* Pixels with the least and the greatest height among them, and bad spots. */
 struct heights {
@@ -94,21 +102,41 @@ static void take(const struct tahliruz_record *record, const uint8_t *content, s
     state = record->state;
 }
 
-/* The number that the sheet comes to; records counts those that are done. */
-static uint32_t read_sheet(FILE *file, uint64_t *records, struct heights *all)
+static struct verdict read_sheet(FILE *file, struct heights *all)
 {
     static uint8_t content[TAHLIRUZ_MAX_CONTENT_BYTES];
+    struct verdict sheet = {TAHLIRUZ_DONE, 0, 0, 0};
     size_t length = 0;
     while (slide(file, length) && window_len > 0) {
         struct tahliruz_record record = tahliruz_read_record(
             table, table_len, window, window_len, state, content, sizeof content);
+        sheet.number = record.number;
+        sheet.at = record.at;
         if (record.number != TAHLIRUZ_DONE)
-            return record.number;
+            return sheet;
         take(&record, content, all);
         length = record.length;
-        ++*records;
+        sheet.start += length;
+        sheet.records++;
     }
-    return *records > 0 ? TAHLIRUZ_DONE : TAHLIRUZ_PLACE;
+    if (sheet.records == 0)
+        sheet.number = TAHLIRUZ_PLACE;
+    return sheet;
+}
+
+static void print_verdict(const struct verdict *sheet)
+{
+    if (sheet->number == TAHLIRUZ_DONE) {
+        printf("done\n");
+        return;
+    }
+    printf("record %" PRIu64 " is refused %" PRIu32 ": %s\n", sheet->records, sheet->number,
+           tahliruz_number_text(sheet->number));
+    /* where 6 finds no bit left, the byte is behind the record, and may be behind the sheet */
+    if (sheet->number >= TAHLIRUZ_WORDS_END && sheet->number <= TAHLIRUZ_UNUSED_BIT)
+        printf("reading stopped at bit %" PRIu32 " of the row: bit %" PRIu32 " of byte %" PRIu64
+               " of the sheet\n",
+               sheet->at, sheet->at % 8, sheet->start + TAHLIRUZ_WORDS_OFFSET + sheet->at / 8);
 }
 
 int main(int argc, char **argv)
@@ -118,23 +146,18 @@ int main(int argc, char **argv)
         perror(argv[1]);
         return EXIT_FAILURE;
     }
-    uint64_t records = 0;
     struct heights all = no_heights;
-    uint32_t number = read_sheet(file, &records, &all);
+    struct verdict sheet = read_sheet(file, &all);
     if (ferror(file)) {
         perror("read_sheet");
         return EXIT_FAILURE;
     }
     printf("all rows: ");
     print_heights(&all);
-    if (number == TAHLIRUZ_DONE)
-        printf("done\n");
-    else
-        printf("record %" PRIu64 " is refused %" PRIu32 ": %s\n", records, number,
-               tahliruz_number_text(number));
+    print_verdict(&sheet);
     if (fflush(stdout) != 0 || ferror(stdout)) {
         perror("read_sheet: standard output");
         return EXIT_FAILURE;
     }
-    return number == TAHLIRUZ_DONE ? EXIT_SUCCESS : EXIT_FAILURE;
+    return sheet.number == TAHLIRUZ_DONE ? EXIT_SUCCESS : EXIT_FAILURE;
 }

@@ -29,9 +29,20 @@
  *
  * Number 0 is done: the call has written the bytes that its comment names, and
  * the rest of the lent memory is as it was. Any other number is a refusal:
- * every count and value in the answer is 0, and all lent memory is as it was;
- * only tahliruz_next gives the place back that it was given. Where several
- * numbers apply, the first in the order of the call's comment is answered.
+ * every count and value in the answer is 0 but the bit place of 6 to 10, and
+ * all lent memory is as it was; tahliruz_next gives the place back that it was
+ * given. Where several numbers apply, the first in the order of the call's
+ * comment is answered.
+ *
+ * The bit place of 6 to 10, "at", says where reading a packed row stopped: bits
+ * are counted from bit 0 of the row's first word, and bit k is bit k % 8 of byte
+ * k / 8 of the words, where bit 0 of a byte has the value 1. For 6 to 9 it is
+ * the first bit of the item that is faulty, that is, the number of bits of all
+ * items before it; where no bit is left for that item, 6, it is 32 times the
+ * words, just behind them. For 10 it is the first unused bit, set or not, that
+ * is, the number of bits of the row's items. It is 0 for done and for every
+ * other number. tahliruz_next has no such field: of its refusals 6 to 9 the
+ * place that it gives back, place.at, is the bit place.
  *
  * For C99 and later and for C++11 and later.
  */
@@ -46,10 +57,10 @@ extern "C" {
 #endif
 
 /* The version of this header. While MAJOR is 0, a new MINOR may change structs and calls. */
-#define TAHLIRUZ_VERSION "0.1.1"
+#define TAHLIRUZ_VERSION "0.2.0"
 #define TAHLIRUZ_VERSION_MAJOR 0
-#define TAHLIRUZ_VERSION_MINOR 1
-#define TAHLIRUZ_VERSION_PATCH 1
+#define TAHLIRUZ_VERSION_MINOR 2
+#define TAHLIRUZ_VERSION_PATCH 0
 
 /* Sizes that are always enough. */
 #define TAHLIRUZ_MAX_PIXELS 4096            /* the pixels of a row */
@@ -68,8 +79,9 @@ extern "C" {
 /* A FITS header is made of blocks, and the image begins where one ends. */
 #define TAHLIRUZ_FITS_BLOCK_BYTES 2880
 
-/* Where a table's bytes begin in its record. */
+/* Where a table's bytes begin in its record, and where a packed row's words do. */
 #define TAHLIRUZ_TABLE_OFFSET 6
+#define TAHLIRUZ_WORDS_OFFSET 10
 
 /* The greatest row number. */
 #define TAHLIRUZ_MAX_ROW 65535
@@ -154,6 +166,13 @@ struct tahliruz_answer tahliruz_plain_table(uint8_t *out, size_t out_len);
 
 /* ---- Rows ---- */
 
+/* What unpacking answers. A refusal has the count 0; at is 0 but for 6 to 10. */
+struct tahliruz_unpacked {
+    uint32_t number;
+    uint32_t count;     /* the bits that the pixels used */
+    uint32_t at;        /* 6 to 10: the bit place where reading stopped */
+};
+
 /*
  * Packs a row under a table.
  *
@@ -201,11 +220,14 @@ struct tahliruz_answer tahliruz_pack(const uint8_t *table, size_t table_len,
  *
  * Count: the bits that the n pixels used. The pixels are in the first 2 * n
  * bytes of pixels. After a refusal pixels is as it was.
+ *
+ * At: for 6 to 9 the bit place of the faulty item's first bit, for 10 that of
+ * the first unused bit; 0 for done and for every other number.
  */
-struct tahliruz_answer tahliruz_unpack(const uint8_t *table, size_t table_len,
-                                       const uint8_t *words, size_t words_len,
-                                       uint64_t n,
-                                       uint8_t *pixels, size_t pixels_len);
+struct tahliruz_unpacked tahliruz_unpack(const uint8_t *table, size_t table_len,
+                                         const uint8_t *words, size_t words_len,
+                                         uint64_t n,
+                                         uint8_t *pixels, size_t pixels_len);
 
 /*
  * Tells how many words are enough for every row of n pixels under a table.
@@ -249,7 +271,10 @@ enum tahliruz_item_kind {
     TAHLIRUZ_ITEM_RAW = 4           /* the escape and a height in 12 bits */
 };
 
-/* An item. A refusal has 0 for every value and the place as it was given. */
+/*
+ * An item. A refusal has 0 for every value and the place as it was given; for 6
+ * to 9 its at is the bit place.
+ */
 struct tahliruz_item {
     uint32_t number;
     uint32_t kind;          /* 1 to 4 */
@@ -281,9 +306,14 @@ struct tahliruz_opened tahliruz_open(const uint8_t *table, size_t table_len);
  *   6, 7, 8, 9  the item is faulty, as in tahliruz_unpack
  *   0           done
  *
+ * A refusal gives the place back that it was given: for 6 to 9 its place.at is the
+ * bit place of the faulty item's first bit.
+ *
  * Where n items are given, tahliruz_unpack of n pixels with room for them gives
  * the same pixels, or refuses 10; where it is done, n items are given; where an
- * item is refused 6 to 9, it gives that number for every n that reaches the item.
+ * item is refused 6 to 9, it gives that number, and that place.at as its at, for
+ * every n that reaches the item.
+ *
  * Writes nothing. The check of the table takes most of a call's time: for whole
  * rows tahliruz_unpack, which checks once, is much quicker.
  */
@@ -366,7 +396,7 @@ struct tahliruz_sheet {
 
 /*
  * What judging or reading a record answers. What a kind does not have is 0. A
- * refusal has 0 in all fields but number, in the state's too.
+ * refusal has 0 in all fields, in the state's too, but number and, for 6 to 10, at.
  */
 struct tahliruz_record {
     uint32_t number;
@@ -377,6 +407,7 @@ struct tahliruz_record {
     uint32_t words;         /* kind 2: the words used */
     uint32_t length;        /* the bytes of the whole record: the next one starts there */
     struct tahliruz_sheet state;    /* after the record; { 0, 0 } where it is refused */
+    uint32_t at;            /* 6 to 10: the bit place in the row's words where reading stopped */
 };
 
 /*
@@ -414,6 +445,12 @@ struct tahliruz_record {
  *
  * Writes nothing. A table's bytes are the 4 * count bytes from sheet + 6 on;
  * they are the table for the records after it.
+ *
+ * At: for 6 to 10 the bit place, as in tahliruz_unpack, counted from the row's
+ * first word, which is 10 bytes into the record: bit at % 8 of sheet[10 + at / 8].
+ * Where 6 says that no bit is left, that byte is just behind the record, and
+ * behind sheet too where the record is its last: compare with sheet_len before
+ * looking. 0 for done and for every other number.
  *
  * The end of a sheet is where no bytes are left, and is the caller's to see: a
  * call with sheet_len 0 answers 14. A sheet of no bytes at all is refused 16.

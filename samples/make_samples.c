@@ -150,7 +150,7 @@ static void make_foot(const char *folder)
     make_sheet(folder, rows);
 }
 
-/* A sheet of three rows whose last is cut off after its second word. */
+/* A sheet of three rows, the last cut off after its second word: six whole items of 10 bits, and 4 bits of the seventh. */
 static void make_damaged(const char *folder)
 {
     FILE *f = create(folder, "damaged.sheet");

@@ -1,6 +1,7 @@
 /*
- * Uses the header as a stranger would, in C and in C++: prints its version, the text of each number, the bits of a row, and
- * what a scan's header and row come to. tests/install compares them with VERSION and with the header's own list.
+ * Uses the header as a stranger would, in C and in C++: prints its version, the text of each number, the bits of a row, where
+ * reading a pixel too many of it stops, in the row and in its record, and what a scan's header and row come to. tests/install
+ * compares them with VERSION and with the header's own list.
  */
 #include "tahliruz.h"
 
@@ -13,14 +14,20 @@ int main(void)
     static const uint8_t scanned[4] = { 0, 204, TAHLIRUZ_BAD_PIXEL >> 8, TAHLIRUZ_BAD_PIXEL & 255 };
     struct tahliruz_answer made = tahliruz_plain_table(table, sizeof table);
     struct tahliruz_answer packed = tahliruz_pack(table, sizeof table, row, sizeof row, words, sizeof words);
+    struct tahliruz_unpacked unpacked = tahliruz_unpack(table, sizeof table, words, 4, 3, out, sizeof out);
     struct tahliruz_image image = tahliruz_fits_header(row, sizeof row, out, sizeof out);
     struct tahliruz_answer record = tahliruz_fits_row(2, 0, scanned, sizeof scanned, out, sizeof out);
+    struct tahliruz_sheet begun = { 1, 0 };
+    out[8] = 3; /* the row's pixels */
+    struct tahliruz_record judged = tahliruz_judge_record(table, sizeof table, out, record.count, begun);
     printf("version %s = %d.%d.%d\n", TAHLIRUZ_VERSION, TAHLIRUZ_VERSION_MAJOR, TAHLIRUZ_VERSION_MINOR,
            TAHLIRUZ_VERSION_PATCH);
     for (uint32_t number = TAHLIRUZ_DONE; number <= TAHLIRUZ_IMAGE_END; number++)
         printf("%u %s\n", (unsigned)number, tahliruz_number_text(number));
     printf("%s\n", tahliruz_number_text(TAHLIRUZ_IMAGE_END + 1));
     printf("plain table %u, row %u bits\n", (unsigned)made.count, (unsigned)packed.count);
+    printf("a third pixel: refused %u at bit %u, in its record %u at bit %u\n", (unsigned)unpacked.number, (unsigned)unpacked.at,
+           (unsigned)judged.number, (unsigned)judged.at);
     printf("no scan %u, scanned row %u bytes\n", (unsigned)image.number, (unsigned)record.count);
     return 0;
 }

@@ -76,6 +76,23 @@ static void packed(uint32_t row, uint32_t pixels, int words, uint32_t first, uin
         number(second, 4);
 }
 
+/* A kind 2 row from the text of its bits, bit 0 of word 0 first and blanks left out; zeros fill its last word. */
+static void packed_bits(uint32_t row, uint32_t pixels, const char *text)
+{
+    uint32_t words[4] = { 0 }, n = 0, count;
+    for (; *text != '\0'; text++)
+        if (*text != ' ') {
+            words[n / 32] |= (uint32_t)(*text == '1') << n % 32;
+            n++;
+        }
+    count = (n + 31) / 32;
+    header(4 + 4 * count, 2);
+    number(row, 2);
+    number(pixels, 2);
+    for (uint32_t i = 0; i < count; i++)
+        number(words[i], 4);
+}
+
 static void line(uint32_t count, const char *bytes, uint32_t len)
 {
     header(2 + len, 4);
@@ -164,6 +181,8 @@ static void refused_tables(void)
     done();
 }
 
+/* Where 6 to 10 say that reading stopped: 6 at bit 32, each of 32 bits being an item, 7 at 1, behind a step, 8 and 9 at the
+ * first item, and 10 at 3, behind three steps. */
 static void refused_rows(void)
 {
     static const uint16_t above[2] = { 5, 4096 };
@@ -196,6 +215,44 @@ static void refused_rows(void)
     sheet("14_plain_size.sheet");
     plain_row(0, 3, above, 1);
     done();
+}
+
+/*
+ * A sheet whose record 3 is the faulty row; before it stand the table, a row of 18 bits and a line. An item has
+ *     1 bit    0                      the step -1
+ *     14 bits  10 and the height's 12
+ *     3 bits   110                    bad pixel
+ *     4 bits   1110                   bad bias
+ * and no string begins with 1111.
+ */
+static void later_row(const char *name, uint32_t pixels, const char *bits)
+{
+    create(name);
+    small_table(4092, "1110", "0");
+    packed_bits(4, 3, "10 101000000000 0 110");
+    line(1, "\x05", 1);
+    packed_bits(9, pixels, bits);
+    done();
+}
+
+/* The faulty item, or for 10 the first unused bit, stands where the items before it end: the sum of their lengths. */
+static void refused_later_rows(void)
+{
+    /* 14 + 1 + 3 + 4 = 22: an escape, and 8 of its height's 12 bits */
+    later_row("06_height_cut_later.sheet", 5, "10 011111110100 0 110 1110 10 01111111");
+    /* 14 + 1 + 14 + 1 = 30: 11 begins two strings, and the words end */
+    later_row("06_string_cut_later.sheet", 5, "10 011111110100 0 10 011111110100 0 11");
+    /* 4 x 14 + 2 x 4 = 64 = 32 x 2: nothing is left for a seventh item */
+    later_row("06_nothing_left_later.sheet", 7,
+              "10 000000000000 10 011111110100 10 011111110100 1110 10 011111110100 1110");
+    /* 14 + 3 + 1 = 18: 1111 */
+    later_row("07_no_string_later.sheet", 4, "10 011111110100 110 0 1111");
+    /* 14 + 1 + 4 = 19: from 1 to 0, a bad spot, and then to -1 */
+    later_row("08_step_outside_later.sheet", 4, "10 100000000000 0 1110 0");
+    /* 14 + 1 + 14 = 29: the escape and the height 4094, of which 11 bits are in the next word */
+    later_row("09_raw_height_later.sheet", 5, "10 011111110100 0 10 011111110100 10 011111111111 0");
+    /* 14 + 14 + 3 + 4 = 35: of the unused bits 35 to 63 bit 40 is set */
+    later_row("10_unused_bit_later.sheet", 4, "10 011111110100 10 011111110100 110 1110 000001");
 }
 
 static void refused_lines(void)
@@ -291,6 +348,7 @@ int main(int argc, char **argv)
     refused_places();
     refused_tables();
     refused_rows();
+    refused_later_rows();
     refused_lines();
     good_sheets();
     many_records();

@@ -1,7 +1,7 @@
 /*
- * Reads rows an item a call and holds them against unpacking the whole row: the same pixels where items are given, the same
- * number where one is refused, and a place that a refusal does not move. It prints the items of one row, and the sums of many;
- * worked_items.expected is what it must print.
+ * Reads rows an item a call and holds them against unpacking the whole row, and against the record of a sheet that has it: the
+ * same pixels where items are given, the same number and place where one is refused, and a place that a refusal does not move.
+ * It prints the items of one row, and the sums of many; worked_items.expected is what it must print.
  */
 #include <stdint.h>
 #include <stdio.h>
@@ -34,6 +34,23 @@ static void put_pixel(uint8_t *at, uint32_t pixel)
     at[1] = (uint8_t)(pixel >> 8);
 }
 
+/* The record of the row has its number, bits and place; words that the row does not use are 14 there, with no place. */
+static void compare_record(const uint8_t *words, size_t words_len, uint32_t n, struct tahliruz_unpacked whole)
+{
+    static uint8_t record[TAHLIRUZ_MAX_RECORD_BYTES];
+    const struct tahliruz_sheet begun = { 1, 0 };
+    size_t length = TAHLIRUZ_WORDS_OFFSET + words_len;
+    put_pixel(record, (uint32_t)length - 4);
+    put_pixel(record + 4, TAHLIRUZ_KIND_PACKED);
+    put_pixel(record + 8, n);
+    memcpy(record + TAHLIRUZ_WORDS_OFFSET, words, words_len);
+    if (whole.number == 0 && (whole.count + 31) / 32 < words_len / 4)
+        whole = (struct tahliruz_unpacked){ TAHLIRUZ_RECORD, 0, 0 };
+    struct tahliruz_record judged = tahliruz_judge_record(plain, sizeof plain, record, length, begun);
+    if (judged.number != whole.number || judged.bits != whole.count || judged.at != whole.at)
+        fail("the record of a row");
+}
+
 /* Reads on until a refusal or n items; the words may be anyone's. */
 static void compare(const uint8_t *words, size_t words_len, uint32_t n)
 {
@@ -55,13 +72,16 @@ static void compare(const uint8_t *words, size_t words_len, uint32_t n)
     }
     items_given += given;
     ends[number]++;
-    struct tahliruz_answer whole = tahliruz_unpack(plain, sizeof plain, words, words_len, n, pixels, sizeof pixels);
+    struct tahliruz_unpacked whole = tahliruz_unpack(plain, sizeof plain, words, words_len, n, pixels, sizeof pixels);
     if (number != 0 && whole.number != number)
         fail("the number of a row with a refused item");
     if (number == 0 && whole.number != 0 && whole.number != 10)
         fail("the number of a row whose items are all given");
     if (number == 0 && whole.number == 0 && (whole.count != place.at || memcmp(pixels, items, 2 * n) != 0))
         fail("the pixels or the bits of a row");
+    if (whole.at != (whole.number == 0 ? 0 : place.at) || (whole.number != 0 && whole.count != 0))
+        fail("the place of a row that is refused, or a place of one that is done");
+    compare_record(words, words_len, n, whole);
     if (number == 0 && n == MOST && tahliruz_next(plain, sizeof plain, words, words_len, place).number != 11)
         fail("a 4097th item");
 }

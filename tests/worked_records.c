@@ -16,6 +16,13 @@ static void print_state(struct tahliruz_sheet s)
     printf(" state %" PRIu32 " %" PRIu32, s.has_table, s.least_row);
 }
 
+static void print_record(const char *call, struct tahliruz_record r)
+{
+    printf(", %s: number %" PRIu32 " row %" PRIu32 " length %" PRIu32, call, r.number, r.row, r.length);
+    print_state(r.state);
+    printf(" at %" PRIu32, r.at);
+}
+
 /* Written after `state`; where that is done, the record is judged, and read with exactly `lent` bytes. */
 static void written(uint32_t kind, uint32_t row, const uint8_t *content, size_t content_len, struct tahliruz_sheet state, size_t lent)
 {
@@ -30,10 +37,8 @@ static void written(uint32_t kind, uint32_t row, const uint8_t *content, size_t 
     if (w.number == TAHLIRUZ_DONE) {
         struct tahliruz_record j = tahliruz_judge_record(table, sizeof table, out, w.count, state);
         struct tahliruz_record r = tahliruz_read_record(table, sizeof table, out, w.count, state, read_to, lent);
-        printf(", judged: number %" PRIu32 " row %" PRIu32 " length %" PRIu32, j.number, j.row, j.length);
-        print_state(j.state);
-        printf(", read: number %" PRIu32 " row %" PRIu32 " length %" PRIu32, r.number, r.row, r.length);
-        print_state(r.state);
+        print_record("judged", j);
+        print_record("read", r);
     }
     printf("\n");
 }

@@ -44,8 +44,9 @@ static void pack(const uint8_t *table, size_t table_len, const uint16_t *row, si
     if (a.number != 0)
         return;
     uint8_t back[2 * 16];
-    struct tahliruz_answer b = tahliruz_unpack(table, table_len, words, sizeof words, n, back, sizeof back);
-    printf("  unpacked: number %u bits %u, %s\n", b.number, b.count, memcmp(back, pixels, 2 * n) == 0 ? "the row" : "another row");
+    struct tahliruz_unpacked b = tahliruz_unpack(table, table_len, words, sizeof words, n, back, sizeof back);
+    printf("  unpacked: number %u bits %u at %u, %s\n", b.number, b.count, b.at,
+           memcmp(back, pixels, 2 * n) == 0 ? "the row" : "another row");
 }
 
 #define PLAIN(lent, ...) \
@@ -59,11 +60,11 @@ static void unpack(const char *name, uint32_t w, uint64_t n, size_t lent)
     uint8_t words[4], pixels[16];
     put_word(words, w);
     memset(pixels, 0xa5, sizeof pixels);
-    struct tahliruz_answer a = tahliruz_unpack(plain, sizeof plain, words, sizeof words, n, pixels, lent);
+    struct tahliruz_unpacked a = tahliruz_unpack(plain, sizeof plain, words, sizeof words, n, pixels, lent);
     int kept = 1;
     for (size_t i = a.number == 0 ? 2 * n : 0; i < sizeof pixels; i++)
         kept &= pixels[i] == 0xa5;
-    printf("unpack %s: number %u bits %u%s\n", name, a.number, a.count, kept ? "" : ", memory touched");
+    printf("unpack %s: number %u bits %u at %u%s\n", name, a.number, a.count, a.at, kept ? "" : ", memory touched");
 }
 
 static void room(const char *name, uint64_t n)

@@ -16,6 +16,34 @@ impl Answer {
     }
 }
 
+/// A row that was unpacked: the bits used. Refused: all 0 but the number, and
+/// for 6 to 10 the place.
+#[repr(C)]
+#[derive(Clone, Copy, PartialEq, Eq, Debug, Default)]
+pub struct Unpacked {
+    pub number: u32,
+    pub count: u32,
+    /// 6 to 9: the first bit of the faulty item. 10: the first unused bit.
+    /// Counted from bit 0 of the first word.
+    pub at: u32,
+}
+
+impl Unpacked {
+    pub fn done(bits: u32) -> Unpacked {
+        Unpacked { count: bits, ..Unpacked::default() }
+    }
+
+    /// A refusal without a place.
+    pub fn refused(number: u32) -> Unpacked {
+        Unpacked { number, ..Unpacked::default() }
+    }
+
+    /// A reading that stopped at a bit.
+    pub fn stopped(number: u32, at: u32) -> Unpacked {
+        Unpacked { number, count: 0, at }
+    }
+}
+
 /// A signed adaptive number and the bytes that it was read from.
 #[repr(C)]
 #[derive(Clone, Copy, PartialEq, Eq, Debug, Default)]
@@ -34,7 +62,8 @@ pub struct Unsigned {
     pub used: u32,
 }
 
-/// A record that was judged or read. Refused: all 0 but the number.
+/// A record that was judged or read. Refused: all 0 but the number, and for 6
+/// to 10 the place.
 #[repr(C)]
 #[derive(Clone, Copy, PartialEq, Eq, Debug, Default)]
 pub struct Record {
@@ -49,6 +78,8 @@ pub struct Record {
     /// Bytes of the whole record, its length field included.
     pub length: u32,
     pub state: State,
+    /// As unpacking has it, counted from the row's first word.
+    pub at: u32,
 }
 
 impl Record {
@@ -152,6 +183,9 @@ mod tests {
     #[test]
     fn fields_stand_where_c_has_them() {
         assert_eq!([size_of::<Answer>(), offset_of!(Answer, count)], [8, 4]);
+        let unpacked =
+            [offset_of!(Unpacked, count), offset_of!(Unpacked, at), size_of::<Unpacked>()];
+        assert_eq!(unpacked, [4, 8, 12]);
         let signed = [offset_of!(Signed, value), offset_of!(Signed, used), size_of::<Signed>()];
         assert_eq!(signed, [4, 8, 12]);
         let unsigned =
@@ -173,9 +207,10 @@ mod tests {
             offset_of!(Record, words),
             offset_of!(Record, length),
             offset_of!(Record, state),
+            offset_of!(Record, at),
         ];
-        assert_eq!(places, [0, 4, 8, 12, 16, 20, 24, 28]);
-        assert_eq!(size_of::<Record>(), 36);
+        assert_eq!(places, [0, 4, 8, 12, 16, 20, 24, 28, 36]);
+        assert_eq!(size_of::<Record>(), 40);
     }
 
     #[test]

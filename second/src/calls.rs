@@ -56,7 +56,8 @@ pub fn write_record(
 }
 
 fn record_of(answer: RecordAnswer) -> Record {
-    let bare = Record { number: answer.number, state: answer.state, ..Record::default() };
+    let RecordAnswer { number, state, at, .. } = answer;
+    let bare = Record { number, state, at, ..Record::default() };
     let Some(content) = answer.content else {
         return bare;
     };
@@ -118,6 +119,13 @@ mod tests {
         let bare = |number| Record { number, ..Record::default() };
         assert_eq!(judge_record(Err(1), &[], given), bare(14));
         assert_eq!(judge_record(Err(1), &[2, 0, 0, 0, 9, 0], given), bare(15));
+        // The row 0 with a bit set behind it: the first unused bit is 10.
+        let codec = Codec::open(&plain_table()).unwrap();
+        let row = [10, 0, 0, 0, 2, 0, 5, 0, 1, 0, 0, 2, 0, 128];
+        let unused = Record { at: 10, ..bare(10) };
+        assert_eq!(judge_record(Ok(&codec), &row, state(1, 0)), unused);
+        assert_eq!(read_record(Ok(&codec), &row, state(1, 0), &mut [0; 2]), unused);
+        assert_eq!(read_record(Ok(&codec), &row, state(1, 0), &mut []), bare(5));
         let refused = Written { number: 15, ..Written::default() };
         assert_eq!(write_record(0, 0, &[], Err(1), given, &mut []), refused);
     }

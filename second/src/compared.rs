@@ -8,6 +8,7 @@ mod records;
 mod rows;
 #[cfg(feature = "sheets")]
 mod scans;
+mod stopped;
 mod walk;
 
 use std::fmt::Debug;
@@ -20,19 +21,26 @@ pub use records::{Place, Writing};
 pub use rows::{check, pack, plain_table, room, unpack};
 #[cfg(feature = "sheets")]
 pub use scans::{ScanHeader, ScanRow};
+pub use stopped::check_stopped;
 pub use walk::walk;
 
 use crate::agreement::Call;
-use crate::answers::{Answer, Image, ItemRead, ReaderOpened, Record, Signed, Unsigned, Written};
+use crate::answers::{Answer, Image, ItemRead, ReaderOpened, Record, Signed};
+use crate::answers::{Unpacked, Unsigned, Written};
 use crate::memory::Lent;
 use crate::tally::Tally;
 
 /// What a comparison gives, or the report of a difference.
 pub type Outcome<T> = Result<T, String>;
 
-/// An answer with its number.
+/// An answer with its number, and the place where the reading of a row stopped
+/// if it can say that.
 trait Numbered: PartialEq + Debug + Copy {
     fn number(self) -> u32;
+
+    fn at(self) -> u32 {
+        0
+    }
 }
 
 impl Numbered for (u32, u32) {
@@ -51,7 +59,23 @@ macro_rules! numbered {
     };
 }
 
-numbered!(Answer, Image, Signed, Unsigned, Record, Written, ReaderOpened, ItemRead);
+numbered!(Answer, Image, Signed, Unsigned, Written, ReaderOpened, ItemRead);
+
+macro_rules! placed {
+    ($($answer:ty),*) => {
+        $(impl Numbered for $answer {
+            fn number(self) -> u32 {
+                self.number
+            }
+
+            fn at(self) -> u32 {
+                self.at
+            }
+        })*
+    };
+}
+
+placed!(Unpacked, Record);
 
 /// Compares a call and counts its number.
 fn counted<T: Numbered>(
@@ -62,7 +86,7 @@ fn counted<T: Numbered>(
     written: impl FnOnce(T) -> usize,
 ) -> Outcome<(T, Lent)> {
     let (answer, lent) = call.compare(proved, second, written)?;
-    tally.add(call.name, answer.number());
+    tally.add(call.name, answer.number(), answer.at());
     Ok((answer, lent))
 }
 

@@ -10,6 +10,8 @@ mod sheets;
 use std::ptr;
 
 use crate::answers::Answer;
+#[cfg(feature = "rows")]
+use crate::answers::Unpacked;
 #[cfg(feature = "sheets")]
 pub use fits::*;
 #[cfg(feature = "rows")]
@@ -40,7 +42,7 @@ extern "C" {
         n: u64,
         pixels: *mut u8,
         pixels_len: usize,
-    ) -> Answer;
+    ) -> Unpacked;
     fn tahliruz_room(table: *const u8, table_len: usize, n: u64) -> Answer;
 }
 
@@ -86,9 +88,9 @@ pub fn pack(table: &[u8], pixels: &[u8], words: &mut [u8]) -> (u32, u32) {
 
 /// Unpacking; the count is the bits.
 #[cfg(feature = "rows")]
-pub fn unpack(table: &[u8], words: &[u8], n: u64, pixels: &mut [u8]) -> (u32, u32) {
+pub fn unpack(table: &[u8], words: &[u8], n: u64, pixels: &mut [u8]) -> Unpacked {
     // SAFETY: as for packing.
-    let answer = unsafe {
+    unsafe {
         tahliruz_unpack(
             at(table),
             table.len(),
@@ -98,8 +100,7 @@ pub fn unpack(table: &[u8], words: &[u8], n: u64, pixels: &mut [u8]) -> (u32, u3
             at_mut(pixels),
             pixels.len(),
         )
-    };
-    answer.pair()
+    }
 }
 
 /// The room question; the count is the words.

@@ -3,7 +3,7 @@
 use std::fmt::Write;
 
 use crate::reader::Codec;
-use crate::refusal::{PLACE, TABLE_SHAPE};
+use crate::refusal::{has_place, PLACE, TABLE_SHAPE};
 use crate::sheet::{judge_record, Content, State};
 use crate::table::{Codeword, Table, BAD_BIAS, BAD_PIXEL, ESCAPE};
 
@@ -11,7 +11,8 @@ use crate::table::{Codeword, Table, BAD_BIAS, BAD_PIXEL, ESCAPE};
 pub fn list_sheet(sheet: &[u8]) -> String {
     let mut text = String::new();
     if sheet.is_empty() {
-        return refused(text, PLACE, 0);
+        text.push_str(&refused_line(PLACE, 0, 0));
+        return text;
     }
     let (mut rest, mut record, mut rows) = (sheet, 0, 0);
     let mut state = State::default();
@@ -20,7 +21,8 @@ pub fn list_sheet(sheet: &[u8]) -> String {
     while !rest.is_empty() {
         let answer = judge_record(state, codec.as_ref().map_err(|number| *number), rest);
         let Some(content) = answer.content else {
-            return refused(text, answer.number, record);
+            text.push_str(&refused_line(answer.number, record, answer.at));
+            return text;
         };
         if matches!(content, Content::Table { .. }) {
             codec = Codec::open(&rest[6..answer.used]);
@@ -35,9 +37,13 @@ pub fn list_sheet(sheet: &[u8]) -> String {
     text
 }
 
-fn refused(mut text: String, number: u32, record: u32) -> String {
-    let _ = writeln!(text, "refused {number} at record {record}");
-    text
+/// A listing's last line; `bit` is counted from the row's first word.
+pub fn refused_line(number: u32, record: usize, bit: u32) -> String {
+    if has_place(number) {
+        format!("refused {number} at record {record} bit {bit}\n")
+    } else {
+        format!("refused {number} at record {record}\n")
+    }
 }
 
 fn content_line(content: &Content) -> String {
@@ -128,6 +134,29 @@ mod tests {
         assert_eq!(list_sheet(&sheet), TABLE_LINE.to_string() + text);
         let sheet = [record(1, &plain_table()), vec![1]].concat();
         assert_eq!(list_sheet(&sheet), TABLE_LINE.to_string() + "refused 14 at record 1\n");
+    }
+
+    /// The row 0 766 0, of 34 bits in the words 3139072 and 2, changed.
+    #[test]
+    fn refused_rows_have_a_bit() {
+        let last = |pixels: u8, words: &[u32]| {
+            let row = record(2, &[&[6, 0, pixels, 0][..], &table_bytes(words)].concat());
+            let sheet = [record(1, &plain_table()), packed(5, 1, 3065), row].concat();
+            list_sheet(&sheet).lines().skip(2).collect::<Vec<_>>().join("/")
+        };
+        assert_eq!(last(3, &[3139072]), "refused 6 at record 2 bit 24");
+        assert_eq!(last(4, &[3139072, 2]), "refused 8 at record 2 bit 34");
+        assert_eq!(last(3, &[3139072 | 1 << 23, 2]), "row 6 pixels 3 bits 34 words 2/done rows 2");
+        assert_eq!(last(3, &[3139072 | 0b1111_1111_1110 << 12, 2]), "refused 9 at record 2 bit 10");
+        assert_eq!(last(3, &[3139072, 2 | 1 << 20]), "refused 10 at record 2 bit 34");
+        assert_eq!(last(1, &[]), "refused 6 at record 2 bit 0");
+        // Refusals that no row's reading gives have none.
+        assert_eq!(last(3, &[3139072, 2, 0]), "refused 14 at record 2");
+        // No codeword begins with 1111: two heights, then 7 at bit 2.
+        let table = table_bytes(&[7, 4093, 1, 34, 99, 228, 1]);
+        let sheet = [record(1, &table), packed(5, 3, 0b11_1100)].concat();
+        let text = "table 7 low 4093 size 1 worst 14\nrefused 7 at record 1 bit 2\n";
+        assert_eq!(list_sheet(&sheet), text);
     }
 
     #[test]

@@ -1,5 +1,6 @@
 //! Reading packed words bit by bit along a tree of the codewords.
 
+use crate::answers::Unpacked;
 use crate::refusal::{
     DONE, ESCAPED_BAD, HEIGHT, NO_CODEWORD, ROOM, TOO_MANY, UNUSED_BIT, WORDS_END,
 };
@@ -162,6 +163,11 @@ impl<'a> Cursor<'a> {
         Read { outcome: Ok((Item::Escaped(height), height)), used }
     }
 
+    /// The refusal of a row that is read up to here.
+    fn stopped(&self, number: u32) -> Unpacked {
+        Unpacked::stopped(number, self.place as u32)
+    }
+
     /// Whether the last used word has a bit set after the used ones.
     fn unused_bit_set(&self) -> bool {
         let end = self.place.next_multiple_of(32);
@@ -169,46 +175,48 @@ impl<'a> Cursor<'a> {
     }
 }
 
-/// Unpacks `n` pixels; answers the number and the bits.
-pub fn unpack(table: &[u8], words: &[u8], n: u64, pixels: &mut [u8]) -> (u32, u32) {
+/// Unpacks `n` pixels; answers the bits, or where the reading stopped.
+pub fn unpack(table: &[u8], words: &[u8], n: u64, pixels: &mut [u8]) -> Unpacked {
     match Codec::open(table) {
         Ok(codec) => unpack_under(&codec, words, n, pixels),
-        Err(number) => (number, 0),
+        Err(number) => Unpacked::refused(number),
     }
 }
 
 /// Unpacks under a table that is already checked.
-pub fn unpack_under(codec: &Codec, words: &[u8], n: u64, pixels: &mut [u8]) -> (u32, u32) {
-    match unpack_measured(codec, words, n, pixels) {
-        (DONE, used) => (DONE, used as u32),
-        (number, _) => (number, 0),
-    }
+pub fn unpack_under(codec: &Codec, words: &[u8], n: u64, pixels: &mut [u8]) -> Unpacked {
+    unpack_measured(codec, words, n, pixels).0
 }
 
-/// As `unpack_under`, but beside a refusal too it gives the bits that the
-/// reading used by definition.
-pub fn unpack_measured(codec: &Codec, words: &[u8], n: u64, pixels: &mut [u8]) -> (u32, usize) {
+/// As `unpack_under`, and gives the bits that the reading, refused or not, used
+/// by definition.
+pub fn unpack_measured(
+    codec: &Codec,
+    words: &[u8],
+    n: u64,
+    pixels: &mut [u8],
+) -> (Unpacked, usize) {
     if n > MAX_PIXELS as u64 {
-        return (TOO_MANY, 0);
+        return (Unpacked::refused(TOO_MANY), 0);
     }
     let (lent, _) = pixels.as_chunks_mut::<2>();
     let Some(lent) = lent.get_mut(..n as usize) else {
-        return (ROOM, 0);
+        return (Unpacked::refused(ROOM), 0);
     };
     // Read aside first: a refused call must leave the lent memory alone.
     let mut row = [0; MAX_PIXELS];
     let row = &mut row[..n as usize];
-    let answer = read_row(Cursor::new(codec, words), row);
-    if answer.0 == DONE {
+    let (answer, used) = read_row(Cursor::new(codec, words), row);
+    if answer.number == DONE {
         for (lent, pixel) in lent.iter_mut().zip(row) {
             *lent = pixel.to_le_bytes();
         }
     }
-    answer
+    (answer, used)
 }
 
-/// Fills the row; gives the number and the bits used, refused or not.
-fn read_row(mut cursor: Cursor, row: &mut [u16]) -> (u32, usize) {
+/// Fills the row; gives the answer and the bits used, refused or not.
+fn read_row(mut cursor: Cursor, row: &mut [u16]) -> (Unpacked, usize) {
     for place in row {
         let read = cursor.read_item();
         match read.outcome {
@@ -216,11 +224,13 @@ fn read_row(mut cursor: Cursor, row: &mut [u16]) -> (u32, usize) {
                 *place = pixel;
                 cursor.advance(item, pixel, read.used);
             }
-            Err(number) => return (number, cursor.place + read.used),
+            // The item's first bit, however many bits it uses.
+            Err(number) => return (cursor.stopped(number), cursor.place + read.used),
         }
     }
-    let number = if cursor.unused_bit_set() { UNUSED_BIT } else { DONE };
-    (number, cursor.place)
+    // The first unused bit, whichever of them is set.
+    let refused = cursor.unused_bit_set().then(|| cursor.stopped(UNUSED_BIT));
+    (refused.unwrap_or(Unpacked::done(cursor.place as u32)), cursor.place)
 }
 
 #[cfg(test)]

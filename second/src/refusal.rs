@@ -38,3 +38,8 @@ pub const PLACE: u32 = 16;
 pub const FITS_HEADER: u32 = 17;
 /// The image's bytes end before the row does.
 pub const IMAGE_END: u32 = 18;
+
+/// Whether a refusal says where the reading of a row stopped.
+pub fn has_place(number: u32) -> bool {
+    (WORDS_END..=UNUSED_BIT).contains(&number)
+}

@@ -1,6 +1,6 @@
 //! How often each call of the library gave each number.
 
-use crate::refusal::IMAGE_END;
+use crate::refusal::{has_place, IMAGE_END};
 
 const NUMBERS: usize = IMAGE_END as usize + 1;
 
@@ -24,6 +24,16 @@ const CALLS: [(&str, &[usize]); 16] = [
     ("fits_row", &[0, 4, 5, 11, 17, 18]),
 ];
 
+/// The calls that say where the reading of a row stopped.
+const PLACED: [&str; 3] = ["unpack", "judge_record", "read_record"];
+
+/// The numbers with which this call gives a place.
+fn with_place(call: usize) -> impl Iterator<Item = usize> {
+    let placed = PLACED.contains(&CALLS[call].0);
+    let numbers = CALLS[call].1.iter().copied();
+    numbers.filter(move |&number| placed && has_place(number as u32))
+}
+
 fn index_of(call: &str) -> usize {
     let index = CALLS.iter().position(|(name, _)| *name == call);
     index.unwrap_or_else(|| panic!("{call} is not in the list"))
@@ -32,14 +42,21 @@ fn index_of(call: &str) -> usize {
 #[derive(Default)]
 pub struct Tally {
     counts: [[u64; NUMBERS]; CALLS.len()],
+    /// Of these, the refusals with a place above 0.
+    above: [[u64; NUMBERS]; CALLS.len()],
 }
 
 impl Tally {
-    /// Counts a call. Its number must be one that it can give.
-    pub fn add(&mut self, call: &str, number: u32) {
-        let index = index_of(call);
-        assert!(CALLS[index].1.contains(&(number as usize)), "{call} gave {number}");
-        self.counts[index][number as usize] += 1;
+    /// Counts a call. Its number must be one that it can give, and its place
+    /// 0 where that number has none.
+    pub fn add(&mut self, call: &str, number: u32, at: u32) {
+        let (index, number) = (index_of(call), number as usize);
+        assert!(CALLS[index].1.contains(&number), "{call} gave {number}");
+        self.counts[index][number] += 1;
+        if at > 0 {
+            assert!(with_place(index).any(|n| n == number), "{call} gave {number} at {at}");
+            self.above[index][number] += 1;
+        }
     }
 
     pub fn calls(&self) -> u64 {
@@ -55,17 +72,25 @@ impl Tally {
     pub fn text(&self) -> String {
         let line = |call: usize| {
             let given = CALLS[call].1.iter().map(|&n| format!(" {n}: {}", self.counts[call][n]));
+            let given: String = given.collect();
+            let above = with_place(call).map(|n| format!(" {n}: {}", self.above[call][n]));
+            let above: String = above.collect();
+            let places = if above.is_empty() { "" } else { "; with a place above 0" };
             let total: u64 = self.counts[call].iter().sum();
-            format!("{:<14} {total:>9} calls;{}\n", CALLS[call].0, given.collect::<String>())
+            format!("{:<14} {total:>9} calls;{given}{places}{above}\n", CALLS[call].0)
         };
         (0..CALLS.len()).filter(|&call| self.is_used(call)).map(line).collect()
     }
 
-    /// The numbers never reached, of the calls named.
+    /// The numbers never reached, or never with a place above 0 where they
+    /// have one, of the calls named.
     pub fn missed(&self, calls: &[&str]) -> Vec<String> {
         let of_call = |call: usize| {
+            let name = CALLS[call].0;
             let never = move |&&n: &&usize| self.counts[call][n] == 0;
-            CALLS[call].1.iter().filter(never).map(move |n| format!("{} {n}", CALLS[call].0))
+            let numbers = CALLS[call].1.iter().filter(never).map(move |n| format!("{name} {n}"));
+            let places = with_place(call).filter(move |&n| self.above[call][n] == 0);
+            numbers.chain(places.map(move |n| format!("{name} {n} with a place above 0")))
         };
         calls.iter().map(|call| index_of(call)).flat_map(of_call).collect()
     }
@@ -85,20 +110,43 @@ mod tests {
         let mut tally = Tally::default();
         assert!(tally.text().is_empty());
         assert_eq!(tally.missed(&["plain_table"]), ["plain_table 0", "plain_table 5"]);
-        tally.add("read_signed", 12);
-        tally.add("read_signed", 12);
-        tally.add("write_signed", 0);
+        tally.add("read_signed", 12, 0);
+        tally.add("read_signed", 12, 0);
+        tally.add("write_signed", 0, 0);
         assert_eq!(tally.calls(), 3);
         let missed = tally.missed(&["read_signed", "write_signed"]);
         assert_eq!(missed, ["read_signed 0", "read_signed 13", "write_signed 5"]);
         let all: usize = CALLS.iter().map(|(_, numbers)| numbers.len()).sum();
-        assert_eq!(tally.missed_of_all().len(), all - 2);
+        // 6 to 10 of three calls are to be reached with a place too.
+        assert_eq!(tally.missed_of_all().len(), all + 15 - 2);
         assert!(tally.text().contains("2 calls; 0: 0 12: 2 13: 0\n"));
+    }
+
+    #[test]
+    fn places_are_counted_apart() {
+        let mut tally = Tally::default();
+        for number in [0, 1, 2, 3, 5, 6, 7, 8, 9, 10, 11] {
+            tally.add("unpack", number, 0);
+        }
+        let never = |n| format!("unpack {n} with a place above 0");
+        assert_eq!(tally.missed(&["unpack"]), [6, 7, 8, 9, 10].map(never));
+        for number in [6, 7, 9, 10] {
+            tally.add("unpack", number, 1);
+        }
+        assert_eq!(tally.missed(&["unpack"]), [never(8)]);
+        let places = "8: 1 9: 2 10: 2 11: 1; with a place above 0 6: 1 7: 1 8: 0 9: 1 10: 1\n";
+        assert!(tally.text().ends_with(places), "{}", tally.text());
+    }
+
+    #[test]
+    #[should_panic(expected = "read_record gave 11 at 3")]
+    fn places_of_other_numbers_are_not_counted() {
+        Tally::default().add("read_record", 11, 3);
     }
 
     #[test]
     #[should_panic(expected = "judge_record gave 5")]
     fn impossible_numbers_are_not_counted() {
-        Tally::default().add("judge_record", 5);
+        Tally::default().add("judge_record", 5, 0);
     }
 }

@@ -21,10 +21,10 @@ carriedBy p table = record { table = take (p .kept) table; state = p .state; ind
 abbrev pub turnedBy : Turn → List ℕ → List ℕ → Turned
 turnedBy t table line = record { line = take (t .count) line; last = t .last; next = carriedBy (t .next) table }
 
--- the last turn: the line with such a number
-abbrev pub endTurn : ℕ → ℕ → ListProgress → Turn
-endTurn taken number p =
-    record { failed = false; last = true; taken = taken; count = length (lastLine number (p .index) (p .rows)); next = p }
+-- the last turn: the line with such a number and bit
+abbrev pub endTurn : ℕ → ℕ → ℕ → ListProgress → Turn
+endTurn taken number bit p =
+    record { failed = false; last = true; taken = taken; count = length (lastLine number bit (p .index) (p .rows)); next = p }
 
 -- the table after the record b, which was judged so: what was kept before, or what follows the six bytes of length and kind
 abbrev pub tableAfter : RecordRead → List ℕ → List ℕ → List ℕ

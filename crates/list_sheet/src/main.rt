@@ -1,5 +1,5 @@
-// Lists sheets: of each a line for each record, then `done rows N` or `refused N at record K`. A sheet may have any length:
-// one record is held at a time, and its line goes out as soon as it is known.
+// Lists sheets: of each a line for each record, then `done rows N` or `refused N at record K`, with `bit B` where a packed row
+// cannot be read. A sheet may have any length: one record is held at a time, and its line goes out as soon as it is known.
 mod files;
 mod input;
 mod list;
@@ -47,8 +47,8 @@ fn help(file: i32) -> bool {
         b"usage: list_sheet [FILE ...]
 
 Lists the records of each sheet, a line each, and says at the end how many rows
-there are, or at which record and by which rule it is refused. With no FILE, and
-where FILE is -, it reads standard input.
+there are, or at which record, in a packed row at which bit, and by which rule
+it is refused. With no FILE, and where FILE is -, it reads standard input.
 
   --help     prints this
   --version  prints the version

@@ -82,7 +82,7 @@ pub fn take_turn(
         return unread(at);
     }
     if count == 0 {
-        return end(0, number_at_end(at.index), at, line);
+        return end(0, number_at_end(at.index), 0, at, line);
     }
     list_one(&bytes[..count], table, line, at)
 }
@@ -108,18 +108,19 @@ pub fn unread(at: ListProgress) -> Turn
 }
 
 // The last line.
-fn end(taken: usize, number: u32, at: ListProgress, line: &mut [u8]) -> Turn
+fn end(taken: usize, number: u32, bit: u32, at: ListProgress, line: &mut [u8]) -> Turn
     requires { ⌜ 128 ≤ length (now line) ⌝ }
-    ensures turn { λ r. ⌜ r ≡ endTurn taken number at ⌝ }
+    ensures turn { λ r. ⌜ r ≡ endTurn taken number bit at ⌝ }
     ensures within { λ r. ⌜ r .count ≤ length (now (line .exit)) ⌝ }
-    ensures line { λ r. ⌜ take (r .count) (now (line .exit)) ≡ lastLine number (at .index) (at .rows) ⌝ }
+    ensures line { λ r. ⌜ take (r .count) (now (line .exit)) ≡ lastLine number bit (at .index) (at .rows) ⌝ }
 {
-    let last = list_end(number, at.index, at.rows, line);
+    let given = list_end(number, bit, at.index, at.rows, line);
+    let count = given.count as usize;
     Turn {
         failed: false,
         last: true,
         taken,
-        count: last.count as usize,
+        count,
         next: at,
     }
 }
@@ -142,7 +143,7 @@ fn list_one(bytes: &[u8], table: &mut [u8], line: &mut [u8], at: ListProgress) -
     let read = listed.read;
     let number = read.number;
     if number != 0 {
-        return end(bytes.len(), number, at, line);
+        return end(bytes.len(), number, read.at, at, line);
     }
     let count = listed.count as usize;
     let kept = keep_table(read, bytes, table, at.kept);

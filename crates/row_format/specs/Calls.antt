@@ -11,8 +11,10 @@ use Rattle.row_format.specs.Lists.{any}
 use Rattle.row_format.specs.Table.{tableNumber, maxItemBits}
 use Rattle.row_format.specs.Row.{fresh, rowBits, rowBytes, pixelsOf, pixelBytes, tooMany, tooHigh, Item}
 use Rattle.row_format.specs.Reading.{Run, done, stop, bitsOfRun, rowReading, Reads}
+use Rattle.row_format.specs.Place.{placeShown}
+use Rattle.row_format.specs.declared.RowUnpacked.{RowUnpacked}
 use Rattle.answer.specs.declared.Answer.{Answer}
-use Rattle.answer.specs.Outcome.{Outcome, answerOf, refusal, refused, wrote, _orElse_, unless, lent, roomNumber}
+use Rattle.answer.specs.Outcome.{Outcome, outcome, writes, answerOf, refusal, refused, wrote, _orElse_, unless, lent, roomNumber}
 pub mod Laws
 
 -- ---- the table check: the number and, where accepted, M
@@ -38,12 +40,24 @@ unfoldable pub packed : List ℕ → List ℕ → List ℕ → Outcome Answer
 packed tb pb m =
     unless (packNumber tb (halvesOf pb) (length m / 4)) (λ e. refused e m) (packedRow (wordsOf tb) (halvesOf pb) m)
 
--- ---- unpacking: what reading the row comes to. Done, the bits used, and the pixels
-abbrev pub rowOutcome : List ℕ → Run → Outcome Answer
-rowOutcome m (done is u) = wrote u (pixelBytes (pixelsOf fresh is)) m
-rowOutcome m (stop e at u) = refused e m
+-- ---- unpacking: what reading the row comes to
+-- refused where reading stopped at a place. Document 02, ticket 2, amends "Every refusal returns 0 for all counts and values":
+-- 6 to 10 return the place, "and zero elsewhere"
+abbrev pub rowRefusal : ℕ → ℕ → RowUnpacked
+rowRefusal at e = record { number = e; count = 0; at = placeShown e at }
 
-unfoldable pub unpacked : List ℕ → List ℕ → ℕ → List ℕ → Outcome Answer
+abbrev pub rowRefused : ℕ → ℕ → List ℕ → Outcome RowUnpacked
+rowRefused at e m = outcome (rowRefusal at e) m
+
+-- done: the bits used, and the pixels' bytes
+abbrev pub rowWrote : ℕ → List ℕ → List ℕ → Outcome RowUnpacked
+rowWrote u b m = writes (record { number = 0; count = u; at = 0 }) b m
+
+abbrev pub rowOutcome : List ℕ → Run → Outcome RowUnpacked
+rowOutcome m (done is u) = rowWrote u (pixelBytes (pixelsOf fresh is)) m
+rowOutcome m (stop e at u) = rowRefused at e m
+
+unfoldable pub unpacked : List ℕ → List ℕ → ℕ → List ℕ → Outcome RowUnpacked
 unpacked tb wb n m = rowOutcome m (rowReading (lent (length m)) tb n wb)
 
 -- an unpacking that is done: the items and bits of its reading, and what it left
@@ -51,7 +65,7 @@ pub record Accepts (tb wb : List ℕ) (n : ℕ) (m : List ℕ) : Type 0 where
   pub items : List Item
   pub used : ℕ
   pub reads : Reads (lent (length m)) tb n wb items used
-  pub left : unpacked tb wb n m ≡ wrote used (pixelBytes (pixelsOf fresh items)) m
+  pub left : unpacked tb wb n m ≡ rowWrote used (pixelBytes (pixelsOf fresh items)) m
 
 -- the bits that it uses, done or refused
 unfoldable pub bitsUsed : List ℕ → List ℕ → ℕ → List ℕ → ℕ

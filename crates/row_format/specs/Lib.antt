@@ -3,6 +3,7 @@ pub mod BitLaws
 pub mod Table
 pub mod Plain
 pub mod Row
+pub mod Place
 pub mod Reading
 pub mod Calls
 pub mod Theorems

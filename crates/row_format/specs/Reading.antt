@@ -10,7 +10,7 @@ use Rattle.bitstream.specs.Bits.{numOf, begins, wordsOf, stream, wordsFor}
 use Rattle.answer.specs.Outcome.{_orElse_, refuseIf, unless, Lent, roomNumber}
 use Rattle.row_format.specs.Lists.{any, least}
 use Rattle.row_format.specs.Table.{codewords, codewordAt, entryDifference, tableNumber, hasDifference}
-use Rattle.row_format.specs.Row.{Item, difference, badPixel, badBias, escape, State, fresh, previous, pixelOf, pixelsOf, after, byDifference, tooMany}
+use Rattle.row_format.specs.Row.{Item, difference, badPixel, badBias, escape, State, fresh, previous, pixelOf, pixelsOf, after, afterAll, bits, byDifference, tooMany}
 pub mod Laws
 
 -- the place of the first string that begins the rest; in an accepted table it is the only one
@@ -81,7 +81,7 @@ abbrev pub bitsOfReading : Reading → ℕ
 bitsOfReading (item i u) = u
 bitsOfReading (fault e u) = u
 
--- ---- a run of items: the items and the bits used; or the number, the bit place of the faulty item and the bits used
+-- ---- a run of items: the items and the bits used; or the number, the bit place where it stopped and the bits used
 pub data Run : Type 0 where
   done : List Item → ℕ → Run
   stop : ℕ → ℕ → ℕ → Run
@@ -90,6 +90,11 @@ pub data Run : Type 0 where
 abbrev pub runNumber : Run → ℕ
 runNumber (done is u) = 0
 runNumber (stop e at u) = e
+
+-- the bit place where it stopped, 0 where it is done
+abbrev pub runPlace : Run → ℕ
+runPlace (done is u) = 0
+runPlace (stop e at u) = at
 
 -- "A reading uses the bits of the items it reads. At a faulty item it also uses" that item's
 abbrev pub bitsOfRun : Run → ℕ
@@ -150,6 +155,25 @@ pub record Reads (m : Lent) (tb : List ℕ) (n : ℕ) (wb : List ℕ) (is : List
   pub given : Readable m tb n
   pub read : readItems (wordsOf tb) n (stream wb) ≡ done is u
   pub clean : stray u (stream wb) ≡ false
+
+-- one that is refused by e at a faulty item: the items before it are read, its place is the sum of their lengths, and reading
+-- the item at that place, in the state after them, is a fault by e
+pub record StoppedAt (m : Lent) (tb : List ℕ) (n : ℕ) (wb : List ℕ) (e at : ℕ) : Type 0 where
+  pub given : Readable m tb n
+  pub items : List Item
+  pub fewer : length items < n
+  pub read : readItems (wordsOf tb) (length items) (stream wb) ≡ done items at
+  pub sum : at ≡ length (bits (wordsOf tb) items)
+  pub used : ℕ
+  pub faulty : readItem (wordsOf tb) (afterAll fresh items) (drop at (stream wb)) ≡ fault e used
+
+-- one that is refused 10: its n items are read, its place is the bits that they take, and an unused bit is set
+pub record StrayAt (m : Lent) (tb : List ℕ) (n : ℕ) (wb : List ℕ) (at : ℕ) : Type 0 where
+  pub given : Readable m tb n
+  pub items : List Item
+  pub read : readItems (wordsOf tb) n (stream wb) ≡ done items at
+  pub sum : at ≡ length (bits (wordsOf tb) items)
+  pub set : stray at (stream wb) ≡ true
 
 -- ---- departures: an item departs from what packing would write for its pixel where packing writes that pixel by its
 -- difference and the item is raw ("needless"), or the other way round

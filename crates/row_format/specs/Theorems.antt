@@ -1,25 +1,28 @@
--- The theorems about tables, rows and the calls, in the words of the customer's demands and of document 01; the files below
--- prove them. tb, pb and wb are the bytes of a table, of pixels and of words, t is a table's words, r is a run of bits, and m
--- is the memory lent for writing, as it was. A table is accepted where its verdict is 0. M is maxItemBits t, and an item's
--- bits are those of itemBits t. Assumes nothing.
+-- The theorems about tables, rows and the calls, in the words of the customer's demands, of document 01 and of document 02's
+-- ticket 2, by which a refusal gives zero for every count and value but the place of 6 to 10; the files below prove them. tb, pb
+-- and wb are the bytes of a table, of pixels and of words, t is a table's words, r is a run of bits, and m is the memory lent for
+-- writing, as it was. A table is accepted where its verdict is 0. M is maxItemBits t, and an item's bits are those of itemBits t.
+-- Assumes nothing.
 use Prim.Native.Nat.{ℕ, _+_, _*_, _/_, _^_, _≤_, _<_}
+use native.Mathlib.Nat.{le-trans}
 use mathlib.Core.Path.{_≡_, refl, sym, _∙_}
 use mathlib.Core.Bool.{true, false}
 use mathlib.Core.List.{List, [], _∷_, _++_}
-use mathlib.Core.Logic.{_↔_}
+use mathlib.Core.Logic.{_↔_, _⊎_}
 use lib.ListN.{length, take, drop, getD}
 use lib.IntN.{pos, negsuc, _-ℤ_}
 use lib.Signed.{_≤ℤ_}
 use lib.Dec.{ltb, eqb}
 use Rattle.bitstream.specs.Bits.{begins, wordsOf, halvesOf, stream, wordsFor, Below}
-use Rattle.answer.specs.Outcome.{answerOf, refusal, wrote, lent, Kept, Within}
+use Rattle.answer.specs.Outcome.{answerOf, refusal, lent, Kept, Within}
 use Rattle.row_format.specs.Lists.{any}
+use Rattle.row_format.specs.Place.{hasPlace}
 use Rattle.row_format.specs.Table.{lowLimit, tableSize, codewordAt, escapeLength, signedDifference, entryDifference, hasDifference, clash, verdict, tableNumber, Apart, Accepted, maxItemBits}
 use Rattle.row_format.specs.Table.Laws.{clash-false-apart, apart-clash-false, accepted, verdict-accepted, signed-differenceTo, length-codewordAt, escapeLength-least, codewordAt-least, codewordAt-most, codewordAt-only, maxItemBits-least, maxItemBits-most}
 use Rattle.row_format.specs.Row.{Item, difference, escape, State, fresh, previous, differenceTo, byDifference, itemFor, pixelOf, afterAll, itemBits, itemsFor, pixelsOf, bits, rowBits, rowBytes, pixelBytes}
 use Rattle.row_format.specs.Row.Laws.{itemFor-escape}
-use Rattle.row_format.specs.Reading.{inside, Fits, FitAll, bitsOfReading, readItem, done, stop, bitsOfRun, prependAll, readBy, readItems, stray, firstNumber, Reads, departs, anyDeparts}
-use Rattle.row_format.specs.Calls.{checked, Packable, packed, unpacked, Accepts, bitsUsed, room}
+use Rattle.row_format.specs.Reading.{inside, Fits, FitAll, bitsOfReading, readItem, done, stop, bitsOfRun, prependAll, readBy, readItems, stray, firstNumber, Readable, Reads, StoppedAt, StrayAt, departs, anyDeparts}
+use Rattle.row_format.specs.Calls.{checked, Packable, packed, rowRefusal, rowRefused, rowWrote, unpacked, Accepts, bitsUsed, room}
 use Rattle.row_format.specs.Calls.Laws.{packed-number, packed-done}
 use Bounds.{readItem-uses, bitsUsed-most, bitsUsed-none, bitsUsed-run, length-rowBits}
 use Differences.{entry-for, entry-signed, itemBits-entry, leads, pixelOf-differenceTo}
@@ -34,6 +37,10 @@ use OwnWords.{own-words, own-words-packed}
 use Memory.{packed-kept, packed-within, unpacked-kept, unpacked-within}
 use Numbers.{checked-in, room-in, packed-in, unpacked-in}
 use Done.{unpacked-accepts, unpacked-reads, unpacked-stands, bitsUsed-count, pixels-left}
+use BitsLeft.{bitsUsed-words}
+use Places.{unpacked-none, unpacked-stopped, stopped-unpacked, unpacked-stray, stray-unpacked, stray-used, unpacked-within-used}
+use Places.{stopped-before, stopped-before-used}
+use WordsEnd.{words-end}
 pub mod Search
 pub mod Bounds
 pub mod Items
@@ -49,6 +56,11 @@ pub mod Departures
 pub mod OwnWords
 pub mod Memory
 pub mod Numbers
+pub mod BitsLeft
+pub mod Shown
+pub mod Stops
+pub mod Places
+pub mod WordsEnd
 pub mod Done
 
 -- ---- an accepted table
@@ -140,13 +152,13 @@ module _ (tb pb m : List ℕ) (bytes : Below 256 pb) (packs : packed tb pb m .an
   pub round-trip : (rest m′ : List ℕ) → length (halvesOf pb) ≤ length m′ / 2
       → let front = take (4 * wordsFor (packed tb pb m .answer .count)) (packed tb pb m .memory) in
       unpacked tb (front ++ rest) (length (halvesOf pb)) m′
-      ≡ wrote (packed tb pb m .answer .count) (take (2 * length (halvesOf pb)) pb) m′
+      ≡ rowWrote (packed tb pb m .answer .count) (take (2 * length (halvesOf pb)) pb) m′
   round-trip = unpacked-front tb pb m bytes packs
 
   -- the same from the very memory that packing leaves
   pub round-trip-memory : (m′ : List ℕ) → length (halvesOf pb) ≤ length m′ / 2
       → unpacked tb (packed tb pb m .memory) (length (halvesOf pb)) m′
-      ≡ wrote (packed tb pb m .answer .count) (take (2 * length (halvesOf pb)) pb) m′
+      ≡ rowWrote (packed tb pb m .answer .count) (take (2 * length (halvesOf pb)) pb) m′
   round-trip-memory = unpacked-packed tb pb m bytes packs
 
 -- "Foreign words are read by the same rules or refused". Items that may stand where they stand, written one after the other,
@@ -208,7 +220,7 @@ used-words-own t ok = own-words t (accepted t ok)
 -- unpacking is done where what is asked before the first item is given, n items are read and no unused bit is set; and only
 -- there
 pub unpacked-granted : (tb wb : List ℕ) (n : ℕ) (m : List ℕ) (is : List Item) (u : ℕ) → Reads (lent (length m)) tb n wb is u
-    → unpacked tb wb n m ≡ wrote u (pixelBytes (pixelsOf fresh is)) m
+    → unpacked tb wb n m ≡ rowWrote u (pixelBytes (pixelsOf fresh is)) m
 unpacked-granted = unpacked-reads
 
 pub unpacked-done : (tb wb : List ℕ) (n : ℕ) (m : List ℕ) → unpacked tb wb n m .answer .number ≡ 0 → Accepts tb wb n m
@@ -288,7 +300,7 @@ pub item-bits : (t : List ℕ) (s : State) (r : List ℕ) → bitsOfReading (rea
 item-bits = readItem-uses
 
 -- "Any two runs of words that are alike in their first n times M bits, rounded up to whole words, get the same answer when n
--- pixels are unpacked from them"; under any table
+-- pixels are unpacked from them", the place included; under any table
 pub words-alike : (tb wb wb′ : List ℕ) (n : ℕ) (m : List ℕ)
     → let k = wordsFor (n * maxItemBits (wordsOf tb)) in
     4 * k ≤ length wb → 4 * k ≤ length wb′ → take (4 * k) wb ≡ take (4 * k) wb′
@@ -308,6 +320,60 @@ least-difference = refl
 
 pub most-difference : signedDifference 8186 ≡ pos 4093
 most-difference = refl
+
+-- ---- document 02, ticket 2: where reading stopped
+-- "refusals 6 to 9 return the bit place of the faulty item's first bit and zero elsewhere; 10 returns the first unused bit".
+-- Places are counted from bit 0 of the row's first word. Every other number has none, and done has none
+module _ (tb wb : List ℕ) (n : ℕ) (m : List ℕ) where
+  pub place-none : hasPlace (unpacked tb wb n m .answer .number) ≡ false → unpacked tb wb n m .answer .at ≡ 0
+  place-none = unpacked-none tb wb n m
+
+  pub place-done : unpacked tb wb n m .answer .number ≡ 0 → unpacked tb wb n m .answer .at ≡ 0
+  place-done e = place-none (rw e)
+
+  -- 6 to 9: the items before the faulty one are read, the place is the sum of their lengths, and there stands an item that is
+  -- refused so. And back
+  pub place-item : 6 ≤ unpacked tb wb n m .answer .number → unpacked tb wb n m .answer .number ≤ 9
+      → StoppedAt (lent (length m)) tb n wb (unpacked tb wb n m .answer .number) (unpacked tb wb n m .answer .at)
+  place-item = unpacked-stopped tb wb n m
+
+  pub place-item-back : (e at : ℕ) → StoppedAt (lent (length m)) tb n wb e at
+      → (unpacked tb wb n m ≡ rowRefused at e m) × (unpacked tb wb n m .answer .at ≡ at)
+  place-item-back = stopped-unpacked tb wb n m
+
+  -- unpacking just those items from the same words, with room for them, is done or is refused 10, at that place; and uses
+  -- exactly the bits up to it
+  module _ (e at : ℕ) (got : StoppedAt (lent (length m)) tb n wb e at) (m′ : List ℕ) (room : 2 * length (got .items) ≤ length m′) where
+    pub before-fault : (unpacked tb wb (length (got .items)) m′ ≡ rowWrote at (pixelBytes (pixelsOf fresh (got .items))) m′)
+        ⊎ (unpacked tb wb (length (got .items)) m′ ≡ rowRefused at 10 m′)
+    before-fault = stopped-before (lent (length m)) tb n wb e at got m′ room
+
+    pub before-fault-bits : bitsUsed tb wb (length (got .items)) m′ ≡ at
+    before-fault-bits = stopped-before-used (lent (length m)) tb n wb e at got m′ room
+
+  -- 10: the row's items are read, and the place is the bits that they take, which are the bits used. And back
+  pub place-unused : unpacked tb wb n m .answer .number ≡ 10 → StrayAt (lent (length m)) tb n wb (unpacked tb wb n m .answer .at)
+  place-unused = unpacked-stray tb wb n m
+
+  pub place-unused-bits : unpacked tb wb n m .answer .number ≡ 10 → unpacked tb wb n m .answer .at ≡ bitsUsed tb wb n m
+  place-unused-bits ten = sym (stray-used tb wb n m (unpacked tb wb n m .answer .at) (place-unused ten))
+
+  pub place-unused-back : (at : ℕ) → StrayAt (lent (length m)) tb n wb at → unpacked tb wb n m ≡ rowRefused at 10 m
+  place-unused-back = stray-unpacked tb wb n m
+
+  -- whatever is answered, under any table, the place is at most n times M, and at most 32 times the words
+  pub place-most : unpacked tb wb n m .answer .at ≤ n * maxItemBits (wordsOf tb)
+  place-most = le-trans (unpacked-within-used tb wb n m) (bitsUsed-most tb wb n m)
+
+  pub place-words : unpacked tb wb n m .answer .at ≤ 32 * (length wb / 4)
+  place-words = le-trans (unpacked-within-used tb wb n m) (bitsUsed-words tb wb n m)
+
+  -- where the items so far use all bits and more are asked for, it is that: "6: words end: .. the rest is empty"
+  pub place-end : Readable (lent (length m)) tb n → (is : List Item) → length is < n
+      → readItems (wordsOf tb) (length is) (stream wb) ≡ done is (32 * (length wb / 4))
+      → unpacked tb wb n m ≡ rowRefused (32 * (length wb / 4)) 6 m
+  place-end ok is fewer read =
+      stopped-unpacked tb wb n m 6 (32 * (length wb / 4)) (words-end (lent (length m)) tb n wb ok is fewer read) .0
 
 -- ---- demand 1
 -- "each call .. answers with a number from document 01", and its order lists which
@@ -336,8 +402,9 @@ pub packed-refused-keeps : (tb pb m : List ℕ) → (packed tb pb m .answer .num
     → Kept (refusal (packed tb pb m .answer .number)) m (packed tb pb m)
 packed-refused-keeps = packed-kept
 
+-- by ticket 2, "zero for every count and value but the place of 6 to 10"
 pub unpacked-refused-keeps : (tb wb : List ℕ) (n : ℕ) (m : List ℕ) → (unpacked tb wb n m .answer .number ≡ 0 → ⊥)
-    → Kept (refusal (unpacked tb wb n m .answer .number)) m (unpacked tb wb n m)
+    → Kept (rowRefusal (unpacked tb wb n m .answer .at) (unpacked tb wb n m .answer .number)) m (unpacked tb wb n m)
 unpacked-refused-keeps = unpacked-kept
 
 -- "A done call writes only the pixels, words or bytes that it counts"

@@ -26,9 +26,10 @@ pub fn open<'a, 'b>(table: &'a [u8], words: &'b [u8]) -> Reader<'a, 'b>
     }
 }
 
-// The next item, with its pixel; the reader moves past it, and where it is refused stays.
+// The next item, with its pixel; the reader moves past it, and where it is refused stays: the answer's place is the item's.
 pub fn next<'s, 'a, 'b>(r: &'s mut Reader<'a, 'b>) -> ItemRead
     ensures given { λ x. ⌜ x ≡ itemRead (now (now (r .entry) .table)) (now (now (r .entry) .words)) (now (r .entry) .place) ⌝ }
+    ensures place { λ x. ⌜ ((x .number ≡ 0 → ⊥) → x .place ≡ now (r .entry) .place) ⌝ }
     ensures moved { λ x. ⌜ now (r .exit) ≡ record { table = now (r .entry) .table; words = now (r .entry) .words; place = x .place } ⌝ }
 {
     let x = item_at(r.table, r.words, r.place);

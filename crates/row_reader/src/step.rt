@@ -43,9 +43,11 @@ pub fn start(table: &[u8]) -> Place
     }
 }
 
-// The item at a place, whatever the table's bytes, the words and the place are.
+// The item at a place, whatever the table's bytes, the words and the place are. A refusal is at the place that was given: for 6
+// to 9 its `at` is where the faulty item begins.
 pub fn item_at(table: &[u8], words: &[u8], place: Place) -> ItemRead
-    ensures { λ r. ⌜ r ≡ itemRead (now (table .entry)) (now (words .entry)) place ⌝ }
+    ensures given { λ r. ⌜ r ≡ itemRead (now (table .entry)) (now (words .entry)) place ⌝ }
+    ensures place { λ r. ⌜ ((r .number ≡ 0 → ⊥) → r .place ≡ place) ⌝ }
 {
     let number = place_number(place);
     if number != 0 {
@@ -56,7 +58,7 @@ pub fn item_at(table: &[u8], words: &[u8], place: Place) -> ItemRead
     let p = place.progress;
     let read = read_item(table, words, at, p);
     match read {
-        Read::Got { item, pixel, next } => ItemRead {
+        Read::Got { pixel, item, next } => ItemRead {
             number: 0,
             item,
             pixel,

@@ -15,7 +15,7 @@ use Rattle.row_unpacker.specs.declared.item.Read.the-variants.{Got, Refu
 
 -- a reading at a place as the code answers it. The bits that a refused item uses are no part of the answer
 abbrev pub answered : State → ℕ → Reading → Read
-answered s at (item i u) = Got (coded i) (pixelOf s i) (at + u)
+answered s at (item i u) = Got (pixelOf s i) (coded i) (at + u)
 answered s at (fault e u) = Refused e at
 
 -- the item at a place: of whatever bytes of a table tb and of words wb

@@ -3,11 +3,11 @@ use Prim.Native.Nat.{ℕ, _*_}
 use mathlib.Core.Path.{_≡_}
 use mathlib.Core.List.{List}
 use lib.ListN.{take}
-use Rattle.answer.specs.declared.Answer.{Answer}
 use Rattle.answer.specs.Outcome.{Outcome}
 use Rattle.bitstream.specs.Bits.{flat, bytesOf, wordsOf, stream}
 use Rattle.row_format.specs.Row.{State, pixelsOf}
 use Rattle.row_format.specs.Reading.{Run, done, stop, readItems, withoutStray}
+use Rattle.row_format.specs.declared.RowUnpacked.{RowUnpacked}
 use Rattle.row_format.specs.Calls.{rowOutcome}
 use Rattle.row_unpacker.specs.declared.row.RowRead.{RowRead}
 use Rattle.row_unpacker.specs.declared.row.RowRead.the-variants.{Done, Refused}
@@ -17,7 +17,7 @@ abbrev pub itemsRead : List ℕ → List ℕ → ℕ → Run
 itemsRead tb wb n = readItems (wordsOf tb) n (stream wb)
 
 -- and what they leave in the lent memory, refused 10 at a stray bit
-abbrev pub rowLeft : List ℕ → List ℕ → ℕ → List ℕ → Outcome Answer
+abbrev pub rowLeft : List ℕ → List ℕ → ℕ → List ℕ → Outcome RowUnpacked
 rowLeft tb wb n m = rowOutcome m (withoutStray (stream wb) (itemsRead tb wb n))
 
 -- what a reading has come to: the pixels' bytes and the bits used; or the number and the place of the faulty item

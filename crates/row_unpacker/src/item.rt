@@ -22,9 +22,10 @@ ghost use Rattle.row_unpacker.specs.View.{Seen};
 ghost use Rattle.row_unpacker.specs.Search.{Finds};
 ghost use Rattle.row_unpacker.specs.Item.{itemAt, foundAt, entryAt, HeightAt};
 
-// The item, its pixel and the bit place after it; or the number of the refusal and the place of the faulty item.
+// The item, its pixel and the bit place after it; or the number of the refusal and the place of the faulty item. The pixel is
+// first, so that the number lies where it does, and no load of one reaches over both it and the item: that would wait for both.
 pub enum Read {
-    Got { item: Item, pixel: u32, next: usize },
+    Got { pixel: u32, item: Item, next: usize },
     Refused { number: u32, place: usize },
 }
 
@@ -82,15 +83,15 @@ pub fn item_found(table: &[u8], words: &[u8], at: usize, p: Progress, j: usize) 
     }
     if j == 1 {
         return Read::Got {
-            item: Item::BadPixel,
             pixel: 4095,
+            item: Item::BadPixel,
             next: at + len,
         };
     }
     if j == 2 {
         return Read::Got {
-            item: Item::BadBias,
             pixel: 4094,
+            item: Item::BadBias,
             next: at + len,
         };
     }
@@ -113,8 +114,8 @@ fn height_after(words: &[u8], at: usize, len: usize) -> Read
     let height = v.window % 4096;
     if height < 4094 {
         return Read::Got {
-            item: Item::Escape(height),
             pixel: height,
+            item: Item::Escape(height),
             next: at + len + 12,
         };
     }
@@ -131,6 +132,7 @@ fn entry_found(table: &[u8], at: usize, p: Progress, i: usize, len: usize) -> Re
     requires { ⌜ len < 32 ⌝ }
     ensures { λ r. ⌜ r ≡ entryAt (wordsOf (now (table .entry))) (rowState p) at i len ⌝ }
 {
+    let next = at + len;
     // counted from -4093: the difference, and the height that it leads to
     let count = i as u64 + low_limit(table) as u64;
     let height = previous_of(p) as u64 + count;
@@ -146,10 +148,11 @@ fn entry_found(table: &[u8], at: usize, p: Progress, i: usize, len: usize) -> Re
             place: at,
         };
     }
+    let pixel = (height - 4093) as u32;
     Read::Got {
+        pixel,
         item: Item::Difference(signed_difference(count as u32)),
-        pixel: (height - 4093) as u32,
-        next: at + len,
+        next,
     }
 }
 

@@ -46,7 +46,7 @@ fn read_items(table: &[u8], words: &[u8], hints: &Hints, n: usize, row: &mut [u8
     while i < n {
         let read = hinted_item(table, words, hints, at, p);
         match read {
-            Read::Got { item, pixel, next } => {
+            Read::Got { pixel, item, next } => {
                 put_u16(row, 2 * i, pixel);
                 p = after(p, item, pixel);
                 at = next;

@@ -21,6 +21,7 @@ use Rattle.sheet_format.specs.Writing.{recordBytes, writeNumber, recordW
 pub mod Records
 pub mod Writes
 pub mod Sheets
+pub mod Places
 
 -- the words 7, 4093, 1, 34, 99, 227, 1
 abbrev pub smallTable : List ℕ

@@ -26,6 +26,7 @@ recordGiven code h c x a =
       words = wordsFor (kindOf code .givenBits h c x);
       length = a .count;
       state = a .state;
+      at = 0;
     }
 
 -- ---- records written one after another

@@ -45,6 +45,8 @@ pub record Kind : Type 0 where
   pub place : Context → Heading → ℕ
   -- "the body's own refusals, leftover", and 5 where memory is lent for the content
   pub own : Lent → Context → List ℕ → ℕ
+  -- the bit place where reading the body stops, from the row's first word; 0 where no bits are read
+  pub stop : Context → List ℕ → ℕ
   -- the words of a table, the pixels of a row, the numbers of a line; the bits of a packed row
   pub count : List ℕ → ℕ
   pub bits : Context → List ℕ → ℕ
@@ -69,6 +71,7 @@ unknown = record {
   heading = λ b. noHeading;
   place = λ c h. 0;
   own = λ m c b. 0;
+  stop = λ c b. 0;
   count = λ b. 0;
   bits = λ c b. 0;
   content = λ c b. [];

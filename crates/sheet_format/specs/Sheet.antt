@@ -23,22 +23,24 @@ pub record SheetRecord : Type 0 where
   pub bytes : List ℕ
 
 -- a sheet's records before its end or before the refused one, and the number: 0 where the whole sheet is accepted. "refused N
--- at record K, records counted from 0": K is the count of these records
+-- at record K, records counted from 0": K is the count of these records. place: the bit of the refused row, from its first word,
+-- where reading stopped, and 0 where the number shows none
 pub record SheetRead : Type 0 where
   pub records : List SheetRecord
   pub number : ℕ
+  pub place : ℕ
 
-abbrev pub endsWith : ℕ → SheetRead
-endsWith e = record { records = []; number = e }
+abbrev pub endsWith : ℕ → ℕ → SheetRead
+endsWith e at = record { records = []; number = e; place = at }
 
 abbrev pub putFirst : SheetRecord → SheetRead → SheetRead
-putFirst x s = record { records = x ∷ s .records; number = s .number }
+putFirst x s = record { records = x ∷ s .records; number = s .number; place = s .place }
 
--- a sheet from a record on: at its end, after a record that is accepted, and at one that is refused by a number
-abbrev pub fromRecord : List ℕ → ℕ → SheetRecord → SheetRead → SheetRead
-fromRecord [] e x rest = endsWith 0
-fromRecord (y ∷ r) zero x rest = putFirst x rest
-fromRecord (y ∷ r) (suc e) x rest = endsWith (suc e)
+-- a sheet from a record on: at its end, after a record that is accepted, and at one that is refused by a number and a place
+abbrev pub fromRecord : List ℕ → ℕ → ℕ → SheetRecord → SheetRead → SheetRead
+fromRecord [] e at x rest = endsWith 0 0
+fromRecord (y ∷ r) zero at x rest = putFirst x rest
+fromRecord (y ∷ r) (suc e) at x rest = endsWith (suc e) at
 
 -- the record at r
 abbrev pub recordHere : Context → List ℕ → SheetRecord
@@ -70,16 +72,17 @@ pub record ReadFrom (c : Context) (r : List ℕ) (x : SheetRecord) : Type 0 wher
 -- the records from a place on, where the sheet holds c so far. Every record has bytes, so that there are no more records than
 -- bytes: n bounds them
 unfoldable pub recordsFrom : ℕ → Context → List ℕ → SheetRead
-recordsFrom zero c r = endsWith 0
+recordsFrom zero c r = endsWith 0 0
 recordsFrom (suc n) c r =
-    fromRecord r (recordJudged c r .number) (recordHere c r) (recordsFrom n (contextAfter c r) (restNext c r))
+    let a : RecordRead = recordJudged c r in
+    fromRecord r (a .number) (a .at) (recordHere c r) (recordsFrom n (contextAfter c r) (restNext c r))
 
 abbrev pub records : Context → List ℕ → SheetRead
 records c r = recordsFrom (length r) c r
 
 -- "A sheet with no records is refused 16"
 unfoldable pub sheetRead : List ℕ → SheetRead
-sheetRead [] = endsWith 16
+sheetRead [] = endsWith 16 0
 sheetRead (x ∷ r) = records newSheet (x ∷ r)
 
 -- ---- what records store

@@ -1,10 +1,10 @@
--- The theorems about records and sheets, in document 01's words; the files below prove them. c is what the sheet holds so
+-- The theorems about records and sheets, in the words of document 01 and of document 02's ticket 2; the files below prove them. c is what the sheet holds so
 -- far, r the sheet's bytes from a record's place on, h the heading and x the content that the record writer is given, and m
 -- the memory lent for writing, as it was. The calls are given tb, the bytes of the sheet's table, and st, a state of two
 -- numbers: contextOf tb st is what these say of c. Assumes nothing.
-use Prim.Native.Nat.{ℕ, _+_, _≤_, _<_}
+use Prim.Native.Nat.{ℕ, _+_, _*_, _≤_, _<_}
 use mathlib.Core.Path.{_≡_}
-use mathlib.Core.Bool.{true}
+use mathlib.Core.Bool.{true, false}
 use mathlib.Core.List.{List, [], _∷_, _++_, List·Memᴰ}
 use mathlib.Core.Logic.{_↔_}
 use lib.ListN.{length, take, drop, getD}
@@ -13,13 +13,16 @@ use Rattle.bitstream.specs.Bits.{halvesOf, Below}
 use Rattle.answer.specs.Outcome.{outcome, writes, Kept, Within}
 use Rattle.row_format.specs.Lists.{any}
 use Rattle.row_format.specs.Table.{tableNumber}
+use Rattle.row_format.specs.Place.{hasPlace}
+use Rattle.row_format.specs.Calls.{rowRefused}
 use Rattle.sheet_format.specs.declared.SheetState.{SheetState}
 use Rattle.sheet_format.specs.Context.{Heading, Context, newSheet, stateOf, contextOf}
 use Rattle.sheet_format.specs.Context.Laws.{stateOf-contextOf}
 use Rattle.sheet_format.specs.Kind.{aRow, aLine, tableKept, contentGiven}
+use Rattle.sheet_format.specs.Kind.Row.{pixelCount}
 use Rattle.sheet_format.specs.Kinds.{kindOf}
 use Rattle.sheet_format.specs.Record.{lengthField, kindField, bodyOf, lengthNumber, recordSpan}
-use Rattle.sheet_format.specs.Reading.{answerBytes, contextAfter, recordContent, judgedNumbers, refusedRecord, recordJudged, recordRead}
+use Rattle.sheet_format.specs.Reading.{answerBytes, contextAfter, recordContent, judgedNumbers, refusedRecord, ReachesRow, rowCall, recordJudged, recordRead}
 use Rattle.sheet_format.specs.Reading.Laws.{judged-length}
 use Rattle.sheet_format.specs.Writing.{writtenNumbers, notWritten, recordFor, recordWritten, RecordWritable}
 use Rattle.sheet_format.specs.Sheet.{SheetRecord, ReadFrom, endsWith, putFirst, recordHere, restNext, records, sheetRead, recordHolds, numbersHeld, storedRows, storedLines, absent, present, heightsOf, recordKinds, rowNumbers}
@@ -34,6 +37,8 @@ use Rising.{sheetRead-rising}
 use TableFirst.{table-accepted, sheetRead-table-first}
 use Sheets.{sheetRead-written}
 use Numbers.{recordJudged-numbers, recordRead-numbers, recordWritten-numbers}
+use Place.{recordJudged-placeless, recordRead-placeless, row-judged, row-read}
+use Reached.{recordRead-placed, judged-reaches, judged-call}
 use State.{contextAfter-kept}
 use Stored.{stored-heights, stored-numbers, stored-absent, stored-read, sheetRead-read}
 pub mod ReadBack
@@ -48,6 +53,8 @@ pub mod Sheets
 pub mod Numbers
 pub mod State
 pub mod Stored
+pub mod Place
+pub mod Reached
 
 -- ---- what is written is read back
 -- From the bytes that a done write counts, whatever follows them, and with room for the content, reading gives number 0, the
@@ -88,16 +95,17 @@ written-rowless = recordWritten-rowless
 
 -- A sheet of written records, each done in what the one before left, is accepted, and its records are those.
 pub written-sheet : (w : Write) (ws : List Write) → AllDone newSheet (w ∷ ws)
-    → sheetRead (sheetBytes newSheet (w ∷ ws)) ≡ record { records = sheetGiven newSheet (w ∷ ws); number = 0 }
+    → sheetRead (sheetBytes newSheet (w ∷ ws)) ≡ record { records = sheetGiven newSheet (w ∷ ws); number = 0; place = 0 }
 written-sheet = sheetRead-written
 
 -- ---- sheets
--- "A sheet is records one after another": nothing at its end; at a refused record its number; after an accepted one the rest
-pub sheet-end : (c : Context) → records c [] ≡ endsWith 0
+-- "A sheet is records one after another": nothing at its end; at a refused record its number and place; after an accepted one
+-- the rest
+pub sheet-end : (c : Context) → records c [] ≡ endsWith 0 0
 sheet-end = records-end
 
 pub sheet-refused : (c : Context) (x : ℕ) (r : List ℕ) → (recordJudged c (x ∷ r) .number ≡ 0 → ⊥)
-    → records c (x ∷ r) ≡ endsWith (recordJudged c (x ∷ r) .number)
+    → records c (x ∷ r) ≡ endsWith (recordJudged c (x ∷ r) .number) (recordJudged c (x ∷ r) .at)
 sheet-refused = records-refused
 
 pub sheet-more : (c : Context) (x : ℕ) (r : List ℕ) → recordJudged c (x ∷ r) .number ≡ 0
@@ -194,6 +202,41 @@ module _ (code : ℕ) (h : Heading) (c : Context) (x m : List ℕ) (ok : RecordW
   pub written-refused-room : length m < length (recordFor code h c x) → recordWritten code h c x m .answer .number ≡ 5
   written-refused-room = full-written code h c x m ok
 
+-- ---- document 02, ticket 2: where reading stopped
+-- The place is 0 where a record is accepted, and for every number but 6 to 10.
+pub judged-place-none : (c : Context) (r : List ℕ) → hasPlace (recordJudged c r .number) ≡ false → recordJudged c r .at ≡ 0
+judged-place-none = recordJudged-placeless
+
+pub read-place-none : (c : Context) (r m : List ℕ) → hasPlace (recordRead c r m .answer .number) ≡ false
+    → recordRead c r m .answer .at ≡ 0
+read-place-none = recordRead-placeless
+
+-- Of a record that is a packed row, its length, fields and place in order: where the row call, lent m, answers 6 to 10 for the
+-- row's words, judging the record answers the same number and place, "counted from the row's first word", and so does reading
+-- it where there is room for the row.
+module _ (c : Context) (r : List ℕ) (there : ReachesRow c r) (m : List ℕ) (shows : hasPlace (rowCall c r m .answer .number) ≡ true)
+  where
+    pub judged-row-place : let a = rowCall c r m .answer in recordJudged c r ≡ refusedRecord (a .at) (a .number)
+    judged-row-place = row-judged c r there m shows
+
+    pub read-row-place : (m′ : List ℕ) → 2 * pixelCount (bodyOf r) ≤ length m′
+        → let a = rowCall c r m .answer in recordRead c r m′ ≡ outcome (refusedRecord (a .at) (a .number)) m′
+    read-row-place = row-read c r there m shows
+
+-- And back: what judging refuses 6 to 10 is such a record, and the row call for its words, where it has room for the row, answers
+-- that number and that place. Where reading a record answers 6 to 10, it answers as judging does.
+module _ (c : Context) (r : List ℕ) (shows : hasPlace (recordJudged c r .number) ≡ true) where
+  pub judged-place-row : ReachesRow c r
+  judged-place-row = judged-reaches c r shows
+
+  pub judged-place-call : (m : List ℕ) → 2 * pixelCount (bodyOf r) ≤ length m
+      → rowCall c r m ≡ rowRefused (recordJudged c r .at) (recordJudged c r .number) m
+  judged-place-call = judged-call c r shows
+
+pub read-place-judged : (c : Context) (r m : List ℕ) → hasPlace (recordRead c r m .answer .number) ≡ true
+    → recordRead c r m .answer ≡ recordJudged c r
+read-place-judged = recordRead-placed
+
 -- ---- demand 1
 -- "each call .. answers with a number from document 01", and its order lists which; judging never gives 5
 pub judged-numbers : (c : Context) (r : List ℕ) → any (eqb (recordJudged c r .number)) judgedNumbers ≡ true
@@ -206,13 +249,14 @@ pub written-numbers : (code : ℕ) (h : Heading) (c : Context) (x m : List ℕ)
     → any (eqb (recordWritten code h c x m .answer .number)) writtenNumbers ≡ true
 written-numbers = recordWritten-numbers
 
--- "A refused call gives its number, zero for every count and value, and leaves the lent memory as found"
+-- "A refused call gives its number, zero for every count and value, and leaves the lent memory as found", as ticket 2 amends
+-- it: but the place of 6 to 10, which refusedRecord keeps
 pub judged-refused-keeps : (c : Context) (r : List ℕ) → (recordJudged c r .number ≡ 0 → ⊥)
-    → recordJudged c r ≡ refusedRecord (recordJudged c r .number)
+    → recordJudged c r ≡ refusedRecord (recordJudged c r .at) (recordJudged c r .number)
 judged-refused-keeps = recordJudged-refused
 
 pub read-refused-keeps : (c : Context) (r m : List ℕ) → (recordRead c r m .answer .number ≡ 0 → ⊥)
-    → Kept (refusedRecord (recordRead c r m .answer .number)) m (recordRead c r m)
+    → let a = recordRead c r m .answer in Kept (refusedRecord (a .at) (a .number)) m (recordRead c r m)
 read-refused-keeps = recordRead-kept
 
 pub written-refused-keeps : (code : ℕ) (h : Heading) (c : Context) (x m : List ℕ)

@@ -3,6 +3,7 @@ pub mod kind;
 pub mod place;
 pub mod word;
 
+use row_format::place::place_shown;
 ghost use mathlib.Core.Path.{_≡_};
 ghost use Rattle.sheet_format.specs.Reading.{refusedRecord};
 
@@ -18,9 +19,9 @@ pub struct SheetState {
 }
 
 // What reading a record answers: document 01's number, and where it is 0 what the record holds and the state after it. A
-// refusal has 0 for every value, the state's too: the sheet still holds what it held. count is the words of a table, the
-// pixels of a row, the numbers of a line; row is for rows, bits and words for packed rows; length is the bytes of the whole
-// record.
+// refusal has 0 for every value, the state's too: the sheet still holds what it held; but for 6 to 10 `at` is the bit place
+// where reading stopped, from the row's first word. count is the words of a table, the pixels of a row, the numbers of a line;
+// row is for rows, bits and words for packed rows; length is the bytes of the whole record.
 #[repr(C)]
 pub struct RecordRead {
     pub number: u32,
@@ -31,11 +32,12 @@ pub struct RecordRead {
     pub words: u32,
     pub length: u32,
     pub state: SheetState,
+    pub at: u32,
 }
 
-// What reading answers for a refused record: "Every refusal returns 0 for all counts and values".
-pub fn refused(number: u32) -> RecordRead
-    ensures { λ r. ⌜ r ≡ refusedRecord number ⌝ }
+// What reading answers for a refused record: "Every refusal returns 0 for all counts and values", but for the place of 6 to 10.
+pub fn refused_at(number: u32, at: u32) -> RecordRead
+    ensures { λ r. ⌜ r ≡ refusedRecord at number ⌝ }
 {
     RecordRead {
         number,
@@ -49,7 +51,15 @@ pub fn refused(number: u32) -> RecordRead
             has_table: 0,
             least_row: 0,
         },
+        at: place_shown(number, at),
     }
+}
+
+// The same where no bits were read.
+pub fn refused(number: u32) -> RecordRead
+    ensures { λ r. ⌜ r ≡ refusedRecord 0 number ⌝ }
+{
+    refused_at(number, 0)
 }
 
 // What writing a record answers: the number, and where it is 0 the bytes written and the state after the record. A refusal

@@ -24,12 +24,12 @@ unfoldable pub lineGiven : List ℕ → List ℕ → Outcome Answer
 lineGiven l m = unless (noRoom l m) (λ e. refused e m) (wrote (length l) l m)
 
 -- ---- a record judged, and its line at the front of the memory
-abbrev pub notListed : ℕ → ListedRecord
-notListed e = record { read = refusedRecord e; count = 0 }
+abbrev pub notListed : ℕ → ℕ → ListedRecord
+notListed at e = record { read = refusedRecord at e; count = 0 }
 
--- by the number that it is refused with, the record's or 5, and what was judged
+-- by the number that it is refused with, the record's or 5, and what was judged: its place is kept for 6 to 10
 abbrev pub judgedListed : ℕ → RecordRead → List ℕ → List ℕ → Outcome ListedRecord
-judgedListed e a l m = unless e (λ k. outcome (notListed k) m) (writes (record { read = a; count = length l }) l m)
+judgedListed e a l m = unless e (λ k. outcome (notListed (a .at) k) m) (writes (record { read = a; count = length l }) l m)
 
 -- an accepted record with the line l
 abbrev pub lineListed : List ℕ → RecordRead → List ℕ → Outcome ListedRecord

@@ -59,9 +59,9 @@ pub record Turned : Type 0 where
   pub last : Bool
   pub next : Carried
 
--- the last turn, by its number
-abbrev pub lastTurn : Carried → ℕ → Turned
-lastTurn p e = record { line = lastLine e (p .index) (p .rows); last = true; next = p }
+-- the last turn, by its number and the bit where its row's reading stopped
+abbrev pub lastTurn : Carried → ℕ → ℕ → Turned
+lastTurn p at e = record { line = lastLine e at (p .index) (p .rows); last = true; next = p }
 
 -- "A sheet with no records is refused 16"
 abbrev pub endNumber : ℕ → ℕ
@@ -70,12 +70,12 @@ endNumber index = cond (eqb index 0) 16 0
 -- with a record's bytes b, by how it was judged
 abbrev pub recordTurn : Carried → List ℕ → RecordRead → Turned
 recordTurn p b a =
-    unless (a .number) (lastTurn p)
+    unless (a .number) (lastTurn p (a .at))
     (record { line = recordLine (recordHere (contextBy p) b); last = false; next = carriedNext p b a })
 
 -- with the bytes that are held: none at the sheet's end
 unfoldable pub turnOf : Carried → List ℕ → Turned
-turnOf p [] = lastTurn p (endNumber (p .index))
+turnOf p [] = lastTurn p 0 (endNumber (p .index))
 turnOf p (x ∷ b) = recordTurn p (x ∷ b) (recordJudged (contextBy p) (x ∷ b))
 
 -- the text from a place on. A turn that is not the last takes at least one byte, so that n bounds the turns

@@ -62,13 +62,13 @@ fn list_accepted(read: RecordRead, body: &[u8], out: &mut [u8]) -> ListedRecord
     ListedRecord { read, count }
 }
 
-// The last line of a listing: `done rows N` where the number is 0, else `refused N at record K`, where K is the index. It is
-// put at the front of `out`; 5 where it does not fit.
-pub fn list_end(number: u32, index: u64, rows: u64, out: &mut [u8]) -> Answer
-    ensures given { λ r. ⌜ outcome r (now (out .exit)) ≡ lineGiven (lastLine number index rows) (now (out .entry)) ⌝ }
-    ensures most { λ r. ⌜ length (lastLine number index rows) ≤ 128 ⌝ }
+// The last line of a listing: `done rows N` where the number is 0, else `refused N at record K`, where K is the index, and for 6
+// to 10 `bit B` behind it. It is put at the front of `out`; 5 where it does not fit.
+pub fn list_end(number: u32, bit: u32, index: u64, rows: u64, out: &mut [u8]) -> Answer
+    ensures given { λ r. ⌜ outcome r (now (out .exit)) ≡ lineGiven (lastLine number bit index rows) (now (out .entry)) ⌝ }
+    ensures most { λ r. ⌜ length (lastLine number bit index rows) ≤ 128 ⌝ }
 {
     let mut text = [0u8; 128];
-    let n = put_last_line(&mut text, number, index, rows);
+    let n = put_last_line(&mut text, number, bit, index, rows);
     give(&text[..n], out)
 }

@@ -3,12 +3,14 @@ use code_table::check::check;
 use code_table::header::low_limit;
 use code_table::header::table_size;
 use code_table::header::word_at;
+use row_format::place::has_place;
 use sheet_format::RecordRead;
 use text::line::put_contour_line;
 use text::line::put_done_line;
 use text::line::put_packed_line;
 use text::line::put_plain_line;
 use text::line::put_refused_at_line;
+use text::line::put_refused_bit_line;
 use text::line::put_table_line;
 ghost use mathlib.Core.Path.{_≡_};
 ghost use Prim.Native.Nat.{_≤_};
@@ -49,13 +51,16 @@ fn put_table(out: &mut [u8], table: &[u8]) -> usize
     put_table_line(out, 0, id, low, size, checked.count)
 }
 
-pub fn put_last_line(out: &mut [u8], number: u32, index: u64, rows: u64) -> usize
+pub fn put_last_line(out: &mut [u8], number: u32, bit: u32, index: u64, rows: u64) -> usize
     requires { ⌜ 128 ≤ length (now out) ⌝ }
-    ensures put { λ r. ⌜ Put (now (out .entry)) 0 (lastLine number index rows) r (now (out .exit)) ⌝ }
+    ensures put { λ r. ⌜ Put (now (out .entry)) 0 (lastLine number bit index rows) r (now (out .exit)) ⌝ }
     ensures most { λ r. ⌜ r ≤ 128 ⌝ }
 {
-    if number != 0 {
-        return put_refused_at_line(out, 0, number, index);
+    if number == 0 {
+        return put_done_line(out, 0, rows);
     }
-    put_done_line(out, 0, rows)
+    if has_place(number) {
+        return put_refused_bit_line(out, 0, number, index, bit);
+    }
+    put_refused_at_line(out, 0, number, index)
 }

@@ -6,9 +6,10 @@ use lib.ListN.{length, take}
 use lib.Dec.{ltb}
 use Rattle.bitstream.specs.Bits.{wordsFor}
 use Rattle.answer.specs.Outcome.{_orElse_, refuseIf, Lent, nothing, lent}
-use Rattle.answer.specs.declared.Answer.{Answer}
+use Rattle.row_format.specs.declared.RowUnpacked.{RowUnpacked}
+use Rattle.row_format.specs.Place.{placeShown}
 use Rattle.row_format.specs.Row.{pixelBytes}
-use Rattle.row_format.specs.Reading.{Run, runNumber, bitsOfRun, pixelsOfRun, rowReading}
+use Rattle.row_format.specs.Reading.{Run, runNumber, runPlace, bitsOfRun, pixelsOfRun, rowReading}
 use Rattle.sheet_format.specs.Kind.Row.{pixelCount, rowContent}
 
 -- the reading of the body b under the table tb
@@ -22,8 +23,9 @@ pub record RowHeld (tb b : List ℕ) (bits : ℕ) (out : List ℕ) : Type 0 wher
   pub front : take (2 * pixelCount b) out ≡ pixelBytes (pixelsOfRun (bodyReading nothing tb b))
 
 -- a answers so, unless the row is refused, or words are left over
-pub record RowRead (room : ℕ) (tb b : List ℕ) (a : Answer) (out : List ℕ) : Type 0 where
+pub record RowRead (room : ℕ) (tb b : List ℕ) (a : RowUnpacked) (out : List ℕ) : Type 0 where
   pub number : a .number
       ≡ runNumber (bodyReading (lent room) tb b)
       orElse refuseIf (ltb (4 * wordsFor (bitsOfRun (bodyReading nothing tb b))) (length (rowContent b))) 14
+  pub at : placeShown (a .number) (a .at) ≡ placeShown (a .number) (runPlace (bodyReading nothing tb b))
   pub row : a .number ≡ 0 → RowHeld tb b (a .count) out

@@ -2,7 +2,7 @@
 use sheet_format::RecordRead;
 use sheet_format::SheetState;
 ghost use mathlib.Core.Path.{_≡_};
-ghost use Rattle.bitstream.specs.Bits.{wordsFor};
+ghost use Rattle.sheet_reader.specs.Leaves.{acceptedRecord};
 
 // `whole` is the record's bytes, `after` the state after it.
 pub fn accepted(
@@ -13,16 +13,7 @@ pub fn accepted(
     whole: u32,
     after: SheetState,
 ) -> RecordRead
-    ensures { λ r. ⌜ r ≡ record {
-      number = 0;
-      kind = kind;
-      row = row;
-      count = count;
-      bits = bits;
-      words = wordsFor bits;
-      length = whole;
-      state = after;
-    } ⌝ }
+    ensures { λ r. ⌜ r ≡ acceptedRecord kind row count bits whole after ⌝ }
 {
     let words = ((bits as u64 + 31) / 32) as u32;
     RecordRead {
@@ -34,5 +25,6 @@ pub fn accepted(
         words,
         length: whole,
         state: after,
+        at: 0,
     }
 }

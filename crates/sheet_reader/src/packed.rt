@@ -2,12 +2,13 @@
 use crate::answers::accepted;
 use crate::keep::keep;
 use crate::row::row_fields;
-use answer::Answer;
+use row_format::RowUnpacked;
 use row_unpacker::unpack::unpack;
 use sheet_format::RecordRead;
 use sheet_format::SheetState;
 use sheet_format::place::after_row;
 use sheet_format::refused;
+use sheet_format::refused_at;
 ghost use mathlib.Core.Path.{_≡_};
 ghost use Prim.Native.Nat.{_≤_, min};
 ghost use lib.ListN.{length};
@@ -48,7 +49,7 @@ pub fn read_packed(
     let unpacked = unpack_row(table, body, count, room, &mut pixels);
     let number = unpacked.number;
     if number != 0 {
-        return refused(number);
+        return refused_at(number, unpacked.at);
     }
     keep(&pixels, 2 * count as usize, room, content);
     accepted(2, row, count, unpacked.count, whole, after_row(row, state))
@@ -56,7 +57,7 @@ pub fn read_packed(
 
 // The row's bits, and its pixels to the front of `pixels`; 14 where a word is left after the last used one. Unpacking gives
 // 5 in its turn, since it is lent no more than the room.
-fn unpack_row(table: &[u8], body: &[u8], count: u32, room: usize, pixels: &mut [u8]) -> Answer
+fn unpack_row(table: &[u8], body: &[u8], count: u32, room: usize, pixels: &mut [u8]) -> RowUnpacked
     requires { ⌜ 4 ≤ length (now body) ⌝ }
     requires { ⌜ count ≡ pixelCount (now body) ⌝ }
     requires { ⌜ length (now pixels) ≡ 8192 ⌝ }
@@ -67,20 +68,18 @@ fn unpack_row(table: &[u8], body: &[u8], count: u32, room: usize, pixels: &mut [
     let unpacked = unpack(table, words, count as u64, &mut pixels[..lent]);
     let number = unpacked.number;
     if number != 0 {
-        return Answer { number, count: 0 };
+        return unpacked;
     }
     let bits = unpacked.count;
     let used = (bits as usize + 31) / 32;
     if 4 * used < words.len() {
-        return Answer {
+        return RowUnpacked {
             number: 14,
             count: 0,
+            at: 0,
         };
     }
-    Answer {
-        number: 0,
-        count: bits,
-    }
+    unpacked
 }
 
 fn smaller(a: usize, b: usize) -> usize

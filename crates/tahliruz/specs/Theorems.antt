@@ -43,7 +43,7 @@ pub next-impossible : (tb wb : List ℕ) (p : ReaderPlace) → tableNumber tb �
     → (1 < p .begun) ⊎ (impossible (placeOf p) ≡ true) → nextItem tb wb p ≡ refusedItem p 11
 next-impossible = nextItem-impossible
 
--- "A refusal moves nothing"
+-- "A refusal moves nothing": its place is the one that was given, and for 6 to 9 its at is where the refused item begins
 pub next-refused-keeps : (tb wb : List ℕ) (p : ReaderPlace) → (nextItem tb wb p .number ≡ 0 → ⊥)
     → nextItem tb wb p ≡ refusedItem p (nextItem tb wb p .number)
 next-refused-keeps = nextItem-kept

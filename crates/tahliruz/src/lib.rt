@@ -8,6 +8,7 @@ use fits_format::ImageHeader;
 use item::ItemAnswer;
 use item::ReaderOpened;
 use item::ReaderPlace;
+use row_format::RowUnpacked;
 use sheet_format::RecordRead;
 use sheet_format::RecordWritten;
 use sheet_format::SheetState;
@@ -45,7 +46,12 @@ pub extern "C" fn tahliruz_pack(table: &[u8], pixels: &[u8], words: &mut [u8]) -
 }
 
 #[no_mangle]
-pub extern "C" fn tahliruz_unpack(table: &[u8], words: &[u8], n: u64, pixels: &mut [u8]) -> Answer
+pub extern "C" fn tahliruz_unpack(
+    table: &[u8],
+    words: &[u8],
+    n: u64,
+    pixels: &mut [u8],
+) -> RowUnpacked
     ensures { λ r. ⌜ outcome r (now (pixels .exit)) ≡ unpacked (now (table .entry)) (now (words .entry)) n (now (pixels .entry)) ⌝ }
 {
     row_unpacker::unpack::unpack(table, words, n, pixels)

@@ -1,4 +1,4 @@
--- The lines of the sheet lister, as document 01 has them, each with its newline. Definitions only. Assumes nothing.
+-- The lines of the sheet lister, as document 01 and document 02's ticket 2 have them, each with its newline. Definitions only. Assumes nothing.
 use Prim.Native.Nat.{ℕ}
 use mathlib.Core.List.{List, _++_}
 use Rattle.text.specs.Text.{ascii, field, fields}
@@ -32,6 +32,11 @@ doneLine rows = field (ascii "done rows ") rows ++ newline
 -- `refused N at record K`
 abbrev pub refusedAtLine : ℕ → ℕ → List ℕ
 refusedAtLine number index = fields (ascii "refused ") number (ascii " at record ") index ++ newline
+
+-- `refused N at record K bit B`
+abbrev pub refusedBitLine : ℕ → ℕ → ℕ → List ℕ
+refusedBitLine number index bit =
+    fields (ascii "refused ") number (ascii " at record ") index ++ (field (ascii " bit ") bit ++ newline)
 
 -- `refused N`, which the table lister prints
 abbrev pub refusedLine : ℕ → List ℕ

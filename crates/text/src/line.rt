@@ -1,4 +1,4 @@
-// The lines of the listers, each at most 128 bytes long: some words and a number, once, twice or four times, and an end.
+// The lines of the listers, each at most 128 bytes long: some words and a number, once to four times, and an end.
 use crate::number::put_field;
 use crate::number::put_fields;
 use crate::put::put_bytes;
@@ -6,7 +6,7 @@ ghost use mathlib.Core.List.{_++_};
 ghost use Prim.Native.Nat.{_+_, _≤_};
 ghost use lib.ListN.{length};
 ghost use Rattle.text.specs.Text.{field, fields};
-ghost use Rattle.text.specs.Lines.{newline, tableLine, packedLine, plainLine, contourLine, doneLine, refusedAtLine, refusedLine};
+ghost use Rattle.text.specs.Lines.{newline, tableLine, packedLine, plainLine, contourLine, doneLine, refusedAtLine, refusedBitLine, refusedLine};
 ghost use Rattle.text.specs.Put.{Put};
 
 fn put_one(out: &mut [u8], at: usize, words: &[u8], n: u64, end: &[u8]) -> usize
@@ -156,6 +156,16 @@ pub fn put_refused_at_line(out: &mut [u8], at: usize, number: u32, index: u64) -
         index,
         b"\n",
     )
+}
+
+// `refused N at record K bit B`
+pub fn put_refused_bit_line(out: &mut [u8], at: usize, number: u32, index: u64, bit: u32) -> usize
+    requires { ⌜ at + 128 ≤ length (now out) ⌝ }
+    ensures put { λ r. ⌜ Put (now (out .entry)) at (refusedBitLine number index bit) r (now (out .exit)) ⌝ }
+    ensures most { λ r. ⌜ r ≤ at + 128 ⌝ }
+{
+    let middle = put_fields(out, at, b"refused ", number as u64, b" at record ", index);
+    put_one(out, middle, b" bit ", bit as u64, b"\n")
 }
 
 // `refused N`

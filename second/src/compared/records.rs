@@ -2,13 +2,17 @@
 
 use super::{counted, counted_answer, Outcome};
 use crate::agreement::Call;
-use crate::answers::{Record, Written};
+use crate::answers::{Record, Unpacked, Written};
 use crate::calls;
 use crate::ffi;
 use crate::memory::{Given, Lent};
 use crate::opened::Opened;
-use crate::sheet::State;
+use crate::refusal::has_place;
+use crate::sheet::{State, KIND_PACKED, LENGTH_BYTES};
 use crate::tally::Tally;
+
+/// Length, kind, row number and count stand before a packed row's words.
+const WORDS_PLACE: usize = 10;
 
 /// A place in a sheet where a record is expected.
 #[derive(Clone, Copy)]
@@ -31,7 +35,27 @@ impl Place<'_> {
         let call = Call { name: "judge_record", numbers: &numbers, inputs: &inputs, lent: &lent };
         let proved = || ffi::judge_record(self.table.bytes(), self.rest(), self.state);
         let second = || calls::judge_record(self.table.codec(), self.rest(), self.state);
-        counted_answer(tally, &call, proved, second)
+        let judged = counted_answer(tally, &call, proved, second)?;
+        let Record { number, kind, bits, at, .. } = judged;
+        if kind != KIND_PACKED.into() && !has_place(number) {
+            return Ok(judged);
+        }
+        let row = self.row_call();
+        if row == (Unpacked { number, count: bits, at }) {
+            return Ok(judged);
+        }
+        Err(call.report(&format!("judged {judged:?}, unpacked {row:?}"), &[]))
+    }
+
+    /// Unpacks the words of the record here, which is a packed row's. Reaching
+    /// them, the record calls give the same bits or stop at the same place.
+    fn row_call(&self) -> Unpacked {
+        let (fields, words) = self.rest().split_at(WORDS_PLACE);
+        let length = u32::from_le_bytes([fields[0], fields[1], fields[2], fields[3]]);
+        let n = u16::from_le_bytes([fields[8], fields[9]]);
+        let words = &words[..LENGTH_BYTES + length as usize - WORDS_PLACE];
+        let mut pixels = vec![0; 2 * usize::from(n)];
+        ffi::unpack(self.table.bytes(), words, n.into(), &mut pixels)
     }
 
     /// Gives the answer and the content's memory afterwards.

@@ -1,11 +1,13 @@
 //! Tables, packing, unpacking and the room question.
 
-use super::{counted, counted_answer, Outcome};
+use super::{check_stopped, counted, counted_answer, Outcome};
 use crate::agreement::Call;
+use crate::answers::Unpacked;
 use crate::ffi;
 use crate::known;
 use crate::memory::{Given, Lent};
 use crate::opened::Opened;
+use crate::random::Random;
 use crate::reader::unpack_under;
 use crate::refusal::{DONE, ROOM};
 use crate::row::{pack_under, room_under};
@@ -44,22 +46,27 @@ pub fn pack(tally: &mut Tally, table: &Opened, pixels: &Given, lent: &Lent) -> O
     counted(tally, &call, proved, second, written).map(|(answer, _)| answer)
 }
 
+/// Where a refusal has a place, it is held against other calls.
 pub fn unpack(
+    random: &mut Random,
     tally: &mut Tally,
     table: &Opened,
     words: &Given,
     n: u64,
     lent: &Lent,
-) -> Outcome<(u32, u32)> {
+) -> Outcome<Unpacked> {
     let inputs = [("table", &table.given), ("words", words)];
     let call = Call { name: "unpack", numbers: &n, inputs: &inputs, lent };
     let proved = |pixels: &mut [u8]| ffi::unpack(table.bytes(), words.bytes(), n, pixels);
     let second = |pixels: &mut [u8]| match table.codec() {
         Ok(codec) => unpack_under(codec, words.bytes(), n, pixels),
-        Err(number) => (number, 0),
+        Err(number) => Unpacked::refused(number),
     };
-    let written = |(number, _)| if number == DONE { 2 * n as usize } else { 0 };
-    counted(tally, &call, proved, second, written).map(|(answer, _)| answer)
+    let written = |answer: Unpacked| if answer.number == DONE { 2 * n as usize } else { 0 };
+    let (answer, _) = counted(tally, &call, proved, second, written)?;
+    check_stopped(random, table, words.bytes(), n, answer)
+        .map_err(|what| call.report(&what, &[]))?;
+    Ok(answer)
 }
 
 pub fn room(tally: &mut Tally, table: &Opened, n: u64) -> Outcome<(u32, u32)> {

@@ -1,7 +1,7 @@
 //! A reader taken to its end and past it, and held against the row call.
 
 use super::{Items, Outcome};
-use crate::answers::{ReaderOpened, ReaderPlace};
+use crate::answers::{ReaderOpened, ReaderPlace, Unpacked};
 use crate::ffi;
 use crate::generate::places::odd_place;
 use crate::memory::Lent;
@@ -95,17 +95,19 @@ impl Walk {
     }
 
     /// Whether a row call's answer and pixels are what the items demand.
-    fn agrees(&self, n: usize, answer: (u32, u32), pixels: &[u8]) -> bool {
+    fn agrees(&self, n: usize, answer: Unpacked, pixels: &[u8]) -> bool {
         if self.opening != DONE {
-            return answer == (self.opening, 0);
+            return answer == Unpacked::refused(self.opening);
         }
         if n > MAX_PIXELS {
-            return answer == (TOO_MANY, 0);
+            return answer == Unpacked::refused(TOO_MANY);
         }
-        if n > self.given() {
-            return answer == (self.refused, 0);
+        let given = self.given();
+        if n > given {
+            // The reader was refused at the place that it had come to.
+            return answer == Unpacked::stopped(self.refused, self.places[given]);
         }
-        let done = answer == (DONE, self.places[n]) && *pixels == self.pixels[..2 * n];
-        done || answer == (UNUSED_BIT, 0)
+        let done = answer == Unpacked::done(self.places[n]) && *pixels == self.pixels[..2 * n];
+        done || answer == Unpacked::stopped(UNUSED_BIT, self.places[n])
     }
 }

@@ -59,7 +59,7 @@ impl Entry {
     /// escape or a number in more bytes than it needs.
     pub fn foreign_record(&self, random: &mut Random, table: &Table) -> Vec<u8> {
         let seed = random.next_u64();
-        let words = |pixels: &[u16]| run_words(&run(random, table, pixels, None).0);
+        let words = |pixels: &[u16]| run_words(&run(random, table, pixels, None).bits);
         let mut forms = Random::new(seed);
         self.record(words, |value| any_form(&mut forms, Sort::Signed, value))
     }

@@ -89,7 +89,12 @@ pub fn flaws() -> Vec<Flaw> {
 /// How a spoiled sheet must end, records counted from 0.
 #[derive(Clone, Copy, PartialEq, Eq, Debug)]
 pub enum Ending {
-    Refused { number: u32, record: usize },
+    Refused {
+        number: u32,
+        record: usize,
+        /// The place, 0 but for 6 to 10.
+        at: usize,
+    },
     Unknown,
 }
 
@@ -117,7 +122,7 @@ pub fn spoil(
 }
 
 fn refused(number: u32, record: usize) -> Option<Ending> {
-    Some(Ending::Refused { number, record })
+    Some(Ending::Refused { number, record, at: 0 })
 }
 
 /// Some record of one of these kinds.

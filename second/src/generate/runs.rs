@@ -13,8 +13,27 @@ use crate::table::{Codeword, Table, BAD_BIAS, BAD_PIXEL, FIRST_ENTRY, HEIGHT_BIT
 pub enum Expected {
     /// These pixels, from so many bits.
     Pixels(Vec<u16>, usize),
-    Refused(u32),
+    /// By this number, with this place.
+    Refused(u32, usize),
     Unknown,
+}
+
+/// A run's bits, the bit where each of its items begins, and what it must be
+/// read as.
+pub struct Run {
+    pub bits: Vec<bool>,
+    pub starts: Vec<usize>,
+    pub expected: Expected,
+}
+
+impl Run {
+    /// Where the first item begins that does not end in so many bits; they are
+    /// fewer than the run has.
+    pub fn cut_item(&self, bits: usize) -> usize {
+        let after = self.starts.partition_point(|&start| start <= bits);
+        // An item that begins just there has nothing left, and is the one.
+        self.starts[after - 1]
+    }
 }
 
 /// A fault put in the place of an item.
@@ -88,28 +107,22 @@ impl Writer<'_> {
 
 /// A run for the row, now and then with a needless escape, and at item
 /// `fault.0` with a fault instead, if the table allows it.
-pub fn run(
-    random: &mut Random,
-    table: &Table,
-    row: &[u16],
-    fault: Option<(usize, Fault)>,
-) -> (Vec<bool>, Expected) {
+pub fn run(random: &mut Random, table: &Table, row: &[u16], fault: Option<(usize, Fault)>) -> Run {
     let needless = random.pick(&[2, 8, 100]);
     let mut writer = Writer { table, bits: Vec::new(), previous: None };
-    let mut refused = None;
+    let (mut starts, mut refused) = (Vec::with_capacity(row.len()), None);
     for (index, &pixel) in row.iter().enumerate() {
+        let start = writer.bits.len();
         let faulty = fault.filter(|(item, _)| *item == index);
         let number = faulty.and_then(|(_, fault)| writer.fault(random, fault));
         match number {
-            Some(number) => refused = Some(number),
+            Some(number) => refused = Some(Expected::Refused(number, start)),
             None => writer.pixel(pixel, random.one_in(needless)),
         }
+        starts.push(start);
     }
-    let expected = match refused {
-        Some(number) => Expected::Refused(number),
-        None => Expected::Pixels(row.to_vec(), writer.bits.len()),
-    };
-    (writer.bits, expected)
+    let expected = refused.unwrap_or(Expected::Pixels(row.to_vec(), writer.bits.len()));
+    Run { bits: writer.bits, starts, expected }
 }
 
 /// The very strings that packing must write for the row.
@@ -162,8 +175,10 @@ pub fn set_unused(random: &mut Random, words: &mut [u8], used: usize) -> bool {
 #[cfg(test)]
 mod tests {
     use super::*;
+    use crate::answers::Unpacked;
     use crate::known::plain_table;
-    use crate::reader::{unpack_measured, Codec};
+    use crate::reader::{unpack_under, Codec};
+    use crate::refusal::WORDS_END;
 
     #[test]
     fn runs_are_as_expected() {
@@ -171,15 +186,37 @@ mod tests {
         let mut random = Random::new(10);
         let row = [5, 4095, 700, 4094, 710, 2, 4093];
         for fault in [None, Some((3, Fault::EscapedBad)), Some((4, Fault::Height))] {
-            let (bits, expected) = run(&mut random, &codec.table, &row, fault);
+            let run = run(&mut random, &codec.table, &row, fault);
             let mut pixels = [0; 14];
-            let (number, used) = unpack_measured(&codec, &run_words(&bits), 7, &mut pixels);
+            let answer = unpack_under(&codec, &run_words(&run.bits), 7, &mut pixels);
             let read = pixels.as_chunks::<2>().0.iter().map(|&pixel| u16::from_le_bytes(pixel));
-            let answer = match number {
-                0 => Expected::Pixels(read.collect(), used),
-                _ => Expected::Refused(number),
+            let answer = match answer.number {
+                0 => Expected::Pixels(read.collect(), answer.count as usize),
+                number => Expected::Refused(number, answer.at as usize),
             };
-            assert_eq!(answer, expected);
+            assert_eq!(answer, run.expected);
+        }
+    }
+
+    /// 10 bits, 3, 14 and 10: the second word begins within the last.
+    #[test]
+    fn cut_runs() {
+        let codec = Codec::open(&plain_table()).unwrap();
+        let (mut random, row) = (Random::new(11), [5, 4095, 700, 7]);
+        let run = loop {
+            let run = run(&mut random, &codec.table, &row, None);
+            if run.bits.len() == 37 {
+                break run;
+            }
+        };
+        assert_eq!(run.starts, [0, 10, 13, 27]);
+        let cut = [0, 9, 10, 12, 13, 26, 27, 36].map(|bits| run.cut_item(bits));
+        assert_eq!(cut, [0, 0, 10, 10, 13, 13, 27, 27]);
+        for words in 0..2 {
+            let cut = &run_words(&run.bits)[..4 * words];
+            let at = run.cut_item(32 * words) as u32;
+            let answer = unpack_under(&codec, cut, 4, &mut [0; 8]);
+            assert_eq!(answer, Unpacked::stopped(WORDS_END, at));
         }
     }
 

@@ -18,9 +18,12 @@ fn run(text: &str) -> Vec<u8> {
 /// Unpacks with exact room and gives number, bits used and pixels.
 fn read(codec: &Codec, words: &[u8], n: usize) -> (u32, usize, Vec<u16>) {
     let mut memory = vec![0xA5; 2 * n];
-    let (number, used) = unpack_measured(codec, words, n as u64, &mut memory);
+    let (answer, used) = unpack_measured(codec, words, n as u64, &mut memory);
+    if answer.number == DONE {
+        assert_eq!(answer, Unpacked::done(used as u32));
+    }
     let pixels = memory.as_chunks::<2>().0.iter().map(|&pixel| u16::from_le_bytes(pixel));
-    (number, used, pixels.collect())
+    (answer.number, used, pixels.collect())
 }
 
 fn plain() -> Codec {
@@ -33,10 +36,12 @@ fn small() -> Codec {
     Codec::open(&table_bytes(&[&[7, 4093, 1], &strings[..]].concat())).unwrap()
 }
 
-fn assert_refused(codec: &Codec, words: &[u8], n: usize, number: u32, used: usize) {
+/// A refusal with its place, and the bits that the reading used.
+fn assert_refused(codec: &Codec, words: &[u8], n: usize, (number, at): (u32, u32), used: usize) {
     assert_eq!(read(codec, words, n), (number, used, vec![0xA5A5; n]));
     let mut memory = vec![1; 2 * n];
-    assert_eq!(unpack_under(codec, words, n as u64, &mut memory), (number, 0));
+    let answer = unpack_under(codec, words, n as u64, &mut memory);
+    assert_eq!(answer, Unpacked { number, count: 0, at });
     assert_eq!(memory, vec![1; 2 * n]);
 }
 
@@ -57,38 +62,40 @@ fn written_cases_come_back() {
 
 #[test]
 fn words_end() {
-    assert_refused(&plain(), &[], 1, WORDS_END, 0);
-    assert_refused(&plain(), &[0; 3], 1, WORDS_END, 0);
-    assert_refused(&plain(), &word_bytes(&[3139072]), 3, WORDS_END, 32);
+    assert_refused(&plain(), &[], 1, (WORDS_END, 0), 0);
+    assert_refused(&plain(), &[0; 3], 1, (WORDS_END, 0), 0);
+    assert_refused(&plain(), &word_bytes(&[3139072]), 3, (WORDS_END, 24), 32);
     // An escape with ten bits after it, although those can only begin a
     // height that is refused.
-    assert_refused(&small(), &run(&("0".repeat(20) + "10 0111111111")), 21, WORDS_END, 32);
-    assert_refused(&small(), &run(&("0".repeat(30) + "11")), 31, WORDS_END, 32);
+    let cut = "0".repeat(20) + "10 0111111111";
+    assert_refused(&small(), &run(&cut), 21, (WORDS_END, 20), 32);
+    assert_refused(&small(), &run(&("0".repeat(30) + "11")), 31, (WORDS_END, 30), 32);
     // With 12 bits the same heights are judged.
-    assert_refused(&small(), &run(&("0".repeat(18) + "10 111111111111")), 19, ESCAPED_BAD, 32);
+    let whole = "0".repeat(18) + "10 111111111111";
+    assert_refused(&small(), &run(&whole), 19, (ESCAPED_BAD, 18), 32);
 }
 
 #[test]
 fn no_codeword() {
-    assert_refused(&small(), &run("0 0 1111"), 3, NO_CODEWORD, 6);
+    assert_refused(&small(), &run("0 0 1111"), 3, (NO_CODEWORD, 2), 6);
     // A beginning that no codeword has, just before the words end.
-    assert_refused(&small(), &run(&("0".repeat(28) + "1111")), 29, NO_CODEWORD, 32);
-    assert_refused(&small(), &run(&("0".repeat(29) + "111")), 30, WORDS_END, 32);
+    assert_refused(&small(), &run(&("0".repeat(28) + "1111")), 29, (NO_CODEWORD, 28), 32);
+    assert_refused(&small(), &run(&("0".repeat(29) + "111")), 30, (WORDS_END, 29), 32);
 }
 
 #[test]
 fn heights() {
     // The plain table's difference -256, then +255 sixteen times.
-    assert_refused(&plain(), &run("0 000000000"), 1, HEIGHT, 10);
+    assert_refused(&plain(), &run("0 000000000"), 1, (HEIGHT, 0), 10);
     let up = |count| run(&"0 111111111".repeat(count));
     assert_eq!(read(&plain(), &up(16), 16).0, DONE);
-    assert_refused(&plain(), &up(17), 17, HEIGHT, 170);
+    assert_refused(&plain(), &up(17), 17, (HEIGHT, 160), 170);
     // 10 and 4093, then +1: 4094 is reached by no difference.
     let top = "10 101111111111";
     assert_eq!(read(&plain(), &run(top), 1).2, [4093]);
-    assert_refused(&plain(), &run(&(top.to_string() + "0 100000001")), 2, HEIGHT, 24);
-    assert_refused(&plain(), &run("10 011111111111"), 1, ESCAPED_BAD, 14);
-    assert_refused(&plain(), &run("10 111111111111"), 1, ESCAPED_BAD, 14);
+    assert_refused(&plain(), &run(&(top.to_string() + "0 100000001")), 2, (HEIGHT, 14), 24);
+    assert_refused(&plain(), &run("10 011111111111"), 1, (ESCAPED_BAD, 0), 14);
+    assert_refused(&plain(), &run("10 111111111111"), 1, (ESCAPED_BAD, 0), 14);
 }
 
 #[test]
@@ -100,8 +107,8 @@ fn needless_escape() {
 
 #[test]
 fn unused_bits() {
-    assert_refused(&plain(), &word_bytes(&[512 | 1 << 10]), 1, UNUSED_BIT, 10);
-    assert_refused(&plain(), &word_bytes(&[512 | 1 << 31]), 1, UNUSED_BIT, 10);
+    assert_refused(&plain(), &word_bytes(&[512 | 1 << 10]), 1, (UNUSED_BIT, 10), 10);
+    assert_refused(&plain(), &word_bytes(&[512 | 1 << 31]), 1, (UNUSED_BIT, 10), 10);
     // Words after the last used one are not looked at.
     assert_eq!(read(&plain(), &word_bytes(&[512, !0]), 1), (0, 10, vec![0]));
     assert_eq!(read(&plain(), &word_bytes(&[!0]), 0), (0, 0, vec![]));
@@ -109,7 +116,35 @@ fn unused_bits() {
     let words = [&run(&"0".repeat(32))[..], &[255; 4]].concat();
     assert_eq!(read(&small(), &words, 32), (0, 32, vec![0; 32]));
     // A faulty item comes before an unused bit.
-    assert_refused(&small(), &word_bytes(&[!0]), 1, NO_CODEWORD, 4);
+    assert_refused(&small(), &word_bytes(&[!0]), 1, (NO_CODEWORD, 0), 4);
+}
+
+/// Four items of every sort stand before the fault: 14 bits for the height 5,
+/// then 3, 1 and 4 bits, 22 in all.
+#[test]
+fn places_in_a_row() {
+    let before = "10 101000000000  110 0 1110 ";
+    let small_row = |rest: &str| run(&(before.to_string() + rest));
+    let stopped = |rest: &str, n, number, at, used| {
+        assert_refused(&small(), &small_row(rest), n, (number, at), used);
+    };
+    stopped("0 0 1111 00", 7, NO_CODEWORD, 24, 28);
+    // Seven bits are left for a height.
+    stopped("0 10 1010101", 6, WORDS_END, 23, 32);
+    stopped("0000000 111", 12, WORDS_END, 29, 32);
+    // Every bit is used and nothing is left.
+    stopped("0000000 110", 13, WORDS_END, 32, 32);
+    stopped(&("0".repeat(10) + &"110 0".repeat(8)), 31, WORDS_END, 64, 64);
+    stopped("0 10 011111111111", 6, ESCAPED_BAD, 23, 37);
+    // The first unused bit is 37, the one that is set 40.
+    stopped("0 10 000000000000 0001", 6, UNUSED_BIT, 37, 37);
+    // Under the plain table: 5, a bad spot, 4093 that is not previous, then
+    // -6 from 5.
+    let words = run("0 101000001  111 10 101111111111  0 010111110");
+    assert_refused(&plain(), &words, 4, (HEIGHT, 27), 37);
+    // What stands before it can be read without it.
+    assert_refused(&plain(), &words, 3, (UNUSED_BIT, 27), 27);
+    assert_refused(&plain(), &word_bytes(&[3139072, 2 | 1 << 31]), 3, (UNUSED_BIT, 34), 34);
 }
 
 #[test]
@@ -117,17 +152,20 @@ fn room_and_count() {
     let words = word_bytes(&[512]);
     let table = plain_table();
     let mut memory = [9; 5];
-    assert_eq!(unpack(&table, &words, 3, &mut memory), (ROOM, 0));
-    assert_eq!(unpack(&table, &words, 4096, &mut memory), (ROOM, 0));
+    // None has a place, though the second item is refused.
+    assert_eq!(unpack(&table, &words, 3, &mut memory), Unpacked::refused(ROOM));
+    assert_eq!(unpack(&table, &words, 4096, &mut memory), Unpacked::refused(ROOM));
     for n in [4097, 1 << 32, u64::MAX] {
-        assert_eq!(unpack(&table, &words, n, &mut memory), (TOO_MANY, 0));
+        assert_eq!(unpack(&table, &words, n, &mut memory), Unpacked::refused(TOO_MANY));
     }
-    assert_eq!(unpack(&[], &words, u64::MAX, &mut memory), (1, 0));
+    assert_eq!(unpack(&[], &words, u64::MAX, &mut memory), Unpacked::refused(1));
+    assert_eq!(unpack(&table, &words, 2, &mut memory), Unpacked::stopped(HEIGHT, 10));
     assert_eq!(memory, [9; 5]);
-    assert_eq!(unpack(&table, &words, 1, &mut memory), (0, 10));
+    let done = Unpacked { number: 0, count: 10, at: 0 };
+    assert_eq!(unpack(&table, &words, 1, &mut memory), done);
     assert_eq!(memory, [0, 0, 9, 9, 9]);
     let mut memory = [9; 3];
-    assert_eq!(unpack(&table, &words, 1, &mut memory), (0, 10), "one pixel and a half");
+    assert_eq!(unpack(&table, &words, 1, &mut memory), done, "one pixel and a half");
 }
 
 #[test]

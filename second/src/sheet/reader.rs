@@ -3,6 +3,7 @@
 use super::{State, KIND_BYTES, KIND_LINE, KIND_PACKED, KIND_PLAIN, KIND_TABLE};
 use super::{LENGTH_BYTES, MAX_RECORD};
 use crate::adaptive::read_signed;
+use crate::answers::Unpacked;
 use crate::reader::{unpack_under, Codec};
 use crate::refusal::{DONE, KIND, PIXEL, PLACE, RECORD, ROOM, TOO_MANY};
 use crate::row::{MAX_PIXELS, PIXEL_SPOT};
@@ -26,6 +27,21 @@ pub struct RecordAnswer {
     pub used: usize,
     /// The state after the record; all 0 when refused.
     pub state: State,
+    /// Where the reading of a packed row stopped, counted from its first word;
+    /// 0 when done and for every refusal that no row's reading gives.
+    pub at: u32,
+}
+
+/// A number, and the place where a packed row's reading stopped.
+struct Refusal {
+    number: u32,
+    at: u32,
+}
+
+impl From<u32> for Refusal {
+    fn from(number: u32) -> Refusal {
+        Refusal { number, at: 0 }
+    }
 }
 
 /// Judges the record at the start of `bytes`; `codec` is the sheet's table or
@@ -51,11 +67,11 @@ fn answer(
     bytes: &[u8],
     lent: Option<&mut [u8]>,
 ) -> RecordAnswer {
-    let judged = frame(bytes).and_then(|record| {
+    let judged = frame(bytes).map_err(Refusal::from).and_then(|record| {
         let fields = fixed_fields(record)?;
         let row = u32::from(fields.row);
         if !state.allows(fields.kind, row) {
-            return Err(PLACE);
+            return Err(PLACE.into());
         }
         let content = body_content(&fields, codec, lent)?;
         let used = LENGTH_BYTES + record.len();
@@ -63,9 +79,11 @@ fn answer(
     });
     match judged {
         Ok((content, used, state)) => {
-            RecordAnswer { number: DONE, content: Some(content), used, state }
+            RecordAnswer { number: DONE, content: Some(content), used, state, at: 0 }
         }
-        Err(number) => RecordAnswer { number, content: None, used: 0, state: State::default() },
+        Err(Refusal { number, at }) => {
+            RecordAnswer { number, content: None, used: 0, state: State::default(), at }
+        }
     }
 }
 
@@ -113,13 +131,13 @@ fn body_content(
     fields: &Fields,
     codec: Result<&Codec, u32>,
     lent: Option<&mut [u8]>,
-) -> Result<Content, u32> {
-    match fields.kind {
-        KIND_TABLE => table_content(fields.rest),
-        KIND_PACKED => packed_content(fields, codec?, lent),
-        KIND_PLAIN => plain_content(fields, lent),
-        _ => line_content(fields, lent),
-    }
+) -> Result<Content, Refusal> {
+    Ok(match fields.kind {
+        KIND_TABLE => table_content(fields.rest)?,
+        KIND_PACKED => packed_content(fields, codec?, lent)?,
+        KIND_PLAIN => plain_content(fields, lent)?,
+        _ => line_content(fields, lent)?,
+    })
 }
 
 fn table_content(body: &[u8]) -> Result<Content, u32> {
@@ -132,20 +150,25 @@ fn table_content(body: &[u8]) -> Result<Content, u32> {
     })
 }
 
-fn packed_content(fields: &Fields, codec: &Codec, lent: Option<&mut [u8]>) -> Result<Content, u32> {
+fn packed_content(
+    fields: &Fields,
+    codec: &Codec,
+    lent: Option<&mut [u8]>,
+) -> Result<Content, Refusal> {
     let count = usize::from(fields.count);
     // Pixels are set aside, as a leftover is judged after them.
     let mut aside = [0; 2 * MAX_PIXELS];
     let lent_bytes = lent.as_ref().map_or(aside.len(), |lent| lent.len());
     let room = lent_bytes.min(aside.len());
-    let (number, bits) =
-        unpack_under(codec, fields.rest, u64::from(fields.count), &mut aside[..room]);
+    let n = u64::from(fields.count);
+    let Unpacked { number, count: bits, at } =
+        unpack_under(codec, fields.rest, n, &mut aside[..room]);
     if number != DONE {
-        return Err(number);
+        return Err(Refusal { number, at });
     }
     let words = bits.div_ceil(32);
     if fields.rest.len() != 4 * words as usize {
-        return Err(RECORD);
+        return Err(RECORD.into());
     }
     give(&aside[..2 * count], lent)?;
     Ok(Content::Packed { row: fields.row, pixels: fields.count, bits, words })

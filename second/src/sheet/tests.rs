@@ -19,19 +19,26 @@ fn words(words: &[u32]) -> Vec<u8> {
     table_bytes(words)
 }
 
-/// The number for a record under the plain table, checked to agree whether
-/// or not ample memory is lent.
+/// The number for a record under the plain table that has no place.
 fn number(state: State, bytes: &[u8]) -> u32 {
+    let (number, at) = outcome(state, bytes);
+    assert_eq!(at, 0);
+    number
+}
+
+/// Number and place for a record under the plain table, checked to agree
+/// whether or not ample memory is lent.
+fn outcome(state: State, bytes: &[u8]) -> (u32, u32) {
     let codec = Codec::open(&plain_table()).unwrap();
     let judged = judge_record(state, Ok(&codec), bytes);
     let mut lent = vec![0xA5; 4 * 4096];
     assert_eq!(read_record(state, Ok(&codec), bytes, &mut lent), judged);
     if judged.number != 0 {
-        let refused = RecordAnswer { number: judged.number, content: None, used: 0, state: EMPTY };
-        assert_eq!(judged, refused);
+        let RecordAnswer { number, at, .. } = judged;
+        assert_eq!(judged, RecordAnswer { number, content: None, used: 0, state: EMPTY, at });
         assert!(lent.iter().all(|&byte| byte == 0xA5));
     }
-    judged.number
+    (judged.number, judged.at)
 }
 
 #[test]
@@ -84,12 +91,21 @@ fn tables() {
 #[test]
 fn packed_rows() {
     assert_eq!(number(READY, &rows(2, 5, 3, &words(&[3139072, 2]))), 0);
-    assert_eq!(number(READY, &rows(2, 5, 4, &words(&[3139072, 2]))), 8);
-    assert_eq!(number(READY, &rows(2, 5, 3, &words(&[3139072]))), 6);
-    assert_eq!(number(READY, &rows(2, 5, 3, &words(&[3139072, 6, 0]))), 10);
+    // 10, 14 and 10 bits; zeros are the difference -256.
+    assert_eq!(outcome(READY, &rows(2, 5, 4, &words(&[3139072, 2]))), (8, 34));
+    assert_eq!(outcome(READY, &rows(2, 5, 3, &words(&[3139072]))), (6, 24));
+    assert_eq!(outcome(READY, &rows(2, 5, 3, &words(&[3139072, 6, 0]))), (10, 34));
     assert_eq!(number(READY, &rows(2, 5, 3, &words(&[3139072, 2, 0]))), 14);
     assert_eq!(number(READY, &rows(2, 5, 0, &words(&[]))), 0);
     assert_eq!(number(READY, &rows(2, 5, 0, &words(&[0]))), 14);
+    // Two heights and four bad spots are 32 bits; nothing is left for more.
+    let full = words(&[512 | 512 << 10 | 0b011_011_011_011 << 20]);
+    assert_eq!(number(READY, &rows(2, 5, 6, &full)), 0);
+    assert_eq!(outcome(READY, &rows(2, 5, 7, &full)), (6, 32));
+    assert_eq!(outcome(READY, &rows(2, 5, 9, &full)), (6, 32));
+    assert_eq!(number(READY, &rows(2, 5, 1, &[])), 6);
+    // A raw 4095 after a bad spot.
+    assert_eq!(outcome(READY, &rows(2, 5, 2, &words(&[4095 << 5 | 0b01_011]))), (9, 3));
     let answer = judge_record(READY, Err(3), &rows(2, 5, 9999, &[]));
     assert_eq!(answer.number, 3, "the table's refusal before the row's");
 }

@@ -177,7 +177,8 @@ module _ (w : ℕ) (image : List ℕ) (k : ℕ)
   abbrev sheet : List ℕ
   sheet = plainTableRecord ++ inOrder (rowRecordAt w image) 0 k
 
-  sheet-is : sheetRead sheet ≡ record { records = sheetGiven newSheet (tableWrite ∷ rowWrites w image 0 k); number = 0 }
+  sheet-is : sheetRead sheet
+      ≡ record { records = sheetGiven newSheet (tableWrite ∷ rowWrites w image 0 k); number = 0; place = 0 }
   sheet-is =
       let bytes : sheetBytes newSheet (tableWrite ∷ rowWrites w image 0 k) ≡ sheet =
       unfold sheetBytes in (rw (table-bytes, rows-bytes w image k 0 all-right)) in

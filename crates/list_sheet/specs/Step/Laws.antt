@@ -125,9 +125,9 @@ module _ (p : Carried) (r m : List ℕ) (room : 128 ≤ length m) {x : ListedRec
   same-number = ap (λ (a : RecordRead). a .number) read-is
 
   -- it is refused: the last line follows
-  pub turn-refused : 0 < length r → (x .read .number ≡ 0 → ⊥) → turnOf p r ≡ lastTurn p (x .read .number)
+  pub turn-refused : 0 < length r → (x .read .number ≡ 0 → ⊥) → turnOf p r ≡ lastTurn p (x .read .at) (x .read .number)
   turn-refused some wrong =
-      turnOf-refused p r some (λ e. wrong (same-number ∙ e)) ∙ ap (lastTurn p) (sym same-number)
+      turnOf-refused p r some (λ e. wrong (same-number ∙ e)) ∙ ap (λ (a : RecordRead). lastTurn p (a .at) (a .number)) (sym read-is)
 
   module _ (ok : x .read .number ≡ 0) where
     fine : recordJudged (contextBy p) r .number ≡ 0
@@ -160,13 +160,13 @@ module _ (p : Carried) (r m : List ℕ) (room : 128 ≤ length m) {x : ListedRec
         rw (line-is, is-table, is-rows, read-is, judged-body (contextBy p) r fine) (sym (turnOf-accepted p r fine))
 
 -- nothing is left to read: the last line follows
-pub turn-ended : (p : Carried) → turnOf p [] ≡ lastTurn p (endNumber (p .index))
+pub turn-ended : (p : Carried) → turnOf p [] ≡ lastTurn p 0 (endNumber (p .index))
 unfolding turnOf
 turn-ended p = refl
 
 pub end-made : {t : Turn} {number : ℕ} {line : List ℕ} (at : ListProgress) (table bytes : List ℕ) → number ≡ endNumber (at .index)
-    → t ≡ endTurn 0 number at
-    → take (t .count) line ≡ lastLine number (at .index) (at .rows)
+    → t ≡ endTurn 0 number 0 at
+    → take (t .count) line ≡ lastLine number 0 (at .index) (at .rows)
     → TurnMade (take (t .taken) bytes) at table t table line
 end-made {t} at table bytes is-number is-turn is-line =
     let none : t .taken ≡ 0 = ap (λ (t : Turn). t .taken) is-turn in

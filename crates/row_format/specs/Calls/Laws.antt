@@ -15,9 +15,10 @@ use Rattle.answer.specs.Outcome.Laws.{orElse-none, orElse-zero-left, orElse-zer
 use Rattle.row_format.specs.Lists.{any}
 use Rattle.row_format.specs.Lists.Laws.{cond-zero-test}
 use Rattle.row_format.specs.Table.{tableNumber, maxItemBits}
+use Rattle.row_format.specs.Place.{placeShown}
 use Rattle.row_format.specs.Row.{bits, itemsFor, rowBits, rowBytes, tooMany}
 use Rattle.row_format.specs.Row.Laws.{tooMany-zero}
-use Rattle.row_format.specs.Reading.{Run, done, stop, runNumber, rowReading}
+use Rattle.row_format.specs.Reading.{Run, done, stop, runNumber, runPlace, rowReading}
 use Rattle.row_format.specs.Reading.Laws.{rowReading-nothing}
 use Rattle.row_format.specs.Calls.{checked, packNumber, packedRow, packed, rowOutcome, unpacked, room, Packable}
 
@@ -55,6 +56,11 @@ packed-nothing tb pb m none =
 pub rowOutcome-number : (m : List ℕ) (x : Run) → rowOutcome m x .answer .number ≡ runNumber x
 rowOutcome-number m (done is u) = refl
 rowOutcome-number m (stop e at u) = refl
+
+-- and its place is that of its reading, where the number shows one
+pub rowOutcome-at : (m : List ℕ) (x : Run) → rowOutcome m x .answer .at ≡ placeShown (runNumber x) (runPlace x)
+rowOutcome-at m (done is u) = refl
+rowOutcome-at m (stop e at u) = refl
 
 pub unpacked-number : (tb wb : List ℕ) (n : ℕ) (m : List ℕ)
     → unpacked tb wb n m .answer .number ≡ runNumber (rowReading (lent (length m)) tb n wb)

@@ -6,15 +6,15 @@ use mathlib.Core.List.{List, []}
 use lib.ListN.{length, take, drop}
 use lib.Dec.{ltb}
 use borrow.Author.Tests.{ltb-true, ltb-false}
-use Rattle.bitstream.specs.Bits.{numOf, begins}
+use Rattle.bitstream.specs.Bits.{numOf, begins, wordsOf, stream}
 use Rattle.answer.specs.Outcome.{_orElse_, Lent, nothing, lent, roomNumber}
-use Rattle.answer.specs.Outcome.Laws.{orElse-none, orElse-zero-left, orElse-zero-right, roomNumber-none, lessNumber-none, lessNumber-zero, unless-number}
+use Rattle.answer.specs.Outcome.Laws.{orElse-none, orElse-zero-left, orElse-zero-right, roomNumber-none, lessNumber-none, lessNumber-zero, unless-number, unless-in}
 use Rattle.row_format.specs.Lists.{any, least}
 use Rattle.row_format.specs.Lists.Laws.{by-test}
 use Rattle.row_format.specs.Table.{entryDifference, tableNumber}
 use Rattle.row_format.specs.Row.{Item, difference, escape, State, after, tooMany}
 use Rattle.row_format.specs.Row.Laws.{tooMany-zero}
-use Rattle.row_format.specs.Reading.{Reading, item, fault, unmatched, rawHeight, inside, matched, Run, done, stop, runNumber, prepend, follow, readBy, readItems, stray, firstNumber, rowReading, Readable}
+use Rattle.row_format.specs.Reading.{Reading, item, fault, unmatched, rawHeight, inside, matched, Run, done, stop, runNumber, prepend, follow, readBy, readItems, stray, withoutStray, firstNumber, rowReading, Readable, Reads}
 
 -- to show something of such an answer, show it of each case
 module _ (P : Reading → Type 0) where
@@ -107,3 +107,23 @@ pub rowReading-room : (m : Lent) (tb : List ℕ) (n : ℕ) (wb : List ℕ) → r
     → rowReading m tb n wb ≡ rowReading nothing tb n wb
 unfolding rowReading firstNumber
 rowReading-room m tb n wb e = rw e
+
+-- to show something of it, show it of each case: refused before the first item, at an item, by 10, and done
+module _ (P : Run → Type 0) (m : Lent) (tb : List ℕ) (n : ℕ) (wb : List ℕ)
+    (first : (k : ℕ) → firstNumber m tb n ≡ suc k → P (stop (suc k) 0 0))
+    (faulty : (e at u : ℕ) → Readable m tb n → readItems (wordsOf tb) n (stream wb) ≡ stop e at u → P (stop e at u))
+    (unused : (is : List Item) (u : ℕ) → Readable m tb n → readItems (wordsOf tb) n (stream wb) ≡ done is u
+    → stray u (stream wb) ≡ true → P (stop 10 u u))
+    (whole : (is : List Item) (u : ℕ) → Reads m tb n wb is u → P (done is u)) where
+  by-run : (x : Run) → readItems (wordsOf tb) n (stream wb) ≡ x → Readable m tb n → P (withoutStray (stream wb) x)
+  by-run (done is u) e ok = by-test (stray u (stream wb))
+      (λ set. rw set (unused is u ok e set))
+      (λ clear. rw clear (whole is u (record { given = ok; read = e; clean = clear })))
+  by-run (stop k at u) e ok = faulty k at u ok e
+
+  pub rowReading-cases : P (rowReading m tb n wb)
+  unfolding rowReading
+  rowReading-cases =
+      let items = readItems (wordsOf tb) n (stream wb) in
+      unless-in P (firstNumber m tb n) (λ e. stop e 0 0) (withoutStray (stream wb) items) first
+      (λ none. by-run items refl (readable m tb n none))

@@ -54,7 +54,7 @@ rawHeight-uses n r =
     rawHeight-cases (λ x. bitsOfReading x ≤ n + 12) n r (λ h. omega arith) (λ h g. omega arith) (λ h g. omega arith)
 
 -- at the raw string 12 bits may follow, at the others none
-matched-uses : (t : List ℕ) (s : State) (r : List ℕ) (j n : ℕ) → bitsOfReading (matched t s r (suc j) n) ≤ n
+pub matched-uses : (t : List ℕ) (s : State) (r : List ℕ) (j n : ℕ) → bitsOfReading (matched t s r (suc j) n) ≤ n
 unfolding matched
 matched-uses t s r zero n = omega arith
 matched-uses t s r (suc zero) n = omega arith
@@ -75,7 +75,7 @@ unfolding readItem
 readItem-uses t s r = taken-uses t s r (find (codewords t) r) (find-found (codewords t) r)
 
 -- ---- a run of items, by any way of reading one that uses at most m bits
-prepend-uses : (i : Item) (u : ℕ) (x : Run) → bitsOfRun (prepend i u x) ≡ u + bitsOfRun x
+pub prepend-uses : (i : Item) (u : ℕ) (x : Run) → bitsOfRun (prepend i u x) ≡ u + bitsOfRun x
 prepend-uses i u (done is v) = refl
 prepend-uses i u (stop e at v) = refl
 

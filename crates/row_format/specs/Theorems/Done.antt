@@ -1,5 +1,5 @@
 -- What a done reading of a row has read, and of an unpacking that is done. Assumes nothing.
-use Prim.Native.Nat.{ℕ, zero, suc, _*_, _<_}
+use Prim.Native.Nat.{ℕ, _*_, _<_}
 use native.Mathlib.Omega.{arith}
 use mathlib.Core.Path.{_≡_, refl, sym, _∙_}
 use mathlib.Core.Bool.{false}
@@ -10,15 +10,15 @@ use lib.Dec.{ltb}
 use borrow.Author.Tests.{ltb-false}
 use Rattle.bitstream.specs.Bits.{flat, bytesOf, wordsOf, halvesOf, stream, Below}
 use Rattle.bitstream.specs.Bits.Laws.{below-nil, below-cons, below-flat, length-cut}
-use Rattle.answer.specs.Outcome.{wrote, unless, Lent, lent, roomNumber}
+use Rattle.answer.specs.Outcome.{Lent, lent, roomNumber}
 use Rattle.row_format.specs.Lists.{any}
-use Rattle.row_format.specs.Lists.Laws.{by-test, any-false-head, any-false-tail}
+use Rattle.row_format.specs.Lists.Laws.{any-false-head, any-false-tail}
 use Rattle.row_format.specs.Table.Laws.{accepted-table}
 use Rattle.row_format.specs.Row.{Item, fresh, pixelsOf, pixelBytes}
 use Rattle.row_format.specs.Row.Laws.{length-pixelsOf}
-use Rattle.row_format.specs.Reading.{Run, done, stop, runNumber, readItem, readItems, stray, withoutStray, firstNumber, rowReading, Reads}
-use Rattle.row_format.specs.Reading.Laws.{readable, firstNumber-readable, readBy-count}
-use Rattle.row_format.specs.Calls.{unpacked, bitsUsed, Accepts}
+use Rattle.row_format.specs.Reading.{Run, done, stop, runNumber, readItem, readItems, rowReading, Reads}
+use Rattle.row_format.specs.Reading.Laws.{firstNumber-readable, readBy-count, rowReading-cases}
+use Rattle.row_format.specs.Calls.{rowWrote, unpacked, bitsUsed, Accepts}
 use Rattle.row_format.specs.Calls.Laws.{unpacked-number}
 use Rattle.row_format.specs.Theorems.Bounds.{bitsUsed-run}
 use Rattle.row_format.specs.Theorems.Items.{any-pixelsOf}
@@ -27,27 +27,15 @@ use Rattle.row_format.specs.Theorems.Standing.{RunStands, readItems-stan
 use Rattle.row_format.specs.Theorems.Numbers.{StopIn, rowReading-stops}
 
 -- ---- a reading that is done
-module _ (m : Lent) (tb : List ℕ) (n : ℕ) (wb : List ℕ) (is : List Item) (u : ℕ) where
-  without-stray : (x : Run) → withoutStray (stream wb) x ≡ done is u
-      → (x ≡ done is u) × (stray u (stream wb) ≡ false)
-  without-stray (done js v) e = by-test (stray v (stream wb))
-      (λ set. absurd (let z : _≡_ {A = ℕ} 0 1 = cc (rw set at e) in omega arith))
-      (λ clear. let same : done js v ≡ done is u = rw clear at e in
-      let bits : v ≡ u = cc in
-      (same, rw (← bits) clear))
-  without-stray (stop k at v) e = absurd (let z : _≡_ {A = ℕ} 0 1 = cc in omega arith)
-
-  pub rowReading-reads : rowReading m tb n wb ≡ done is u → Reads m tb n wb is u
-  unfolding rowReading
-  rowReading-reads e = by-first (firstNumber m tb n) refl e
-    where
-      by-first : (k : ℕ) → firstNumber m tb n ≡ k
-          → unless k (λ e. stop e 0 0) (withoutStray (stream wb) (readItems (wordsOf tb) n (stream wb))) ≡ done is u
-          → Reads m tb n wb is u
-      by-first zero first h =
-          let got = without-stray (readItems (wordsOf tb) n (stream wb)) h in
-          record { given = readable m tb n first; read = got .0; clean = got .1 }
-      by-first (suc k) first h = absurd (let z : _≡_ {A = ℕ} 0 1 = cc in omega arith)
+pub rowReading-reads : (m : Lent) (tb : List ℕ) (n : ℕ) (wb : List ℕ) (is : List Item) (u : ℕ) → rowReading m tb n wb ≡ done is u
+    → Reads m tb n wb is u
+rowReading-reads m tb n wb is u =
+    rowReading-cases (λ x. x ≡ done is u → Reads m tb n wb is u) m tb n wb
+    (λ k first e. stopped e) (λ k at v ok read e. stopped e) (λ js v ok read set e. stopped e)
+    (λ js v got e. let items : js ≡ is = cc in let bits : v ≡ u = cc in rw (← items, ← bits) got)
+  where
+    stopped : {k at v : ℕ} → stop k at v ≡ done is u → Reads m tb n wb is u
+    stopped e = absurd (let z : _≡_ {A = ℕ} 0 1 = cc in omega arith)
 
 -- n items, for which there is room
 pub record Given (m : Lent) (n : ℕ) (is : List Item) : Type 0 where
@@ -84,7 +72,7 @@ module _ (tb wb : List ℕ) (n : ℕ) (m : List ℕ) where
 
 -- and where a row is read, unpacking is done
 pub unpacked-reads : (tb wb : List ℕ) (n : ℕ) (m : List ℕ) (is : List Item) (u : ℕ) → Reads (lent (length m)) tb n wb is u
-    → unpacked tb wb n m ≡ wrote u (pixelBytes (pixelsOf fresh is)) m
+    → unpacked tb wb n m ≡ rowWrote u (pixelBytes (pixelsOf fresh is)) m
 unfolding unpacked rowReading
 unpacked-reads tb wb n m is u got =
     rw (firstNumber-readable (lent (length m)) tb n (got .given), got .read, got .clean)

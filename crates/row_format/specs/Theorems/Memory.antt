@@ -2,7 +2,7 @@
 -- pixels that it counts. Assumes nothing.
 use Prim.Native.Nat.{ℕ, zero, suc, _*_, _/_}
 use native.Mathlib.Omega.{arith}
-use mathlib.Core.Path.{_≡_, refl, ap, _∙_}
+use mathlib.Core.Path.{_≡_, refl, sym, ap, _∙_}
 use mathlib.Core.List.{List}
 use lib.ListN.{length}
 use Rattle.bitstream.specs.Bits.{flat, halvesOf, wordsOf, wordsFor}
@@ -12,9 +12,10 @@ use Rattle.answer.specs.Outcome.{answerOf, refusal, lent, Kept, Within}
 use Rattle.answer.specs.Outcome.Laws.{writes-within, unless-kept}
 use Rattle.row_format.specs.Row.{fresh, pixelsOf, rowBits, rowBytes, pixelBytes}
 use Rattle.row_format.specs.Row.Laws.{length-pixelsOf}
+use Rattle.row_format.specs.Place.Laws.{placeShown-twice}
 use Rattle.row_format.specs.Reading.{Run, done, stop, rowReading}
 use Rattle.row_format.specs.Reading.Laws.{room-lent}
-use Rattle.row_format.specs.Calls.{packNumber, packedRow, packed, rowOutcome, unpacked}
+use Rattle.row_format.specs.Calls.{packNumber, packedRow, packed, rowRefusal, rowOutcome, unpacked}
 use Rattle.row_format.specs.Calls.Laws.{packNumber-zero-room, packed-done, packed-refused}
 use Rattle.row_format.specs.Theorems.Done.{GivesRow, rowReading-gives}
 
@@ -27,12 +28,13 @@ packed-kept tb pb m =
     (packNumber tb (halvesOf pb) (length m / 4)) (λ some. absurd (some refl))
 
 rowOutcome-kept : (m : List ℕ) (x : Run) → (rowOutcome m x .answer .number ≡ 0 → ⊥)
-    → Kept (refusal (rowOutcome m x .answer .number)) m (rowOutcome m x)
+    → Kept (rowRefusal (rowOutcome m x .answer .at) (rowOutcome m x .answer .number)) m (rowOutcome m x)
 rowOutcome-kept m (done is u) some = absurd (some refl)
-rowOutcome-kept m (stop e at u) some = record { answer = refl; memory = refl }
+rowOutcome-kept m (stop e at u) some =
+    record { answer = ap (λ (p : ℕ). record { number = e; count = 0; at = p }) (sym (placeShown-twice e at)); memory = refl }
 
 pub unpacked-kept : (tb wb : List ℕ) (n : ℕ) (m : List ℕ) → (unpacked tb wb n m .answer .number ≡ 0 → ⊥)
-    → Kept (refusal (unpacked tb wb n m .answer .number)) m (unpacked tb wb n m)
+    → Kept (rowRefusal (unpacked tb wb n m .answer .at) (unpacked tb wb n m .answer .number)) m (unpacked tb wb n m)
 unfolding unpacked
 unpacked-kept tb wb n m = rowOutcome-kept m (rowReading (lent (length m)) tb n wb)
 
@@ -54,7 +56,7 @@ rowOutcome-within : (n : ℕ) (m : List ℕ) (x : Run) → GivesRow (lent (lengt
 rowOutcome-within n m (done is u) h =
     let ps = pixelsOf fresh is in
     let size : 2 * length (pixelsOf fresh is) ≡ 2 * n = ap (2 *_) (length-pixelsOf fresh is ∙ h .count) in
-    writes-within (answerOf 0 u) (2 * n) (pixelBytes ps) m (length-cut 8 (2 * length ps) (flat 16 ps) ∙ size)
+    writes-within (record { number = 0; count = u; at = 0 }) (2 * n) (pixelBytes ps) m (length-cut 8 (2 * length ps) (flat 16 ps) ∙ size)
     (room-lent (length m) n (h .room))
 rowOutcome-within n m (stop e at u) h = record { size = refl; rest = refl }
 

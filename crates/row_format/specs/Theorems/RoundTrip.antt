@@ -9,7 +9,7 @@ use lib.Seq.{drop-append-seam}
 use lib.Dec.{ltb}
 use borrow.Author.Tests.{ltb-false}
 use Rattle.bitstream.specs.Bits.{wordsOf, halvesOf, stream, wordsFor, Below}
-use Rattle.answer.specs.Outcome.{wrote, Lent, lent}
+use Rattle.answer.specs.Outcome.{Lent, lent}
 use Rattle.row_format.specs.Lists.{any}
 use Rattle.row_format.specs.Lists.Laws.{any-false-head, any-false-tail}
 use Rattle.row_format.specs.BitLaws.{stream-bytesOf}
@@ -18,7 +18,7 @@ use Rattle.row_format.specs.Table.Laws.{accepted, tableNumber-verdict}
 use Rattle.row_format.specs.Row.{Item, State, fresh, previous, itemFor, after, itemBits, itemsFor, pixelsOf, bits, rowBits, rowBytes}
 use Rattle.row_format.specs.Reading.{readItem, done, readBy, readItems, rowReading, FitAll, Readable}
 use Rattle.row_format.specs.Reading.Laws.{firstNumber-readable, lent-room}
-use Rattle.row_format.specs.Calls.{packNumber, packed, unpacked, Packable}
+use Rattle.row_format.specs.Calls.{packNumber, packed, rowWrote, unpacked, Packable}
 use Rattle.row_format.specs.Calls.Laws.{packed-number, packable, packed-done, packed-front}
 use Rattle.row_format.specs.Row.Laws.{length-itemsFor}
 use Rattle.row_format.specs.Theorems.Items.{after-height, readItem-own, itemFor-right}
@@ -84,7 +84,7 @@ rowReading-rowBytes m tb ps rest ok e =
 pub unpacked-rowBytes : (tb pb rest m : List ℕ) → Below 256 pb → Packable tb (halvesOf pb)
     → length (halvesOf pb) ≤ length m / 2
     → unpacked tb (rowBytes (wordsOf tb) (halvesOf pb) ++ rest) (length (halvesOf pb)) m
-    ≡ wrote (length (rowBits (wordsOf tb) (halvesOf pb))) (take (2 * length (halvesOf pb)) pb) m
+    ≡ rowWrote (length (rowBits (wordsOf tb) (halvesOf pb))) (take (2 * length (halvesOf pb)) pb) m
 unfolding unpacked
 unpacked-rowBytes tb pb rest m bytes ok room =
     let ps = halvesOf pb in
@@ -104,14 +104,14 @@ module _ (tb pb m : List ℕ) (bytes : Below 256 pb) (packs : packed tb pb m .an
   pub unpacked-front : (rest m′ : List ℕ) → length (halvesOf pb) ≤ length m′ / 2
       → let front = take (4 * wordsFor (packed tb pb m .answer .count)) (packed tb pb m .memory) in
       unpacked tb (front ++ rest) (length (halvesOf pb)) m′
-      ≡ wrote (packed tb pb m .answer .count) (take (2 * length (halvesOf pb)) pb) m′
+      ≡ rowWrote (packed tb pb m .answer .count) (take (2 * length (halvesOf pb)) pb) m′
   unpacked-front rest m′ room =
       rw (packed-front tb pb m passed, packed-done tb pb m passed)
       (unpacked-rowBytes tb pb rest m′ bytes (packable tb (halvesOf pb) (length m / 4) passed) room)
 
   pub unpacked-packed : (m′ : List ℕ) → length (halvesOf pb) ≤ length m′ / 2
       → unpacked tb (packed tb pb m .memory) (length (halvesOf pb)) m′
-      ≡ wrote (packed tb pb m .answer .count) (take (2 * length (halvesOf pb)) pb) m′
+      ≡ rowWrote (packed tb pb m .answer .count) (take (2 * length (halvesOf pb)) pb) m′
   unpacked-packed m′ room =
       let front = rowBytes (wordsOf tb) (halvesOf pb) in
       rw (packed-done tb pb m passed)

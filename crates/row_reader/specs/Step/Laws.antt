@@ -153,7 +153,7 @@ module _ (tb wb : List ℕ) (pl : Place) where
   abbrev moved : Progress → ℕ → Place
   moved q next = record { at = next; count = pl .count + 1; progress = q; opening = pl .opening }
 
-  got : (rd : Reading) (q : Progress) (i : Item) (pixel next : ℕ) → Got i pixel next ≡ answered state (pl .at) rd
+  got : (rd : Reading) (q : Progress) (i : Item) (pixel next : ℕ) → Got pixel i next ≡ answered state (pl .at) rd
       → pl .progress ≡ progress state → Followed (pl .progress) i pixel q
       → _≡_ {A = ItemRead} (record { number = 0; item = i; pixel = pixel; place = moved q next }) (given pl state rd)
   got (item j u) q i pixel next e s f =
@@ -177,7 +177,7 @@ module _ (tb wb : List ℕ) (pl : Place) where
 
     -- r is the item reader's answer at this place
     module _ (r : Read) (is : r ≡ itemAt tb wb (pl .at) (pl .progress)) where
-      pub step-got : (q : Progress) (i : Item) (pixel next : ℕ) → r ≡ Got i pixel next → Followed (pl .progress) i pixel q
+      pub step-got : (q : Progress) (i : Item) (pixel next : ℕ) → r ≡ Got pixel i next → Followed (pl .progress) i pixel q
           → _≡_ {A = ItemRead} (record { number = 0; item = i; pixel = pixel; place = moved q next }) (itemRead tb wb pl)
       unfolding itemAt
       step-got q i pixel next e f =

@@ -1,29 +1,23 @@
 -- What the reader's steps have to do with the whole-row call. Assumes nothing.
-use Prim.Native.Nat.{ℕ, zero, suc, _+_, _*_, _/_, _≤_, _<_}
-use native.Mathlib.Nat.{add-zero, zero-add, add-assoc, not-suc-le-zero, le-trans}
+use Prim.Native.Nat.{ℕ, zero, suc, _+_, _*_, _≤_, _<_}
+use native.Mathlib.Nat.{add-zero, add-assoc, not-suc-le-zero, le-trans}
 use native.Mathlib.Omega.{arith}
 use mathlib.Core.Path.{_≡_, refl, sym, ap, _∙_, subst}
 use mathlib.Core.Bool.{false, cond}
-use mathlib.Core.Logic.{_⊎_, inl, inr, ⊎-elim}
 use mathlib.Core.List.{List, [], _∷_}
-use lib.ListN.{length, drop}
+use lib.ListN.{drop}
 use lib.Seq.{drop-drop}
 use lib.Dec.{eqb}
 use borrow.Author.Tests.{ne-eqb, eqb-true}
 use Rattle.bitstream.specs.Bits.{wordsOf, stream}
 use Rattle.bitstream.specs.Bits.Laws.{below-flat, below-drop}
-use Rattle.answer.specs.Outcome.{Outcome, refused, wrote, lent}
 use Rattle.answer.specs.Outcome.Laws.{unless-in}
-use Rattle.answer.specs.declared.Answer.{Answer}
 use Rattle.row_format.specs.Lists.Laws.{by-test}
 use Rattle.row_format.specs.Table.{tableNumber, maxItemBits, Accepted}
 use Rattle.row_format.specs.Table.Laws.{accepted, tableNumber-verdict, maxItemBits-most}
 use Rattle.row_format.specs.Row as row
-use Rattle.row_format.specs.Row.{pixelsOf, pixelBytes}
-use Rattle.row_format.specs.Reading.{Reading, item, fault, bitsOfReading, Run, done, stop, prepend, readItem, readBy, readItems, stray}
-use Rattle.row_format.specs.Reading.{withoutStray, rowReading, Readable}
-use Rattle.row_format.specs.Reading.Laws.{firstNumber-readable, lent-room, room-lent}
-use Rattle.row_format.specs.Calls.{unpacked, rowOutcome, Accepts}
+use Rattle.row_format.specs.Row.{pixelsOf}
+use Rattle.row_format.specs.Reading.{Reading, item, fault, bitsOfReading, Run, done, stop, prepend, readItem, readBy}
 use Rattle.row_format.specs.Theorems.Bounds.{readItem-uses}
 use Rattle.row_format.specs.Theorems.Items.{after-height}
 use Rattle.row_format.specs.Theorems.Numbers.{FaultIn, readItem-in}
@@ -35,7 +29,7 @@ use Rattle.row_reader.specs.declared.step.Place.{Place}
 use Rattle.row_reader.specs.declared.step.ItemRead.{ItemRead}
 use Rattle.row_reader.specs.Step.{startPlace, impossible, placeNumber, refusedAt, placeAfter, given, readingAt, itemRead}
 use Rattle.row_reader.specs.Step.Laws.{impossible-false, placeNumber-none, ItemPlace, placeNumber-stands, step-read}
-use Rattle.row_reader.specs.Walk.{Walk, gave, ended, onto, walk, Handed}
+use Rattle.row_reader.specs.Walk.{Walk, gave, ended, onto, walk}
 
 -- ---- one step
 -- a reader of an accepted table, in the state s: after count items it has used at most 27 bits for each
@@ -83,6 +77,11 @@ module _ (tb wb : List ℕ) where
       still (item i u) h = absurd (h refl)
       still (fault e u) h = refl
 
+  -- so that an answer's refusal is at the place that was given
+  pub itemRead-place : (pl : Place) (r : ItemRead) → r ≡ itemRead tb wb pl
+      → (r ≡ itemRead tb wb pl) × ((r .number ≡ 0 → ⊥) → r .place ≡ pl)
+  itemRead-place pl r is = (is, λ some. ap (λ (x : ItemRead). x .place) (is ∙ stays pl (rw (← is) some)))
+
   pub moves : (pl : Place) → itemRead tb wb pl .place .at ≤ pl .at + maxItemBits (wordsOf tb)
   moves pl =
       let uses = readItem-uses (wordsOf tb) (rowState (pl .progress)) (drop (pl .at) (stream wb)) in
@@ -98,7 +97,7 @@ module _ (tb wb : List ℕ) where
   -- what a step's reading makes of the rest of a walk
   abbrev onward : Place → row.State → ℕ → Reading → Walk
   onward pl s n (item i u) = onto (row.pixelOf s i) (walk tb wb n (placeAfter pl s i u))
-  onward pl s n (fault e u) = ended e 0
+  onward pl s n (fault e u) = ended e 0 pl
 
   -- no faulty item has the number 0
   real : (s : row.State) (r : List ℕ) → FaultIn (λ e. e ≡ 0 → ⊥) (readItem (wordsOf tb) s r)
@@ -111,7 +110,7 @@ module _ (tb wb : List ℕ) where
   walk-suc n pl s a more = rw (step-given pl s a more) (by-reading (reading pl s) (real s (drop (pl .at) (stream wb))))
     where
       taken : ItemRead → Walk
-      taken r = cond (eqb (r .number) 0) (onto (r .pixel) (walk tb wb n (r .place))) (ended (r .number) 0)
+      taken r = cond (eqb (r .number) 0) (onto (r .pixel) (walk tb wb n (r .place))) (ended (r .number) 0 (r .place))
 
       by-reading : (rd : Reading) → FaultIn (λ e. e ≡ 0 → ⊥) rd → taken (given pl s rd) ≡ onward pl s n rd
       by-reading (item i u) h = refl
@@ -130,16 +129,17 @@ module _ (tb wb : List ℕ) where
     pub pixels : pixelsOf s items ≡ ps
     pub place : pl′ .at ≡ pl .at + used
 
-  -- a run of j items stops
-  pub record Stops (pl : Place) (s : row.State) (j e : ℕ) : Type 0 where
+  -- a run of j items stops at the bit place at, which it counts from where it began
+  pub record Stops (pl : Place) (s : row.State) (j e at : ℕ) : Type 0 where
     pub faultAt : ℕ
     pub used : ℕ
     pub read : run pl s j ≡ stop e faultAt used
+    pub place : at ≡ pl .at + faultAt
 
   -- what a walk of n steps says of the rows
   abbrev pub Agrees : Place → row.State → ℕ → Walk → Type 0
   Agrees pl s n (gave ps pl′) = Whole pl s n ps pl′
-  Agrees pl s n (ended e k) = (k < n) × ((j : ℕ) → k < j → Stops pl s j e)
+  Agrees pl s n (ended e k pl′) = (k < n) × ((j : ℕ) → k < j → Stops pl s j e (pl′ .at))
 
   module _ (pl : Place) (s : row.State) where
     -- after an item i of u bits
@@ -164,18 +164,23 @@ module _ (tb wb : List ℕ) where
             pixels = ap (row.pixelOf s i ∷_) (a .pixels);
             place = a .place ∙ add-assoc (pl .at) u (a .used);
           }
-      onto-agrees n (ended x k) a = (omega (arith, a .0), go)
+      onto-agrees n (ended x k pl′) a = (omega (arith, a .0), go)
         where
-          go : (j : ℕ) → suc k < j → Stops pl s j x
+          go : (j : ℕ) → suc k < j → Stops pl s j x (pl′ .at)
           go zero h = absurd (not-suc-le-zero h)
           go (suc j) h =
               let b = a .1 j (omega arith) in
-              record { faultAt = u + b .faultAt; used = u + b .used; read = run-suc j ∙ ap (prepend i u) (b .read) }
+              record {
+                faultAt = u + b .faultAt;
+                used = u + b .used;
+                read = run-suc j ∙ ap (prepend i u) (b .read);
+                place = b .place ∙ add-assoc (pl .at) u (b .faultAt);
+              }
 
-    fault-agrees : (x u : ℕ) → reading pl s ≡ fault x u → (j : ℕ) → 0 < j → Stops pl s j x
+    fault-agrees : (x u : ℕ) → reading pl s ≡ fault x u → (j : ℕ) → 0 < j → Stops pl s j x (pl .at)
     unfolding readBy
     fault-agrees x u e zero h = absurd (not-suc-le-zero h)
-    fault-agrees x u e (suc j) h = record { faultAt = 0; used = u; read = rw e }
+    fault-agrees x u e (suc j) h = record { faultAt = 0; used = u; read = rw e; place = sym (add-zero (pl .at)) }
 
   module _ (ok : tableNumber tb ≡ 0) where
     sound : Accepted (wordsOf tb)
@@ -246,11 +251,11 @@ module _ (tb wb : List ℕ) where
     -- so that every walk's place is one
     abbrev PossibleAfter : Walk → Type 0
     PossibleAfter (gave ps pl) = impossible pl ≡ false
-    PossibleAfter (ended e k) = Unit {0}
+    PossibleAfter (ended e k pl) = Unit {0}
 
     onto-possible : (p : ℕ) (w : Walk) → PossibleAfter w → PossibleAfter (onto p w)
     onto-possible p (gave ps pl) h = h
-    onto-possible p (ended e k) h = tt
+    onto-possible p (ended e k pl) h = tt
 
     walk-possible : (n : ℕ) (pl : Place) → impossible pl ≡ false → PossibleAfter (walk tb wb n pl)
     unfolding walk
@@ -265,67 +270,3 @@ module _ (tb wb : List ℕ) where
     pub walk-place : (n : ℕ) (ps : List ℕ) (pl : Place) → walk tb wb n (startPlace tb) ≡ gave ps pl → impossible pl ≡ false
     unfolding impossible
     walk-place n ps pl e = subst PossibleAfter e (walk-possible n (startPlace tb) refl)
-
-    -- ---- the row call
-    start : At (startPlace tb) row.fresh
-    start = record { is = refl; near = omega arith; height = omega arith; opened = ok }
-
-    module _ (n : ℕ) (m : List ℕ) (rm : n ≤ length m / 2) (lim : n ≤ 4096) where
-      passes : Readable (lent (length m)) tb n
-      passes = record { table = ok; few = lim; room = lent-room (length m) n (omega arith) }
-
-      row-is : (x : Run) → readItems (wordsOf tb) n (stream wb) ≡ x → unpacked tb wb n m ≡ rowOutcome m (withoutStray (stream wb) x)
-      unfolding unpacked rowReading
-      row-is x e = rw (firstNumber-readable (lent (length m)) tb n passes, e)
-
-      -- where it gives n items, a row call of n with room for them gives those pixels or refuses 10
-      whole-row : (ps : List ℕ) (pl : Place) → Whole (startPlace tb) row.fresh n ps pl
-          → (unpacked tb wb n m ≡ wrote (pl .at) (pixelBytes ps) m) ⊎ (unpacked tb wb n m ≡ refused 10 m)
-      whole-row ps pl w =
-          let is = row-is (done (w .items) (w .used)) (unfold readItems in w .read) in
-          by-test (stray (w .used) (stream wb)) (λ e. inr (is ∙ rw e))
-          (λ e. inl (is ∙ rw (e, w .pixels, w .place, zero-add (w .used))))
-
-      stopped-row : (e : ℕ) → Stops (startPlace tb) row.fresh n e → unpacked tb wb n m ≡ refused e m
-      stopped-row e s = row-is (stop e (s .faultAt) (s .used)) (unfold readItems in s .read)
-
-      -- by a walk's own answer
-      pub gives : (ps : List ℕ) (pl : Place) → walk tb wb n (startPlace tb) ≡ gave ps pl
-          → (unpacked tb wb n m ≡ wrote (pl .at) (pixelBytes ps) m) ⊎ (unpacked tb wb n m ≡ refused 10 m)
-      gives ps pl e =
-          let agrees = walk-agrees n (startPlace tb) row.fresh start (omega arith) in
-          whole-row ps pl (subst (Agrees (startPlace tb) row.fresh n) e agrees)
-
-      pub refuses : (k e i : ℕ) → k ≤ 4096 → walk tb wb k (startPlace tb) ≡ ended e i → i < n → unpacked tb wb n m ≡ refused e m
-      refuses k e i h w reaches =
-          let agrees = walk-agrees k (startPlace tb) row.fresh start (omega arith) in
-          stopped-row e (subst (Agrees (startPlace tb) row.fresh k) w agrees .1 n reaches)
-
-    -- and back: where a row call of n is done, the reader gives those n items
-    module _ (n : ℕ) (m : List ℕ) (a : Accepts tb wb n m) where
-      within : 2 * n ≤ length m
-      within = room-lent (length m) n (a .reads .given .room)
-
-      -- 10 is not the number of a done call
-      not-ten : unpacked tb wb n m ≡ refused 10 m → ⊥
-      not-ten e =
-          let z : _≡_ {A = ℕ} 0 10 = ap (λ (o : Outcome Answer). o .answer .number) (sym (a .left) ∙ e) in
-          omega arith
-
-      back-by : (w : Walk) → walk tb wb n (startPlace tb) ≡ w → Agrees (startPlace tb) row.fresh n w → Handed tb wb n m
-      unfolding readItems
-      back-by (gave ps pl) e x =
-          record {
-            pixels = ps;
-            place = pl;
-            walked = e;
-            row = ⊎-elim (λ h. h) (λ h. absurd (not-ten h)) (gives n m (omega (arith, within)) (a .reads .given .few) ps pl e);
-          }
-      back-by (ended k i) e x =
-          let stopped = x .1 n (x .0) .read in
-          absurd (let z : _≡_ {A = ℕ} 0 1 = cc (stopped, a .reads .read) in omega arith)
-
-      pub hands : Handed tb wb n m
-      hands =
-          let agrees = walk-agrees n (startPlace tb) row.fresh start (omega (arith, a .reads .given .few)) in
-          back-by (walk tb wb n (startPlace tb)) refl agrees

@@ -51,7 +51,7 @@ module _ (l : List ℕ) (at n : ℕ) (v : View) (seen : Seen (drop (at + n) l) v
   }
 
   pub height-got : 12 ≤ v .left → v .window % 4096 < 4094
-      → HeightAt (drop at l) at n (Got (Escape (v .window % 4096)) (v .window % 4096) (at + n + 12))
+      → HeightAt (drop at l) at n (Got (v .window % 4096) (Escape (v .window % 4096)) (at + n + 12))
   unfolding rawHeight
   height-got h small = record {
     is = λ s.
@@ -83,7 +83,7 @@ module _ (t : List ℕ) (s : State) (at i n low prev : ℕ) (low-is : low ≡ lo
 
     -- the code holds the signed difference z
     pub entry-got : prev + (i + low) ≤ 8186 → (z : ℤ) → z ≡ signedDifference (i + low)
-        → Got (Difference (toZ w32 (ofZ w32 z))) (prev + (i + low) - 4093) (at + n) ≡ entryAt t s at i n
+        → Got (prev + (i + low) - 4093) (Difference (toZ w32 (ofZ w32 z))) (at + n) ≡ entryAt t s at i n
     unfolding entryAt
     entry-got h z e =
         let kept : toZ w32 (ofZ w32 z) ≡ signedDifference (i + low) = toZ-ofZ (rw e (signed-fits (i + low) (omega arith))) ∙ e in
@@ -107,11 +107,11 @@ module _ (t : List ℕ) (s : State) (r : List ℕ) (at j w : ℕ) (is : w ≡ ge
   unfolding matched
   found-escape e x h = h .is s ∙ by-place 0 e
 
-  pub found-bad-pixel : j ≡ 1 → Got BadPixel 4095 (at + w % 32) ≡ foundAt t s r at j
+  pub found-bad-pixel : j ≡ 1 → Got 4095 BadPixel (at + w % 32) ≡ foundAt t s r at j
   unfolding matched
   found-bad-pixel e = by-place 1 e
 
-  pub found-bad-bias : j ≡ 2 → Got BadBias 4094 (at + w % 32) ≡ foundAt t s r at j
+  pub found-bad-bias : j ≡ 2 → Got 4094 BadBias (at + w % 32) ≡ foundAt t s r at j
   unfolding matched
   found-bad-bias e = by-place 2 e
 

@@ -135,7 +135,7 @@ module _
               subst⁻¹ (RowIs n out′ (row-read.Refused number place)) (by-next (fault k u) e) (cc (add-zero at))
 
       -- the next item is there
-      pub partly-more : (what : Item) (pixel next : ℕ) (p′ : Progress) (out′ : List ℕ) → x ≡ Got what pixel next → Followed p what pixel p′
+      pub partly-more : (what : Item) (pixel next : ℕ) (p′ : Progress) (out′ : List ℕ) → x ≡ Got pixel what next → Followed p what pixel p′
           → out′ ≡ overwritten out (2 * i) (bytesOf 2 (digits 16 pixel)) → Partly g n r size out′ next p′ (i + 1)
       unfolding from rest-of
       partly-more what pixel next p′ out′ d f written =
@@ -154,7 +154,7 @@ module _
           go : (y : Reading) → g (rowState p) (drop at r) ≡ y → bitsOfReading y ≤ 43
               → Partly g n r size (overwritten out (2 * i) (bytesOf 2 (digits 16 pixel))) next p′ (i + 1)
           go (item j u) e few =
-              let same : Got what pixel next ≡ Got (coded j) (pixelOf (rowState p) j) (at + u) =
+              let same : Got pixel what next ≡ Got (pixelOf (rowState p) j) (coded j) (at + u) =
               sym d ∙ is ∙ ap (answered (rowState p) at) e in
               let what-is : what ≡ coded j = cc in
               let pixel-is : pixel ≡ pixelOf (rowState p) j = cc in
@@ -174,5 +174,5 @@ module _
                     ∙ rw (front, ← pixel-is, drop-drop u at r, s-is, next-is);
               }
           go (fault k u) e few =
-              let other : Got what pixel next ≡ Refused k at = sym d ∙ is ∙ ap (answered (rowState p) at) e in
+              let other : Got pixel what next ≡ Refused k at = sym d ∙ is ∙ ap (answered (rowState p) at) e in
               absurd (let z : _≡_ {A = ℕ} 0 1 = cc in omega arith)

@@ -25,11 +25,13 @@ recordAnswer kind row count bits words whole least =
       words = words;
       length = whole;
       state = record { «has_table» = 1; «least_row» = least };
+      at = 0;
     }
 
 abbrev pub wholeRead : SheetRead
 wholeRead = record {
   number = 0;
+  place = 0;
   records =
       record { answer = recordAnswer 1 0 7 0 0 34 0; content = []; bytes = tableRecord } ∷
       record { answer = recordAnswer 2 5 2 4 1 14 6; content = 0 ∷ 0 ∷ 255 ∷ 15 ∷ []; bytes = packedRecord } ∷

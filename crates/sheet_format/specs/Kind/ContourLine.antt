@@ -74,6 +74,7 @@ lineKind = record {
   heading = λ b. noHeading;
   place = linePlace;
   own = lineOwn;
+  stop = λ c b. 0;
   count = numberCount;
   bits = λ c b. 0;
   content = readNumbers;

@@ -15,16 +15,19 @@ pub record ListedBody (P : ℕ → Type 0) : Type 0 where
   pub p2 : P 2
   pub p3 : P 3
   pub p4 : P 4
-  pub p6 : P 6
-  pub p7 : P 7
-  pub p8 : P 8
-  pub p9 : P 9
-  pub p10 : P 10
   pub p11 : P 11
   pub p12 : P 12
   pub p13 : P 13
   pub p14 : P 14
   pub p15 : P 15
+
+-- and for a body of bits
+pub record ListedBits (P : ℕ → Type 0) : Type 0 where
+  pub p6 : P 6
+  pub p7 : P 7
+  pub p8 : P 8
+  pub p9 : P 9
+  pub p10 : P 10
 
 -- what holds of such numbers, and whatever follows from it
 pub listed-in : {P Q : ℕ → Type 0} → ((e : ℕ) → P e → Q e) → ListedBody P → ListedBody Q
@@ -34,17 +37,16 @@ listed-in f l = record {
   p2 = f 2 (l .p2);
   p3 = f 3 (l .p3);
   p4 = f 4 (l .p4);
-  p6 = f 6 (l .p6);
-  p7 = f 7 (l .p7);
-  p8 = f 8 (l .p8);
-  p9 = f 9 (l .p9);
-  p10 = f 10 (l .p10);
   p11 = f 11 (l .p11);
   p12 = f 12 (l .p12);
   p13 = f 13 (l .p13);
   p14 = f 14 (l .p14);
   p15 = f 15 (l .p15);
 }
+
+pub bits-in : {P Q : ℕ → Type 0} → ((e : ℕ) → P e → Q e) → ListedBits P → ListedBits Q
+bits-in f l =
+    record { p6 = f 6 (l .p6); p7 = f 7 (l .p7); p8 = f 8 (l .p8); p9 = f 9 (l .p9); p10 = f 10 (l .p10) }
 
 pub record ListedPlace (P : ℕ → Type 0) : Type 0 where
   pub p0 : P 0
@@ -98,8 +100,8 @@ pub record Lawful (k : Kind) : Type 1 where
   pub writable-in : (P : ℕ → Type 0) → ListedGiven P → P (k .writable)
   pub fixed-in : (P : ℕ → Type 0) → ListedBody P → (b : List ℕ) → P (k .fixed b)
   pub place-in : (P : ℕ → Type 0) → ListedPlace P → (c : Context) (h : Heading) → P (k .place c h)
-  pub own-in : (P : ℕ → Type 0) → ListedBody P → (m : Lent) → ((n : ℕ) → P (roomNumber m n)) → (c : Context) (b : List ℕ)
-      → P (k .own m c b)
+  pub own-in : (P : ℕ → Type 0) → ListedBody P → ListedBits P → (m : Lent) → ((n : ℕ) → P (roomNumber m n))
+      → (c : Context) (b : List ℕ) → P (k .own m c b)
   pub given-in : (P : ℕ → Type 0) → ListedGiven P → (h : Heading) (c : Context) (x : List ℕ) → P (k .given h c x)
   -- ---- what is written is read back
   pub readable-back : k .writable ≡ 0 → k .readable ≡ 0

@@ -7,7 +7,7 @@ use Rattle.bitstream.specs.Bits.{wordsOf, wordsFor}
 use Rattle.answer.specs.Outcome.{_orElse_, refuseIf, Lent, nothing}
 use Rattle.row_format.specs.Table.{tableNumber}
 use Rattle.row_format.specs.Row.{rowBits, rowBytes, pixelBytes, tooMany, tooHigh}
-use Rattle.row_format.specs.Reading.{Run, runNumber, bitsOfRun, pixelsOfRun, rowReading}
+use Rattle.row_format.specs.Reading.{Run, runNumber, runPlace, bitsOfRun, pixelsOfRun, rowReading}
 use Rattle.sheet_format.specs.Context.{Heading, Context, tableFor}
 use Rattle.sheet_format.specs.Fields.{shorterThan, notWords}
 use Rattle.sheet_format.specs.Kind.{Kind, aRow}
@@ -25,6 +25,10 @@ packedLeftover c b = refuseIf (ltb (4 * wordsFor (bitsOfRun (packedReading nothi
 -- "6 to 10", 1, 2, 3, 11 and 5 in unpacking's order, then leftover
 unfoldable pub packedOwn : Lent → Context → List ℕ → ℕ
 packedOwn m c b = runNumber (packedReading m c b) orElse packedLeftover c b
+
+-- where its reading stops
+unfoldable pub packedStop : Context → List ℕ → ℕ
+packedStop c b = runPlace (packedReading nothing c b)
 
 unfoldable pub packedBits : Context → List ℕ → ℕ
 packedBits c b = bitsOfRun (packedReading nothing c b)
@@ -53,6 +57,7 @@ packedKind = record {
   heading = rowHeading;
   place = rowPlace;
   own = packedOwn;
+  stop = packedStop;
   count = pixelCount;
   bits = packedBits;
   content = packedContent;

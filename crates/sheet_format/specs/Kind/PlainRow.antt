@@ -43,6 +43,7 @@ plainKind = record {
   heading = rowHeading;
   place = rowPlace;
   own = plainOwn;
+  stop = λ c b. 0;
   count = pixelCount;
   bits = λ c b. 0;
   content = plainContent;

@@ -28,6 +28,7 @@ tableKind = record {
   heading = λ b. noHeading;
   place = tablePlace;
   own = tableOwn;
+  stop = λ c b. 0;
   count = λ b. length b / 4;
   bits = λ c b. 0;
   content = λ c b. [];

@@ -5,15 +5,20 @@ use native.Mathlib.Omega.{arith}
 use mathlib.Core.Logic.{by-cases}
 use mathlib.Core.Path.{_≡_, refl, sym, ap, _∙_}
 use mathlib.Core.Bool.{true}
+use mathlib.Core.List.{List}
 use lib.Dec.{eqb}
 use borrow.Author.Tests.{ne-eqb, eqb-true}
+use Rattle.answer.specs.Outcome.{Lent, roomNumber}
 use Rattle.answer.specs.Outcome.Laws.{roomNumber-none}
+use Rattle.row_format.specs.Theorems.Numbers.{tableNumber-in}
+use Rattle.sheet_format.specs.Context.{Context}
 use Rattle.sheet_format.specs.Kind.{unknown, aTable, isTable, isRow}
-use Rattle.sheet_format.specs.Kind.Lawful.{Lawful}
+use Rattle.sheet_format.specs.Kind.Lawful.{ListedBody, Lawful}
+use Rattle.sheet_format.specs.Kind.Table.{tableOwn}
 use Rattle.sheet_format.specs.Kind.Table.Laws.{table-lawful}
 use Rattle.sheet_format.specs.Kind.PackedRow.Laws.{packed-lawful}
-use Rattle.sheet_format.specs.Kind.PlainRow.Laws.{plain-lawful}
-use Rattle.sheet_format.specs.Kind.ContourLine.Laws.{line-lawful}
+use Rattle.sheet_format.specs.Kind.PlainRow.Laws.{plainOwn-in, plain-lawful}
+use Rattle.sheet_format.specs.Kind.ContourLine.Laws.{lineOwn-in, line-lawful}
 use Rattle.sheet_format.specs.Kinds.{kindOf}
 
 unknown-lawful : Lawful unknown
@@ -33,7 +38,7 @@ unknown-lawful = record {
   writable-in = λ P l. l .p15;
   fixed-in = λ P l b. l .p0;
   place-in = λ P l c h. l .p0;
-  own-in = λ P l m room c b. l .p0;
+  own-in = λ P l bits m room c b. l .p0;
   given-in = λ P l h c x. l .p0;
   readable-back = λ e. e;
   back = λ h c x bytes writable place given. absurd (omega arith);
@@ -46,6 +51,17 @@ lawful (suc (suc zero)) = packed-lawful
 lawful (suc (suc (suc zero))) = plain-lawful
 lawful (suc (suc (suc (suc zero)))) = line-lawful
 lawful (suc (suc (suc (suc (suc k))))) = unknown-lawful
+
+-- only a packed row's body is bits: of the others 6 to 10 are not among the numbers
+pub bitless-in : (code : ℕ) → (code ≡ 2 → ⊥) → (P : ℕ → Type 0) → ListedBody P → (m : Lent) → ((n : ℕ) → P (roomNumber m n))
+    → (c : Context) (b : List ℕ) → P (kindOf code .own m c b)
+unfolding tableOwn
+bitless-in zero other P l m room c b = l .p0
+bitless-in (suc zero) other P l m room c b = tableNumber-in P b (l .p0) (l .p1) (l .p2) (l .p3)
+bitless-in (suc (suc zero)) other P l m room c b = absurd (other refl)
+bitless-in (suc (suc (suc zero))) other P l m room c b = plainOwn-in P l m room c b
+bitless-in (suc (suc (suc (suc zero)))) other P l m room c b = lineOwn-in P l m room c b
+bitless-in (suc (suc (suc (suc (suc k))))) other P l m room c b = l .p0
 
 -- ---- codes
 -- a code of none of them

@@ -14,8 +14,8 @@ use Rattle.answer.specs.Outcome.{outcome, Lent, nothing, lent}
 use Rattle.sheet_format.specs.Context.{Context}
 use Rattle.sheet_format.specs.Record.{lengthField, kindField, bodyOf, lengthNumber, recordNumber, recordSpan}
 use Rattle.sheet_format.specs.Record.Laws.{RightLength, right-length, lengthNumber-right, lengthNumber-wrong}
-use Rattle.sheet_format.specs.Reading.{recordHeld, recordContent, contextAfter, refusedRecord, recordJudged, recordRead}
-use Rattle.sheet_format.specs.Reading.Laws.{recordContent-of, contextAfter-of, judged-read, judged-held}
+use Rattle.sheet_format.specs.Reading.{recordHeld, recordContent, contextAfter, refusedRecord, recordStop, recordJudged, recordRead}
+use Rattle.sheet_format.specs.Reading.Laws.{recordContent-of, recordStop-of, contextAfter-of, judged-read, judged-held}
 
 pub field-front : (at n k : ℕ) (l rest : List ℕ) → at + n ≤ k → k ≤ length l
     → take n (drop at (take k l ++ rest)) ≡ take n (drop at l)
@@ -47,13 +47,16 @@ module _ (r s : List ℕ) (a : Alike r s) (c : Context) where
   pub contextAfter-alike : contextAfter c s ≡ contextAfter c r
   contextAfter-alike = contextAfter-of c s (a .kind) (a .body) ∙ sym (contextAfter-of c r refl refl)
 
+  recordStop-alike : recordStop c s ≡ recordStop c r
+  recordStop-alike = recordStop-of c s (a .kind) (a .body) ∙ sym (recordStop-of c r refl refl)
+
   pub recordRead-alike : (m : List ℕ) → recordRead c s m ≡ recordRead c r m
   unfolding recordRead
-  recordRead-alike m = rw (recordNumber-alike (lent (length m)), recordHeld-alike, recordContent-alike)
+  recordRead-alike m = rw (recordNumber-alike (lent (length m)), recordStop-alike, recordHeld-alike, recordContent-alike)
 
   pub recordJudged-alike : recordJudged c s ≡ recordJudged c r
   unfolding recordJudged
-  recordJudged-alike = rw (recordNumber-alike nothing, recordHeld-alike)
+  recordJudged-alike = rw (recordNumber-alike nothing, recordStop-alike, recordHeld-alike)
 
 -- ---- a record whose length is right: anything may follow it
 module _ (r rest : List ℕ) (h : RightLength r) where
@@ -89,11 +92,11 @@ pub data Same (r s : List ℕ) : Type 0 where
   unfit : lengthNumber r ≡ 14 → lengthNumber s ≡ 14 → Same r s
 
 module _ (c : Context) where
-  refused-read : (s m : List ℕ) → lengthNumber s ≡ 14 → recordRead c s m ≡ outcome (refusedRecord 14) m
+  refused-read : (s m : List ℕ) → lengthNumber s ≡ 14 → recordRead c s m ≡ outcome (refusedRecord 0 14) m
   unfolding recordRead recordNumber
   refused-read s m e = rw e
 
-  refused-judged : (s : List ℕ) → lengthNumber s ≡ 14 → recordJudged c s ≡ refusedRecord 14
+  refused-judged : (s : List ℕ) → lengthNumber s ≡ 14 → recordJudged c s ≡ refusedRecord 0 14
   unfolding recordJudged recordNumber
   refused-judged s e = rw e
 

@@ -1,32 +1,41 @@
 -- A refused call moves nothing, and a done write changes only the bytes that it counts. Assumes nothing.
 use Prim.Native.Nat.{ℕ, zero, suc}
-use mathlib.Core.Path.{_≡_, refl}
+use mathlib.Core.Path.{_≡_, refl, sym}
 use mathlib.Core.List.{List}
 use lib.ListN.{length}
-use Rattle.answer.specs.Outcome.{writes, nothing, lent, Kept, Within}
+use Rattle.answer.specs.Outcome.{outcome, writes, nothing, lent, Kept, Within}
 use Rattle.answer.specs.Outcome.Laws.{unless-in, unless-kept, writes-within}
+use Rattle.row_format.specs.Place.{placeShown}
+use Rattle.row_format.specs.Place.Laws.{placeShown-twice}
 use Rattle.sheet_format.specs.declared.RecordWritten.{RecordWritten}
 use Rattle.sheet_format.specs.Context.{Heading, Context}
 use Rattle.sheet_format.specs.Record.{recordNumber}
-use Rattle.sheet_format.specs.Reading.{refusedRecord, recordHeld, recordContent, recordJudged, recordRead}
-use Rattle.sheet_format.specs.Reading.Laws.{readNumber}
+use Rattle.sheet_format.specs.Reading.{refusedRecord, recordStop, recordHeld, recordContent, recordJudged, recordRead}
+use Rattle.sheet_format.specs.Reading.Laws.{refused-shown}
 use Rattle.sheet_format.specs.Writing.{writeNumber, notWritten, recordDone, recordWritten, recordFor}
 use Rattle.sheet_format.specs.Writing.Laws.{writeNumber-room, recordWritten-done, recordWritten-refused}
 
 -- ---- judging and reading
+-- the place that a refusal shows is shown of itself
+shown-again : (at e : ℕ) → refusedRecord at e ≡ refusedRecord (placeShown e at) e
+shown-again at e = refused-shown e at (placeShown e at) (sym (placeShown-twice e at))
+
 pub recordJudged-refused : (c : Context) (r : List ℕ) → (recordJudged c r .number ≡ 0 → ⊥)
-    → recordJudged c r ≡ refusedRecord (recordJudged c r .number)
+    → recordJudged c r ≡ refusedRecord (recordJudged c r .at) (recordJudged c r .number)
 unfolding recordJudged recordHeld
 recordJudged-refused c r =
-    unless-in (λ a. (a .number ≡ 0 → ⊥) → a ≡ refusedRecord (a .number)) (recordNumber nothing c r)
-    refusedRecord (recordHeld c r) (λ k e some. refl) (λ e some. absurd (some refl))
+    unless-in (λ a. (a .number ≡ 0 → ⊥) → a ≡ refusedRecord (a .at) (a .number)) (recordNumber nothing c r)
+    (refusedRecord (recordStop c r)) (recordHeld c r) (λ k e some. shown-again (recordStop c r) (suc k))
+    (λ e some. absurd (some refl))
 
 pub recordRead-kept : (c : Context) (r m : List ℕ) → (recordRead c r m .answer .number ≡ 0 → ⊥)
-    → Kept (refusedRecord (recordRead c r m .answer .number)) m (recordRead c r m)
+    → let a = recordRead c r m .answer in Kept (refusedRecord (a .at) (a .number)) m (recordRead c r m)
 unfolding recordRead recordHeld
 recordRead-kept c r m =
-    unless-kept refusedRecord m (writes (recordHeld c r) (recordContent c r) m) readNumber (λ k. refl)
-    (recordNumber (lent (length m)) c r) (λ some. absurd (some refl))
+    unless-in (λ o. (o .answer .number ≡ 0 → ⊥) → Kept (refusedRecord (o .answer .at) (o .answer .number)) m o)
+    (recordNumber (lent (length m)) c r) (λ k. outcome (refusedRecord (recordStop c r) k) m)
+    (writes (recordHeld c r) (recordContent c r) m)
+    (λ k e some. record { answer = shown-again (recordStop c r) (suc k); memory = refl }) (λ e some. absurd (some refl))
 
 -- ---- writing
 module _ (code : ℕ) (h : Heading) (c : Context) (x m : List ℕ) where

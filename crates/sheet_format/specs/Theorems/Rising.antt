@@ -45,7 +45,7 @@ record-rises c r ys ok rest =
 recordsFrom-rising : (n : ℕ) (c : Context) (r : List ℕ) → Rising (c .least) (storedRows (recordsFrom n c r .records))
 unfolding storedRows
 recordsFrom-rising =
-    recordsFrom-all (λ c s. Rising (c .least) (storedRows (s .records))) (λ c e. tt)
+    recordsFrom-all (λ c s. Rising (c .least) (storedRows (s .records))) (λ c e at. tt)
     (λ c r rest ok h. record-rises c r (storedRows (rest .records)) ok h)
 
 pub sheetRead-rows : (s : List ℕ) → Rising 0 (storedRows (sheetRead s .records))

@@ -14,7 +14,7 @@ use Rattle.sheet_format.specs.Kinds.{kindOf}
 use Rattle.sheet_format.specs.Kinds.Laws.{lawful}
 use Rattle.sheet_format.specs.Record.{kindField, bodyOf, contentNumber, recordNumber}
 use Rattle.sheet_format.specs.Record.Laws.{lengthNumber-right, ContentPassed, recordNumber-read, read-recordNumber}
-use Rattle.sheet_format.specs.Reading.{answerBytes, recordHeld, recordContent, refusedRecord, recordJudged, recordRead}
+use Rattle.sheet_format.specs.Reading.{answerBytes, recordHeld, recordContent, refusedRecord, recordStop, recordJudged, recordRead}
 use Rattle.sheet_format.specs.Reading.Laws.{judged-read, judged-held, recordRead-answer, recordRead-number, recordRead-done, recordRead-refuses}
 
 -- ---- a lawful kind's own refusals, with memory lent and without
@@ -59,7 +59,7 @@ pub recordRead-judged : (c : Context) (r m : List ℕ) → 16384 ≤ length m �
 unfolding recordJudged
 recordRead-judged c r m enough =
     recordRead-answer c r m
-    ∙ ap (λ (e : ℕ). unless e refusedRecord (recordHeld c r)) (recordNumber-enough (length m) enough c r)
+    ∙ ap (λ (e : ℕ). unless e (refusedRecord (recordStop c r)) (recordHeld c r)) (recordNumber-enough (length m) enough c r)
 
 -- ---- of a record that judging accepts
 module _ (c : Context) (r m : List ℕ) (ok : recordJudged c r .number ≡ 0) where

@@ -74,7 +74,7 @@ module _ (c : Context) (w : Write) (d : Done c w) where
         ∙ rw (content, next, bytes-written, size, take-append-seam (whole c w) rest, drop-append-seam (whole c w) rest)
 
 records-written : (c : Context) (ws : List Write) → AllDone c ws
-    → records c (sheetBytes c ws) ≡ record { records = sheetGiven c ws; number = 0 }
+    → records c (sheetBytes c ws) ≡ record { records = sheetGiven c ws; number = 0; place = 0 }
 unfolding sheetBytes sheetGiven
 records-written c [] d = records-end c
 records-written c (w ∷ ws) d =
@@ -89,7 +89,7 @@ sheetRead-records [] some = absurd (omega arith)
 sheetRead-records (x ∷ s) some = refl
 
 pub sheetRead-written : (w : Write) (ws : List Write) → AllDone newSheet (w ∷ ws)
-    → sheetRead (sheetBytes newSheet (w ∷ ws)) ≡ record { records = sheetGiven newSheet (w ∷ ws); number = 0 }
+    → sheetRead (sheetBytes newSheet (w ∷ ws)) ≡ record { records = sheetGiven newSheet (w ∷ ws); number = 0; place = 0 }
 sheetRead-written w ws d = sheetRead-records (sheetBytes newSheet (w ∷ ws)) some ∙ records-written newSheet (w ∷ ws) d
   where
     some : 0 < length (sheetBytes newSheet (w ∷ ws))

@@ -117,7 +117,7 @@ recordsFrom-read zero c r = λ x m. absurd (List·Memᴰ·not-nil m)
 recordsFrom-read (suc n) c r =
     let next = recordsFrom-read n (contextAfter c r) (restNext c r) in
     fromRecord-cases (λ s. (x : SheetRecord) → List·Memᴰ x (s .records) → ReadFrom c r x) r (recordJudged c r .number)
-    (recordHere c r) (recordsFrom n (contextAfter c r) (restNext c r))
+    (recordJudged c r .at) (recordHere c r) (recordsFrom n (contextAfter c r) (restNext c r))
     (λ x m. absurd (List·Memᴰ·not-nil m)) (λ k e x m. absurd (List·Memᴰ·not-nil m))
     (λ ok x m. ⊎-elim (λ e. record { context = c; place = r; reached = there; accepted = ok; here = e })
     (λ rest. later ok (next x rest)) (List·Memᴰ·cases-cons m))

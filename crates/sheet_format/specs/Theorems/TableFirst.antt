@@ -99,7 +99,7 @@ Placed c s =
 recordsFrom-placed : (n : ℕ) (c : Context) (r : List ℕ) → Placed c (recordsFrom n c r)
 unfolding recordKinds
 recordsFrom-placed =
-    recordsFrom-all Placed (λ c e. (λ has. tt, λ none. tt))
+    recordsFrom-all Placed (λ c e at. (λ has. tt, λ none. tt))
     (λ c r rest ok h. (
       λ has. (other-kind c r ok has, h .0 (kept c r ok has)),
       λ none. (judged-kind c r ok ∙ first-kind c r ok none, h .0 (has-table c r ok none)),

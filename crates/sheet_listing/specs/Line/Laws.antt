@@ -1,18 +1,20 @@
 -- The laws of the lister's lines. Assumes nothing.
 use Prim.Native.Nat.{ℕ, zero, suc, _/_, _≤_}
 use native.Mathlib.Omega.{arith}
-use mathlib.Core.Path.{_≡_, refl, sym}
+use mathlib.Core.Path.{_≡_, refl, sym, _∙_}
+use mathlib.Core.Bool.{true, false}
 use mathlib.Core.List.{List, []}
 use lib.ListN.{length}
 use Rattle.bitstream.specs.Bits.{wordsOf}
+use Rattle.row_format.specs.Place.{hasPlace}
 use Rattle.row_format.specs.Table.{tableNumber, maxItemBits}
 use Rattle.row_format.specs.Table.Laws.{tableNumber-whole, tableNumber-verdict, right-size}
 use Rattle.row_format.specs.Calls.{checked}
 use Rattle.code_table.specs.Check.{WholeTable}
 use Rattle.code_table.specs.Check.Laws.{whole-table-words}
 use Rattle.sheet_format.specs.declared.RecordRead.{RecordRead}
-use Rattle.text.specs.Lines.{packedLine, plainLine, contourLine, doneLine, refusedAtLine}
-use Rattle.sheet_listing.specs.Line.{tableText, lineFor, answerLine, lastLine}
+use Rattle.text.specs.Lines.{packedLine, plainLine, contourLine, doneLine, refusedAtLine, refusedBitLine}
+use Rattle.sheet_listing.specs.Line.{tableText, lineFor, answerLine, refusedText, lastLine}
 
 module _ (b : List ℕ) (ok : tableNumber b ≡ 0) where
   whole : WholeTable b
@@ -57,11 +59,18 @@ module _ (a : RecordRead) (b : List ℕ) where
   line-other n1 n2 n3 n4 = sym (lineFor-other (a .kind) a b n1 n2 n3 n4)
 
 -- ---- the last line
-pub last-done : (index rows : ℕ) → doneLine rows ≡ lastLine 0 index rows
+pub last-done : (at index rows : ℕ) → doneLine rows ≡ lastLine 0 at index rows
 unfolding lastLine
-last-done index rows = refl
+last-done at index rows = refl
 
-pub last-refused : (e index rows : ℕ) → (e ≡ 0 → ⊥) → refusedAtLine e index ≡ lastLine e index rows
+last-refused : (e at index rows : ℕ) → (e ≡ 0 → ⊥) → refusedText e at index ≡ lastLine e at index rows
 unfolding lastLine
-last-refused zero index rows h = absurd (h refl)
-last-refused (suc e) index rows h = refl
+last-refused zero at index rows h = absurd (h refl)
+last-refused (suc e) at index rows h = refl
+
+module _ (e at index rows : ℕ) (some : e ≡ 0 → ⊥) where
+  pub last-bit : hasPlace e ≡ true → refusedBitLine e index at ≡ lastLine e at index rows
+  last-bit h = let bit : refusedBitLine e index at ≡ refusedText e at index = rw h in bit ∙ last-refused e at index rows some
+
+  pub last-placeless : hasPlace e ≡ false → refusedAtLine e index ≡ lastLine e at index rows
+  last-placeless h = let none : refusedAtLine e index ≡ refusedText e at index = rw h in none ∙ last-refused e at index rows some

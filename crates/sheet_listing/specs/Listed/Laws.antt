@@ -21,13 +21,13 @@ use Rattle.text.specs.Put.{Put}
 use Rattle.sheet_listing.specs.Line.{answerLine, recordLine}
 use Rattle.sheet_listing.specs.Listed.{noRoom, lineGiven, judgedListed, lineListed, recordListed}
 
-refused-any : (a : RecordRead) (l m : List ℕ) → (a .number ≡ 0 → ⊥) → a ≡ refusedRecord (a .number)
+refused-any : (a : RecordRead) (l m : List ℕ) → (a .number ≡ 0 → ⊥) → a ≡ refusedRecord (a .at) (a .number)
     → outcome (record { read = a; count = 0 }) m ≡ judgedListed (a .number orElse noRoom l m) a l m
 refused-any a l m h e = go (a .number) refl
   where
     go : (n : ℕ) → a .number ≡ n → outcome (record { read = a; count = 0 }) m ≡ judgedListed (n orElse noRoom l m) a l m
     go zero z = absurd (h z)
-    go (suc n) z = rw (e, z)
+    go (suc n) z = ap (λ (x : RecordRead). outcome (record { read = x; count = 0 }) m) (e ∙ ap (refusedRecord (a .at)) z)
 
 -- ---- a line
 module _ (l m : List ℕ) where
@@ -51,11 +51,11 @@ module _ (l : List ℕ) (a : RecordRead) (m : List ℕ) {g : Answer} {m′ : Lis
       (λ t. let same = rw t at given in
       rw t (λ i. outcome (record { read = a; count = same i .answer .count }) (same i .memory)))
 
-  pub listed-full : (g .number ≡ 0 → ⊥) → outcome (record { read = refusedRecord (g .number); count = g .count }) m′ ≡ lineListed l a m
+  pub listed-full : (g .number ≡ 0 → ⊥) → outcome (record { read = refusedRecord 0 (g .number); count = g .count }) m′ ≡ lineListed l a m
   unfolding lineGiven
   listed-full h = by-test (ltb (length m) (length l))
       (λ t. let same = rw t at given in
-      rw t (λ i. outcome (record { read = refusedRecord (same i .answer .number); count = same i .answer .count }) (same i .memory)))
+      rw t (λ i. outcome (record { read = refusedRecord 0 (same i .answer .number); count = same i .answer .count }) (same i .memory)))
       (λ t. absurd (h (ap (λ (o : Outcome Answer). o .answer .number) (rw t at given))))
 
 -- ---- a record

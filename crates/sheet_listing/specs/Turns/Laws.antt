@@ -39,8 +39,10 @@ module _ (p : Carried) (b : List ℕ) where
       go (x ∷ b) h = refl
 
   pub turnOf-refused : 0 < length b → (recordJudged (contextBy p) b .number ≡ 0 → ⊥)
-      → turnOf p b ≡ lastTurn p (recordJudged (contextBy p) b .number)
-  turnOf-refused some wrong = turnOf-record some ∙ unless-refused (recordJudged (contextBy p) b .number) (lastTurn p) _ wrong
+      → let a = recordJudged (contextBy p) b in turnOf p b ≡ lastTurn p (a .at) (a .number)
+  turnOf-refused some wrong =
+      let a = recordJudged (contextBy p) b in
+      turnOf-record some ∙ unless-refused (a .number) (lastTurn p (a .at)) _ wrong
 
   pub turnOf-accepted : recordJudged (contextBy p) b .number ≡ 0
       → turnOf p b
@@ -79,9 +81,10 @@ module _ (p : Carried) (r : List ℕ) where
   same-judged = record-span (contextBy p) r .0
 
   held-refused : 0 < length (heldOf r) → (recordJudged (contextBy p) r .number ≡ 0 → ⊥)
-      → turnOf p (heldOf r) ≡ lastTurn p (recordJudged (contextBy p) r .number)
+      → let a = recordJudged (contextBy p) r in turnOf p (heldOf r) ≡ lastTurn p (a .at) (a .number)
   held-refused some wrong =
-      turnOf-refused p (heldOf r) some (λ e. wrong (rw same-judged at e)) ∙ ap (λ (a : RecordRead). lastTurn p (a .number)) same-judged
+      turnOf-refused p (heldOf r) some (λ e. wrong (rw same-judged at e))
+      ∙ ap (λ (a : RecordRead). lastTurn p (a .at) (a .number)) same-judged
 
   held-accepted : recordJudged (contextBy p) r .number ≡ 0
       → turnOf p (heldOf r)

@@ -65,7 +65,7 @@ reaches-next (onward o more) ok = onward o (reaches-next more ok)
 
 -- some records, and then those of a sheet
 abbrev putBefore : List SheetRecord → SheetRead → SheetRead
-putBefore xs r = record { records = xs ++ r .records; number = r .number }
+putBefore xs r = record { records = xs ++ r .records; number = r .number; place = r .place }
 
 records-here : (c : Context) (r : List ℕ) → recordJudged c r .number ≡ 0
     → records c r ≡ putFirst (recordHere c r) (records (contextAfter c r) (restNext c r))
@@ -110,7 +110,7 @@ module _ {s : List ℕ} {p : Carried} (at : Carries s p) (b : List ℕ) (held : 
 
   records-more : records newSheet (s ++ b) .records ≡ records newSheet s .records ++ (recordHere (contextBy p) b ∷ [])
   records-more =
-      let last : records (contextBy p) b ≡ putFirst (recordHere (contextBy p) b) (endsWith 0) =
+      let last : records (contextBy p) b ≡ putFirst (recordHere (contextBy p) b) (endsWith 0 0) =
       records-here (contextBy p) b ok ∙ rw (all-taken, sheet-end (contextAfter (contextBy p) b)) in
       rw (records-append (at .reached) b, last)
 
@@ -232,9 +232,9 @@ sheetRead-some [] some = absurd (omega arith)
 sheetRead-some (x ∷ r) some = refl
 
 module _ {s : List ℕ} {p : Carried} (at : Carries s p) where
-  last-before : (b : List ℕ) (e : ℕ) → 0 < length (s ++ b) → records (contextBy p) b ≡ endsWith e
-      → lastLine e (p .index) (p .rows) ≡ lastOf (sheetRead (s ++ b))
-  last-before b e some ends =
+  last-before : (b : List ℕ) (e bit : ℕ) → 0 < length (s ++ b) → records (contextBy p) b ≡ endsWith e bit
+      → lastLine e bit (p .index) (p .rows) ≡ lastOf (sheetRead (s ++ b))
+  last-before b e bit some ends =
       rw (sheetRead-some (s ++ b) some, records-append (at .reached) b, ends, append-nil (records newSheet s .records), at .index, at .rows)
 
 end-nothing : (s : List ℕ) {p : Carried} → Carries s p → turnOf p [] .line ≡ lastOf (sheetRead (s ++ []))
@@ -242,18 +242,19 @@ unfolding turnOf sheetRead storedRows
 end-nothing [] at = rw (none-index at, none-rows at)
 end-nothing (x ∷ r) {p} at =
     let some = reaches-some (at .reached) (omega arith) in
-    rw (ne-eqb (p .index) 0 (λ z. omega (arith, at .index))) (last-before at [] 0 (omega arith) (sheet-end (contextBy p)))
+    rw (ne-eqb (p .index) 0 (λ z. omega (arith, at .index))) (last-before at [] 0 0 (omega arith) (sheet-end (contextBy p)))
 
 end-refused : {s : List ℕ} {p : Carried} → Carries s p → (x : ℕ) (b : List ℕ) → turnOf p (x ∷ b) .last ≡ true
     → turnOf p (x ∷ b) .line ≡ lastOf (sheetRead (s ++ (x ∷ b)))
 end-refused {s} {p} at x b last =
-    let number = recordJudged (contextBy p) (x ∷ b) .number in
+    let a = recordJudged (contextBy p) (x ∷ b) in
+    let number = a .number in
     by-test (eqb number 0)
     (λ e. true-false last (ap (λ (t : Turned). t .last) (turnOf-accepted p (x ∷ b) (eqb-true number 0 e))))
     (λ e.
     let wrong = eqb-false number 0 e in
     ap (λ (t : Turned). t .line) (turnOf-refused p (x ∷ b) (omega arith) wrong)
-    ∙ last-before at (x ∷ b) number (omega (arith, length-append s (x ∷ b))) (sheet-refused (contextBy p) x b wrong))
+    ∙ last-before at (x ∷ b) number (a .at) (omega (arith, length-append s (x ∷ b))) (sheet-refused (contextBy p) x b wrong))
 
 end-is : {s : List ℕ} {p : Carried} → Carries s p → (b : List ℕ) → turnOf p b .last ≡ true
     → turnOf p b .line ≡ lastOf (sheetRead (s ++ b))

@@ -2,11 +2,13 @@
 use Prim.Native.Nat.{ℕ, _+_, _-_, _≤_, _<_}
 use native.Mathlib.Omega.{arith}
 use mathlib.Core.Path.{_≡_, refl, sym, _∙_}
+use mathlib.Core.Bool.{false}
 use mathlib.Core.List.{List}
 use lib.ListN.{length, take, drop, length-take}
 use borrow.Author.Tests.{lt-ltb, le-ltb}
 use Rattle.answer.specs.Outcome.{lent}
 use Rattle.answer.specs.Outcome.Laws.{given-first}
+use Rattle.row_format.specs.Place.{hasPlace}
 use Rattle.sheet_format.specs.declared.RecordRead.{RecordRead}
 use Rattle.sheet_format.specs.Context.{Context}
 use Rattle.sheet_format.specs.Kind.Table.{tableOwn, tableKind}
@@ -16,7 +18,9 @@ use Rattle.sheet_format.specs.Kind.ContourLine.{lineKind}
 use Rattle.sheet_format.specs.Kinds.Laws.{kindOf-other}
 use Rattle.sheet_format.specs.Record.{lengthField, kindField, lengthNumber, contentNumber, recordNumber}
 use Rattle.sheet_format.specs.Record.Laws.{RightLength, lengthNumber-right, right-length}
-use Rattle.sheet_format.specs.Reading.{refusedRecord, bodyHeld, recordHeld, recordContent}
+use Rattle.sheet_format.specs.Reading.{refusedRecord, recordStop, bodyHeld, recordHeld, recordContent}
+use Rattle.sheet_format.specs.Reading.Laws.{refused-anywhere}
+use Rattle.sheet_format.specs.Theorems.Numbers.{lengthNumber-in}
 use Rattle.sheet_reader.specs.Leaves.{ContentLeaves, BodyLeaves, RecordLeaves, tableJudged}
 use Rattle.sheet_reader.specs.Leaves.Laws.{leaves-nothing, refuses}
 
@@ -47,15 +51,21 @@ number-right r is none = right-length r (sym is ∙ none)
 pub body-short : (r : List ℕ) (size : ℕ) → size ≤ 32774 → length (take (4 + size - 6) (drop 6 r)) ≤ 32772
 body-short r size h = omega (arith, length-take (4 + size - 6) (drop 6 r))
 
+-- 14 shows no place
+length-placeless : (r : List ℕ) → hasPlace (lengthNumber r) ≡ false
+length-placeless r = lengthNumber-in (λ e. hasPlace e ≡ false) refl refl r
+
 -- ---- a record, by its length, and by its body
 module _ {room : ℕ} {c : Context} {r m : List ℕ} {x : RecordRead} {n : ℕ} (is : n ≡ lengthNumber r) where
-  pub frame-refuses : x ≡ refusedRecord n → (n ≡ 0 → ⊥) → RecordLeaves room c r m x m
+  pub frame-refuses : x ≡ refusedRecord 0 n → (n ≡ 0 → ⊥) → RecordLeaves room c r m x m
   unfolding recordNumber
-  frame-refuses refused some = record { leaves = refuses refused (given-first (lengthNumber r) _ is some) some }
+  frame-refuses refused some =
+      let anywhere = refused-anywhere n (recordStop c r) (rw is (length-placeless r)) in
+      record { leaves = refuses (refused ∙ anywhere) (given-first (lengthNumber r) _ is some) some }
 
   pub frame-leaves : n ≡ 0 → {m′ : List ℕ} (size code : ℕ) → size ≡ lengthField r → code ≡ kindField r
       → BodyLeaves room code (4 + size) c (take (4 + size - 6) (drop 6 r)) m x m′ → RecordLeaves room c r m x m′
-  unfolding recordNumber recordHeld recordContent
+  unfolding recordNumber recordStop recordHeld recordContent
   frame-leaves none {m′} size code size-is code-is l =
       let end : 4 + size - 6 ≡ lengthField r - 2 = omega arith in
       let l′ = rw (end, size-is, code-is) at (l .leaves) in
@@ -69,7 +79,7 @@ module _ {room : ℕ} {c : Context} {b m : List ℕ} {x : RecordRead} {code whol
       let number = contentNumber tableKind (lent room) c b in
       let a = bodyHeld tableKind 1 whole c b in
       record {
-        leaves = rw is (record { answer = judged; memory = λ enough. rw judged (leaves-nothing number m a) });
+        leaves = rw is (record { answer = judged; memory = λ enough. rw judged (leaves-nothing number 0 m a) });
       }
 
   pub packed-leaves : {m′ : List ℕ} → code ≡ 2 → ContentLeaves packedKind room 2 whole c b m x m′
@@ -84,6 +94,6 @@ module _ {room : ℕ} {c : Context} {b m : List ℕ} {x : RecordRead} {code whol
       → BodyLeaves room code whole c b m x m′
   line-leaves is l = record { leaves = rw is (l .leaves) }
 
-  pub unknown-leaves : (code ≡ 1 → ⊥) → (code ≡ 2 → ⊥) → (code ≡ 3 → ⊥) → (code ≡ 4 → ⊥) → x ≡ refusedRecord 15
+  pub unknown-leaves : (code ≡ 1 → ⊥) → (code ≡ 2 → ⊥) → (code ≡ 3 → ⊥) → (code ≡ 4 → ⊥) → x ≡ refusedRecord 0 15
       → BodyLeaves room code whole c b m x m
   unknown-leaves p q s t is = record { leaves = rw (kindOf-other code p q s t) (refuses is refl (λ e. omega arith)) }

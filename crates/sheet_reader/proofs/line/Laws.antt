@@ -21,7 +21,7 @@ use Rattle.sheet_format.specs.Record.Laws.{content-passed}
 use Rattle.sheet_format.specs.Reading.{refusedRecord}
 use Rattle.sheet_format.specs.Theorems.Room.{own-content}
 use Rattle.sheet_reader.specs.declared.numbers.LineJudged.{LineJudged}
-use Rattle.sheet_reader.specs.Leaves.{ContentLeaves}
+use Rattle.sheet_reader.specs.Leaves.{acceptedRecord, ContentLeaves}
 use Rattle.sheet_reader.specs.Leaves.Laws.{refuses, holds}
 use Rattle.sheet_reader.specs.Line.{lineJudged}
 
@@ -76,16 +76,16 @@ unfolding contentNumber
 line-chain b c room there place-is = rw (le-ltb (length b) 2 there, place-is)
 
 module _ {b : List ℕ} {room whole : ℕ} {m : List ℕ} {x : RecordRead} {c : Context} where
-  pub line-missing : length b < 2 → x ≡ refusedRecord 14 → ContentLeaves lineKind room 4 whole c b m x m
+  pub line-missing : length b < 2 → x ≡ refusedRecord 0 14 → ContentLeaves lineKind room 4 whole c b m x m
   unfolding contentNumber
   line-missing h is = record { leaves = refuses is (rw (lt-ltb (length b) 2 h)) (λ e. omega arith) }
 
   module _ (there : 2 ≤ length b) {place : ℕ} (place-is : place ≡ linePlace c noHeading) where
-    pub line-misplaced : x ≡ refusedRecord place → (place ≡ 0 → ⊥) → ContentLeaves lineKind room 4 whole c b m x m
+    pub line-misplaced : x ≡ refusedRecord 0 place → (place ≡ 0 → ⊥) → ContentLeaves lineKind room 4 whole c b m x m
     line-misplaced is some =
         record { leaves = refuses is (given-first place _ refl some ∙ sym (line-chain b c room there place-is)) some }
 
-    pub line-refused : place ≡ 0 → {n : ℕ} → n ≡ lineOwn (lent room) c b → x ≡ refusedRecord n → (n ≡ 0 → ⊥)
+    pub line-refused : place ≡ 0 → {n : ℕ} → n ≡ lineOwn (lent room) c b → x ≡ refusedRecord 0 n → (n ≡ 0 → ⊥)
         → ContentLeaves lineKind room 4 whole c b m x m
     line-refused placed judged is some =
         record { leaves = refuses is (given-next placed judged ∙ sym (line-chain b c room there place-is)) some }
@@ -120,7 +120,7 @@ module _ {b : List ℕ} {room count : ℕ} {c : Context} (ok : LineAccepted b c 
   line-fits = rw (ok .count-is) (lessNumber-zero room (4 * numberCount b) 4 (content .1))
 
   pub line-held : {st : SheetState} → stateOf c ≡ st → {whole : ℕ} {m : List ℕ} {x : RecordRead} {m′ : List ℕ}
-      → x ≡ record { number = 0; kind = 4; row = 0; count = count; bits = 0; words = 0; length = whole; state = st }
+      → x ≡ acceptedRecord 4 0 count 0 whole st
       → (room ≤ length m → m′ ≡ numberBytes (readLine count (partFrom 2 b)) ++ drop (4 * count) m)
       → ContentLeaves lineKind room 4 whole c b m x m′
   unfolding readNumbers

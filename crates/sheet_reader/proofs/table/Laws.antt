@@ -15,13 +15,13 @@ use Rattle.sheet_reader.specs.Leaves.{tableJudged}
 use Rattle.sheet_reader.specs.Leaves.Laws.{answer-refused}
 
 module _ (b : List ℕ) (whole : ℕ) (c : Context) where
-  pub table-not-words : {x : RecordRead} → (length b % 4 ≡ 0 → ⊥) → x ≡ refusedRecord 14 → x ≡ tableJudged whole c b
+  pub table-not-words : {x : RecordRead} → (length b % 4 ≡ 0 → ⊥) → x ≡ refusedRecord 0 14 → x ≡ tableJudged whole c b
   unfolding contentNumber
   table-not-words odd is = rw (unequalNumber-given (length b % 4) 0 14 odd) is
 
   module _ (words : length b % 4 ≡ 0) {place : ℕ} (place-is : place ≡ tablePlace c noHeading) where
-    pub table-misplaced : {x : RecordRead} → (place ≡ 0 → ⊥) → x ≡ refusedRecord place → x ≡ tableJudged whole c b
-    table-misplaced some is = answer-refused _ is number some
+    pub table-misplaced : {x : RecordRead} → (place ≡ 0 → ⊥) → x ≡ refusedRecord 0 place → x ≡ tableJudged whole c b
+    table-misplaced some is = answer-refused 0 _ is number some
       where
         number : place ≡ contentNumber tableKind nothing c b
         number = unfold contentNumber in
@@ -33,8 +33,8 @@ module _ (b : List ℕ) (whole : ℕ) (c : Context) where
       unfolding contentNumber tableOwn
       own = rw (unequalNumber-none (length b % 4) 0 14 words, sym place-is ∙ first) told
 
-      pub table-refused : {x : RecordRead} → (n ≡ 0 → ⊥) → x ≡ refusedRecord n → x ≡ tableJudged whole c b
-      table-refused some is = answer-refused _ is own some
+      pub table-refused : {x : RecordRead} → (n ≡ 0 → ⊥) → x ≡ refusedRecord 0 n → x ≡ tableJudged whole c b
+      table-refused some is = answer-refused 0 _ is own some
 
       pub no-tables : length (c .tables) ≡ 0
       unfolding tablePlace

@@ -38,7 +38,7 @@ returns-2 c =
     let judged = passed .before in
     let args = judged .before .before .before .args in
     let none = sym (passed .if1 .left) ∙ judged .next-number .ensures in
-    let is = read .item-at .ensures ∙ ap (itemRead (args .table .now) (args .words .now)) (read .before .place-of .ensures) in
+    let is = read .item-at .ensures .0 ∙ ap (itemRead (args .table .now) (args .words .now)) (read .before .place-of .ensures) in
     c .refused2 .ensures
     ∙ next-refused (args .table .now) (args .words .now) (args .place) none (read .item-at .result) is (c .before .if2 .taken)
 
@@ -56,7 +56,7 @@ flat-place-requires c κs =
     let judged = passed .before in
     let args = judged .before .before .before .args in
     let none = sym (passed .if1 .left) ∙ judged .next-number .ensures in
-    let is = read .item-at .ensures ∙ ap (itemRead (args .table .now) (args .words .now)) (read .before .place-of .ensures) in
+    let is = read .item-at .ensures .0 ∙ ap (itemRead (args .table .now) (args .words .now)) (read .before .place-of .ensures) in
     next-at (args .table .now) (args .words .now) (args .place) none (read .item-at .result) is (done .if2 .left)
 
 returns-3 : tie.Need-returns-3
@@ -68,7 +68,7 @@ returns-3 c =
     let judged = passed .before in
     let args = judged .before .before .before .args in
     let none = sym (passed .if1 .left) ∙ judged .next-number .ensures in
-    let is = read .item-at .ensures ∙ ap (itemRead (args .table .now) (args .words .now)) (read .before .place-of .ensures) in
+    let is = read .item-at .ensures .0 ∙ ap (itemRead (args .table .now) (args .words .now)) (read .before .place-of .ensures) in
     next-given (args .table .now) (args .words .now) (args .place) none (read .item-at .result) is (kind .kind-of .result) _
     (c .flat-place .result) (done .if2 .left) (kind .kind-of .ensures) (toZ-ofZ (search needs) ∙ c .before .step-of .ensures)
     (c .flat-place .ensures)

@@ -4,6 +4,7 @@ use std::hint::black_box;
 
 use crate::heights::{row, tables, SIGMA, WIDTHS};
 use crate::timing::best;
+use second::answers::Unpacked;
 use second::ffi;
 use second::generate::rows::pixel_bytes;
 use second::random::Random;
@@ -19,7 +20,7 @@ const MOST_WORDS: usize = 3456;
 type Times = [f64; 3];
 
 /// Packs or unpacks from the first slice to the second.
-type Call<'a> = &'a mut dyn FnMut(&[u8], &mut [u8]) -> (u32, u32);
+type Call<'a, T> = &'a mut dyn FnMut(&[u8], &mut [u8]) -> T;
 
 /// A row's pixels, its packed words and its bits.
 pub struct Row {
@@ -84,7 +85,7 @@ fn pack_times(table: &[u8], codec: &Codec, rows: &[Row]) -> Times {
         assert_eq!(ffi::pack(table, &row.pixels, &mut memory), (0, row.bits));
         assert_eq!(memory[..row.words.len()], row.words);
     }
-    let mut all = |call: Call| {
+    let mut all = |call: Call<(u32, u32)>| {
         best(|| {
             for row in rows {
                 black_box(call(&row.pixels, &mut memory));
@@ -102,10 +103,10 @@ fn unpack_times(table: &[u8], codec: &Codec, rows: &[Row]) -> Times {
     let mut memory = vec![0; rows[0].pixels.len()];
     let n = (memory.len() / 2) as u64;
     for row in rows {
-        assert_eq!(ffi::unpack(table, &row.words, n, &mut memory), (0, row.bits));
+        assert_eq!(ffi::unpack(table, &row.words, n, &mut memory), Unpacked::done(row.bits));
         assert_eq!(memory, row.pixels);
     }
-    let mut all = |call: Call| {
+    let mut all = |call: Call<Unpacked>| {
         best(|| {
             for row in rows {
                 black_box(call(&row.words, &mut memory));

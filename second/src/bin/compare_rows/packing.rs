@@ -3,6 +3,7 @@
 use crate::items;
 use crate::progress::Progress;
 use crate::trial::Trial;
+use second::answers::Unpacked;
 use second::ffi;
 use second::generate::rows::{pixel_bytes, row, row_length, spoil};
 use second::generate::runs::{plain_run, run_words};
@@ -26,7 +27,7 @@ pub fn compare(random: &mut Random, trial: &Trial, progress: &mut Progress) -> R
     let before = Lent::new(random, 4 * room + odd);
     let (answer, after) = compare_call(trial, &given, &before)?;
     progress.rows += 1;
-    progress.tally.add("pack", answer.0);
+    progress.tally.add("pack", answer.0, 0);
     if answer.0 != DONE {
         return Ok(());
     }
@@ -100,7 +101,7 @@ fn check_packed(
     }
     let mut back = Lent::new(random, 2 * pixels.len());
     let answer = ffi::unpack(trial.table(), words, pixels.len() as u64, back.bytes_mut());
-    if answer != (DONE, bits) || back.bytes() != pixel_bytes(pixels) {
+    if answer != Unpacked::done(bits) || back.bytes() != pixel_bytes(pixels) {
         return Err(format!("round trip: {bits} bits packed, {answer:?} unpacked"));
     }
     Ok(())

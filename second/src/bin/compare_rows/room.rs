@@ -17,7 +17,7 @@ pub fn compare(random: &mut Random, trial: &Trial, progress: &mut Progress) -> R
             let what = format!("room for {n}: proved {proved:?}, second {second:?}");
             return Err(trial.difference(&what, &[]));
         }
-        progress.tally.add("room", second.0);
+        progress.tally.add("room", second.0, 0);
     }
     Ok(())
 }

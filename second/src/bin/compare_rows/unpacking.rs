@@ -3,10 +3,12 @@
 use crate::items;
 use crate::progress::Progress;
 use crate::trial::Trial;
+use second::answers::Unpacked;
+use second::compared::check_stopped;
 use second::ffi;
 use second::generate::rows::{pixel_bytes, row, row_length};
 use second::generate::runs::{flip, random_words, run, run_words, set_unused};
-use second::generate::runs::{Expected, Fault};
+use second::generate::runs::{Expected, Fault, Run};
 use second::memory::Lent;
 use second::random::Random;
 use second::reader::unpack_measured;
@@ -27,9 +29,10 @@ pub fn compare(random: &mut Random, trial: &Trial, progress: &mut Progress) -> R
     let before = Lent::new(random, case.pixels_lent);
     let (answer, after) = compare_call(trial, &case, &before)?;
     progress.runs += 1;
-    progress.tally.add("unpack", answer.0);
+    progress.tally.add("unpack", answer.number, answer.at);
     let checked = check_expected(&case, answer, &after)
         .and_then(|()| check_alike(random, trial, &case, &before, answer, &after))
+        .and_then(|()| check_place(random, trial, &case, answer))
         .and_then(|()| check_repacked(random, trial, &case, answer, &after));
     checked.map_err(|what| {
         let what = format!("{what}; n {}, answer {answer:?}", case.n);
@@ -44,20 +47,21 @@ fn any_case(random: &mut Random, trial: &Trial) -> Case {
     let row = row(random, trial.model(), length);
     let fault = (length > 0 && random.one_in(6))
         .then(|| (random.below(length), random.pick(&[Fault::EscapedBad, Fault::Height])));
-    let (bits, expected) = run(random, trial.model(), &row, fault);
-    let words = run_words(&bits);
+    let run = run(random, trial.model(), &row, fault);
+    let (words, expected) = (run_words(&run.bits), run.expected.clone());
     let mut case = Case { words, n: length as u64, pixels_lent: 0, expected };
-    damage(random, &mut case, bits.len());
+    damage(random, &mut case, &run);
     case
 }
 
 /// Leaves a sound run alone or damages it, and follows it with any words.
-fn damage(random: &mut Random, case: &mut Case, bits: usize) {
+fn damage(random: &mut Random, case: &mut Case, run: &Run) {
+    let bits = run.bits.len();
     let sound = matches!(case.expected, Expected::Pixels(..));
     let unknown = Expected::Unknown;
     match random.below(10) {
         0 if sound && set_unused(random, &mut case.words, bits) => {
-            case.expected = Expected::Refused(UNUSED_BIT);
+            case.expected = Expected::Refused(UNUSED_BIT, bits);
         }
         1 => {
             flip(random, &mut case.words);
@@ -66,7 +70,7 @@ fn damage(random: &mut Random, case: &mut Case, bits: usize) {
         2 if sound && !case.words.is_empty() => {
             // Whole items stand before the cut, and one is cut or gone.
             case.words.truncate(4 * random.below(case.words.len() / 4));
-            case.expected = Expected::Refused(WORDS_END);
+            case.expected = Expected::Refused(WORDS_END, run.cut_item(8 * case.words.len()));
             return;
         }
         3 => {
@@ -104,28 +108,27 @@ fn settle(random: &mut Random, trial: &Trial, case: &mut Case) {
     let exact = if many { random.below(50) } else { 2 * case.n as usize };
     case.pixels_lent = exact + random.pick(&[0, 0, 1, 2, 7]);
     if many {
-        case.expected = Expected::Refused(TOO_MANY);
+        case.expected = Expected::Refused(TOO_MANY, 0);
     } else if exact > 0 && random.one_in(12) {
         let less = random.below(exact);
         case.pixels_lent = random.pick(&[exact - 1, exact - 2, less]);
-        case.expected = Expected::Refused(ROOM);
+        case.expected = Expected::Refused(ROOM, 0);
     }
     if let Err(number) = trial.codec() {
-        case.expected = Expected::Refused(number);
+        case.expected = Expected::Refused(number, 0);
     }
 }
 
 /// Unpacks on both sides: same answer, same memory, input unwritten.
-fn compare_call(trial: &Trial, case: &Case, before: &Lent) -> Result<((u32, u32), Lent), String> {
+fn compare_call(trial: &Trial, case: &Case, before: &Lent) -> Result<(Unpacked, Lent), String> {
     let (mut by_proved, mut by_second) = (before.clone(), before.clone());
     let input = case.words.clone();
     let proved = ffi::unpack(trial.table(), &input, case.n, by_proved.bytes_mut());
-    let (number, used) = match trial.codec() {
+    let (second, used) = match trial.codec() {
         Ok(codec) => unpack_measured(codec, &case.words, case.n, by_second.bytes_mut()),
-        Err(number) => (number, 0),
+        Err(number) => (Unpacked::refused(number), 0),
     };
-    let second = if number == DONE { (DONE, used as u32) } else { (number, 0) };
-    let written = if number == DONE { 2 * case.n as usize } else { 0 };
+    let written = if second.number == DONE { 2 * case.n as usize } else { 0 };
     let most = u128::from(case.n) * u128::from(trial.model().worst);
     let wrong = if proved != second {
         "answers"
@@ -151,24 +154,16 @@ fn compare_call(trial: &Trial, case: &Case, before: &Lent) -> Result<((u32, u32)
 }
 
 /// The answer that the run was made for.
-fn check_expected(case: &Case, answer: (u32, u32), after: &Lent) -> Result<(), String> {
-    let right = match &case.expected {
-        Expected::Unknown => true,
-        Expected::Refused(number) => answer == (*number, 0),
-        Expected::Pixels(row, bits) => {
-            let read = &after.bytes()[..2 * row.len()];
-            answer == (DONE, *bits as u32) && read == pixel_bytes(row)
-        }
+fn check_expected(case: &Case, answer: Unpacked, after: &Lent) -> Result<(), String> {
+    let (wanted, pixels) = match &case.expected {
+        Expected::Unknown => return Ok(()),
+        Expected::Refused(number, at) => (Unpacked::stopped(*number, *at as u32), Vec::new()),
+        Expected::Pixels(row, bits) => (Unpacked::done(*bits as u32), pixel_bytes(row)),
     };
-    let number = match case.expected {
-        Expected::Refused(number) => number,
-        _ => DONE,
-    };
-    if right {
-        Ok(())
-    } else {
-        Err(format!("unpack: the run was made for {number}"))
+    if answer == wanted && after.bytes()[..pixels.len()] == pixels {
+        return Ok(());
     }
+    Err(format!("unpack: the run was made for {wanted:?}"))
 }
 
 /// Words alike in the first n times M bits get the same answer.
@@ -177,7 +172,7 @@ fn check_alike(
     trial: &Trial,
     case: &Case,
     before: &Lent,
-    answer: (u32, u32),
+    answer: Unpacked,
     after: &Lent,
 ) -> Result<(), String> {
     let words = case.n.saturating_mul(u64::from(trial.model().worst)).div_ceil(32);
@@ -196,15 +191,28 @@ fn check_alike(
     Err(format!("unpack: {again:?} for words alike in the first {words}"))
 }
 
+/// The place where the reading stopped, against other rows of the same words.
+fn check_place(
+    random: &mut Random,
+    trial: &Trial,
+    case: &Case,
+    answer: Unpacked,
+) -> Result<(), String> {
+    if !random.one_in(2) {
+        return Ok(());
+    }
+    check_stopped(random, &trial.opened, &case.words, case.n, answer)
+}
+
 /// A row that was read can be packed in the room answered, and read again.
 fn check_repacked(
     random: &mut Random,
     trial: &Trial,
     case: &Case,
-    answer: (u32, u32),
+    answer: Unpacked,
     after: &Lent,
 ) -> Result<(), String> {
-    if answer.0 != DONE || !random.one_in(4) {
+    if answer.number != DONE || !random.one_in(4) {
         return Ok(());
     }
     let pixels = &after.bytes()[..2 * case.n as usize];
@@ -212,7 +220,7 @@ fn check_repacked(
     let packed = ffi::pack(trial.table(), pixels, &mut words);
     let mut back = vec![0; pixels.len()];
     let read = ffi::unpack(trial.table(), &words, case.n, &mut back);
-    if packed.0 == DONE && read == packed && back == pixels {
+    if packed.0 == DONE && read == Unpacked::done(packed.1) && back == pixels {
         return Ok(());
     }
     Err(format!("repacked {packed:?}, read again {read:?}"))

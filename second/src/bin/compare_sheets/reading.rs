@@ -61,7 +61,8 @@ pub fn read_until_refused(
     loop {
         let (record, _) = read_one(random, trial, &place, progress)?;
         if record.number != DONE {
-            return Ok(Ending::Refused { number: record.number, record: index });
+            let Record { number, at, .. } = record;
+            return Ok(Ending::Refused { number, record: index, at: at as usize });
         }
         let table = own_table.as_ref().unwrap_or(&trial.table);
         let start = place.start + record.length as usize;

@@ -14,8 +14,8 @@ use second::tally::Tally;
 pub fn read(random: &mut Random, scene: &Scene, tally: &mut Tally) -> Outcome<()> {
     let other = scene.other_table(random);
     let table = other.as_ref().unwrap_or(&scene.table);
-    let (bits, _) = run(random, scene.model(), &scene.row, None);
-    let words = scene.maybe_changed(random, &run_words(&bits));
+    let run = run(random, scene.model(), &scene.row, None);
+    let words = scene.maybe_changed(random, &run_words(&run.bits));
     let words = Given::new(random, &words);
     let items = Items { table, words: &words };
     // Reading to the end checks the table for every item.

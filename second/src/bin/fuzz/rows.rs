@@ -34,12 +34,13 @@ pub fn pack(random: &mut Random, scene: &Scene, tally: &mut Tally) -> Outcome<()
 pub fn unpack(random: &mut Random, scene: &Scene, tally: &mut Tally) -> Outcome<()> {
     let other = scene.other_table(random);
     let table = other.as_ref().unwrap_or(&scene.table);
-    let (bits, _) = run(random, scene.model(), &scene.row, None);
-    let words = scene.maybe_changed(random, &run_words(&bits));
+    let run = run(random, scene.model(), &scene.row, None);
+    let words = scene.maybe_changed(random, &run_words(&run.bits));
     let n = scene.row.len() as u64;
     let n = if random.one_in(4) { count(random) } else { n };
     let lent = lent(random, 2 * n.min(5000) as usize);
-    compared::unpack(tally, table, &Given::new(random, &words), n, &lent).map(|_| ())
+    let words = Given::new(random, &words);
+    compared::unpack(random, tally, table, &words, n, &lent).map(|_| ())
 }
 
 pub fn room(random: &mut Random, scene: &Scene, tally: &mut Tally) -> Outcome<()> {

@@ -118,15 +118,16 @@ fn wrong_words(
     let row = row(random, table, n);
     let fault = (random.below(n), random.pick(&[Fault::EscapedBad, Fault::Height]));
     let fault = (flaw == Flaw::ItemFault).then_some(fault);
-    let (bits, expected) = run(random, table, &row, fault);
-    let mut words = run_words(&bits);
-    let number = match (flaw, expected) {
-        (Flaw::ItemFault, Expected::Refused(number)) => number,
-        (Flaw::UnusedBit, _) if set_unused(random, &mut words, bits.len()) => UNUSED_BIT,
+    let run = run(random, table, &row, fault);
+    let mut words = run_words(&run.bits);
+    let bits = run.bits.len();
+    let (number, at) = match (flaw, &run.expected) {
+        (Flaw::ItemFault, &Expected::Refused(number, at)) => (number, at),
+        (Flaw::UnusedBit, _) if set_unused(random, &mut words, bits) => (UNUSED_BIT, bits),
         (Flaw::WordsCut, _) => {
             // Whole items stand before the cut, and one is cut or gone.
             words.truncate(4 * random.below(words.len() / 4));
-            WORDS_END
+            (WORDS_END, run.cut_item(8 * words.len()))
         }
         (Flaw::AnyWords, _) => {
             let count = random.below(30);
@@ -135,7 +136,7 @@ fn wrong_words(
         }
         _ => return None,
     };
-    Some((n, words, Ending::Refused { number, record: index }))
+    Some((n, words, Ending::Refused { number, record: index, at }))
 }
 
 /// A new line's body with the flaw at one of its numbers, and its refusal.

@@ -1,7 +1,7 @@
 use super::*;
 use crate::generate::sheets::{sheet, Size};
 use crate::known::plain_table;
-use crate::listing::list_sheet;
+use crate::listing::{list_sheet, refused_line};
 use crate::table::Table;
 
 fn sound(random: &mut Random, table: &Table) -> Records {
@@ -23,10 +23,10 @@ fn every_flaw_has_its_ending() {
                 continue;
             };
             seen += 1;
-            if let Ending::Refused { number, record } = ending {
+            if let Ending::Refused { number, record, at } = ending {
                 let text = list_sheet(&bytes);
-                let last = format!("refused {number} at record {record}");
-                assert_eq!(text.lines().last(), Some(&last[..]), "{flaw:?}");
+                let last = refused_line(number, record, at as u32);
+                assert_eq!(text.lines().last(), Some(last.trim_end()), "{flaw:?}");
                 refused_at += 1;
             }
         }

@@ -8,8 +8,8 @@ use Rattle.list_sheet.proofs.turn.end.Tie as tie
 list-end-requires : tie.Need-list-end-requires
 list-end-requires c κs = search needs
 
-cast-t8 : tie.Need-cast-t8
-cast-t8 c = search needs
+cast-count : tie.Need-cast-count
+cast-count c = search needs
 
 same-length : tie.Need-same-length
 same-length c = search needs
@@ -19,7 +19,7 @@ returns c =
     let ended = c .before .before .before in
     let start = ended .before .before .before in
     let args = start .args in
-    let last = lastLine (args .number) (args .at .index) (args .at .rows) in
+    let last = lastLine (args .number) (args .bit) (args .at .index) (args .at .rows) in
     let given = ended .list-end .ensures in
     let line = args .line .now in (
       rw (given-count last line (start .pre) (given .0) (given .1)),
@@ -27,4 +27,4 @@ returns c =
     )
 
 pub end-spec : {M : Type 1} → statement M
-end-spec = tie.close (tie.spec list-end-requires cast-t8 same-length returns)
+end-spec = tie.close (tie.spec list-end-requires cast-count same-length returns)

@@ -210,8 +210,9 @@ module _ {M : Type 1} (𝓤 : URA M) (H : Heap 𝓤) (A : Atoms 𝓤) (W : Given
         → Seq (Go {0}) W (raw (Said h l ν δ x) ∷ passed ν ∷ raw (Rest 𝓤 H A W ν qc) ∷ ‵ (Lent l ν δ) ∷ Γ) G
     comes ν δ x k =
         use1 W (some (λ (ws : Reader × Unit {0}). ‵ (lasts next.ended (κs ν) (ref h l δ, tt) ws) ⊛
-        (raw (fact 𝓤 (x ≡ found h)) ⊛ raw (fact 𝓤 (ws .0 ≡ moved h x))))) (id⊢ 𝓤 _) $ pick ! (λ ws.
-        split ! $ move ! (1 ∷ []) $ split ! $ heard ! (x ≡ found h) (λ e. heard ! (ws .0 ≡ moved h x) (λ e′. fsplit ! $
+        (raw (fact 𝓤 (x ≡ found h)) ⊛ (raw (fact 𝓤 ((x .number ≡ 0 → ⊥) → x .place ≡ h .place)) ⊛ raw (fact 𝓤 (ws .0 ≡ moved h x))))))
+        (id⊢ 𝓤 _) $ pick ! (λ ws.
+        split ! $ move ! (1 ∷ []) $ split ! $ heard ! (x ≡ found h) (λ e. split ! $ drop ! $ heard ! (ws .0 ≡ moved h x) (λ e′. fsplit ! $
         rewrite ! 0 (λ (r : Reader). ‵ (fres δ (R .coded .code r))) e′ refl $
         -- [the last value; true; the tokens; the rest of ν's; the lender's part]
         move ! (2 ∷ []) $ split ! $ move ! (0 ∷ 4 ∷ []) $

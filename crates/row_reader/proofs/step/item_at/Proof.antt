@@ -4,6 +4,7 @@ use native.Mathlib.Omega.{arith}
 use mathlib.Core.Path.{_≡_, sym, _∙_}
 use Rattle.row_reader.specs.Step.{placeNumber}
 use Rattle.row_reader.specs.Step.Laws.{placeNumber-stands, step-refused, step-got, step-faulty}
+use Rattle.row_reader.specs.Walk.Laws.{itemRead-place}
 use borrow.Author.Needs.{needs}
 use Rattle.row_reader.proofs.step.item_at.Statement.{statement}
 use Rattle.row_reader.proofs.step.item_at.Tie as tie
@@ -19,8 +20,9 @@ returns c =
     let judged = c .before .before in
     let args = judged .before .before .before .args in
     let number = judged .place-number in
-    c .refused .ensures
-    ∙ step-refused (args .table .now) (args .words .now) (args .place) (number .result) (number .ensures) (c .before .if1 .taken)
+    itemRead-place (args .table .now) (args .words .now) (args .place) (c .refused .result)
+    (c .refused .ensures
+    ∙ step-refused (args .table .now) (args .words .now) (args .place) (number .result) (number .ensures) (c .before .if1 .taken))
 
 -- the place is a possible one
 read-item-requires : tie.Need-read-item-requires
@@ -57,8 +59,9 @@ returns-2 c =
     let judged = read .before .before .before in
     let start = judged .before .before .before in
     let none : placeNumber (start .args .place) ≡ 0 = sym (judged .place-number .ensures) ∙ read .before .before .if1 .left in
-    step-got (start .args .table .now) (start .args .words .now) (start .args .place) none (read .read-item .result)
-    (read .read-item .ensures) (c .after .result) _ _ _ (found .read .given .1) (c .after .ensures)
+    itemRead-place (start .args .table .now) (start .args .words .now) (start .args .place) _
+    (step-got (start .args .table .now) (start .args .words .now) (start .args .place) none (read .read-item .result)
+    (read .read-item .ensures) (c .after .result) _ _ _ (found .read .given .1) (c .after .ensures))
 
 returns-3 : tie.Need-returns-3
 returns-3 c =
@@ -67,9 +70,10 @@ returns-3 c =
     let judged = read .before .before .before in
     let start = judged .before .before .before in
     let none : placeNumber (start .args .place) ≡ 0 = sym (judged .place-number .ensures) ∙ read .before .before .if1 .left in
-    c .refused2 .ensures
+    itemRead-place (start .args .table .now) (start .args .words .now) (start .args .place) (c .refused2 .result)
+    (c .refused2 .ensures
     ∙ step-faulty (start .args .table .now) (start .args .words .now) (start .args .place) none (read .read-item .result)
-    (read .read-item .ensures) _ _ (found .read2 .given .1)
+    (read .read-item .ensures) _ _ (found .read2 .given .1))
 
 pub item-at-spec : {M : Type 1} → statement M
 item-at-spec =

@@ -6,6 +6,9 @@ use Rattle.row_unpacker.proofs.item.Laws.{entry-below, entry-above, ent
 use Rattle.row_unpacker.proofs.item.entry_found.Statement.{statement}
 use Rattle.row_unpacker.proofs.item.entry_found.Tie as tie
 
+add-next : tie.Need-add-next
+add-next c = search needs
+
 low-limit-requires : tie.Need-low-limit-requires
 low-limit-requires c κs = search needs
 
@@ -40,17 +43,14 @@ returns-2 c =
     entry-above (wordsOf (args .table .now)) (rowState (args .p)) (args .at) (args .i) (args .len) (the-low-limit .result)
     (the-previous-of .result) (the-low-limit .ensures) (the-previous-of .ensures) (c .before .if1 .left) (c .if2 .taken)
 
+cast-pixel : tie.Need-cast-pixel
+cast-pixel c = search needs
+
 cast-signed-difference : tie.Need-cast-signed-difference
 cast-signed-difference c = search needs
 
 signed-difference-requires : tie.Need-signed-difference-requires
 signed-difference-requires c κs = search needs
-
-cast-t14 : tie.Need-cast-t14
-cast-t14 c = search needs
-
-add-t15 : tie.Need-add-t15
-add-t15 c = search needs
 
 returns-3 : tie.Need-returns-3
 returns-3 c =
@@ -66,6 +66,7 @@ pub entry-found-spec : {M : Type 1} → statement M
 entry-found-spec =
     tie.close
     (tie.spec
+    add-next
     low-limit-requires
     cast-count
     add-count
@@ -74,8 +75,7 @@ entry-found-spec =
     add-height
     returns
     returns-2
+    cast-pixel
     cast-signed-difference
     signed-difference-requires
-    cast-t14
-    add-t15
     returns-3)

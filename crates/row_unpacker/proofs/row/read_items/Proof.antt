@@ -72,7 +72,7 @@ loop-again c =
     (stream (args .words .now)) (length (args .row .now)) (start .pre .1 .1) (the-loop .row) (the-loop .at) (the-loop .p)
     (the-loop .i) (the-loop .inv) (turn .loop-test .taken) (the-hinted-item .result)
     (the-hinted-item .ensures ∙ itemAt-answered (args .table .now) (args .words .now) (the-loop .at) (the-loop .p))
-    (the-read .given .0 .0) (the-read .given .0 .1 .0) (the-read .given .0 .1 .1 .0) (the-after .result)
+    (the-read .given .0 .1 .0) (the-read .given .0 .0) (the-read .given .0 .1 .1 .0) (the-after .result)
     (the-put-u16 .last .0) (the-read .given .1) (the-after .ensures) (the-put-u16 .ensures)
 
 enum-known-read-2 : tie.Need-enum-known-read-2 Inv-loop μ-loop

@@ -119,7 +119,7 @@ module _ (P : ℕ → Type 0) (p0 : P 0) (p12 : P 12) (p13 : P 13) where
   readLine-in zero s = p0
   readLine-in (suc n) s = follow-in (readAs signedType s) _ (readAs-in signedType P p12 p13 s) (λ u. readLine-in n (drop u s))
 
-lineOwn-in : (P : ℕ → Type 0) → ListedBody P → (m : Lent) → ((n : ℕ) → P (roomNumber m n)) → (c : Context) (b : List ℕ)
+pub lineOwn-in : (P : ℕ → Type 0) → ListedBody P → (m : Lent) → ((n : ℕ) → P (roomNumber m n)) → (c : Context) (b : List ℕ)
     → P (lineOwn m c b)
 unfolding lineOwn lineNumber
 lineOwn-in P l m room c b =
@@ -148,7 +148,7 @@ line-lawful = record {
   writable-in = λ P l. l .p0;
   fixed-in = λ P l b. refuseIf-in P (ltb (length b) 2) 14 (l .p0) (l .p14);
   place-in = λ P l c h. noTable-in P (l .p0) (l .p16) c;
-  own-in = lineOwn-in;
+  own-in = λ P l bits. lineOwn-in P l;
   given-in = λ P l h c x. refuseIf-in P (ltb 4096 (length (givenNumbers x))) 11 (l .p0) (l .p11);
   readable-back = λ e. refl;
   back = λ h c x bytes writable place given. line-back h c x bytes given;

@@ -25,7 +25,7 @@ use Rattle.row_format.specs.Theorems.Words.{bytesOf-halvesOf}
 use Rattle.sheet_format.specs.Context.{Heading, Context, tableFor}
 use Rattle.sheet_format.specs.Fields.{shorterThan}
 use Rattle.sheet_format.specs.Kind.{aRow, afterRecord}
-use Rattle.sheet_format.specs.Kind.Lawful.{ListedBody, ListedGiven, Back, Lawful}
+use Rattle.sheet_format.specs.Kind.Lawful.{ListedBody, ListedBits, ListedGiven, Back, Lawful}
 use Rattle.sheet_format.specs.Kind.Row.{rowHeading, pixelCount, rowContent, rowPlace, givenPixels}
 use Rattle.sheet_format.specs.Kind.Row.Laws.{RowParts, row-parts, given-pixels, rowPlace-table, rowPlace-risen, rowPlace-small, rowPlace-in}
 use Rattle.sheet_format.specs.Kind.PackedRow.{packedReading, packedLeftover, packedOwn, packedBits, packedContent, packedGivenNumber, packedBody, packedTakes, packedKind}
@@ -152,12 +152,13 @@ packed-back h c x small bytes given =
 
 -- ---- numbers
 module _ (P : ℕ → Type 0) where
-  packedOwn-in : ListedBody P → (m : Lent) → ((n : ℕ) → P (roomNumber m n)) → (c : Context) (b : List ℕ) → P (packedOwn m c b)
+  packedOwn-in : ListedBody P → ListedBits P → (m : Lent) → ((n : ℕ) → P (roomNumber m n)) → (c : Context) (b : List ℕ)
+      → P (packedOwn m c b)
   unfolding packedOwn packedReading packedLeftover packedBits
-  packedOwn-in l m room c b =
+  packedOwn-in l bits m room c b =
       orElse-in P (runNumber (rowReading m (tableFor c (rowHeading b)) (pixelCount b) (rowContent b))) _
       (rowReading-number-in P m (tableFor c (rowHeading b)) (pixelCount b) (rowContent b) (l .p0) (l .p1) (l .p2) (l .p3)
-      (l .p11) (room (2 * pixelCount b)) (l .p6) (l .p7) (l .p8) (l .p9) (l .p10))
+      (l .p11) (room (2 * pixelCount b)) (bits .p6) (bits .p7) (bits .p8) (bits .p9) (bits .p10))
       (refuseIf-in P (ltb (4 * wordsFor (packedBits c b)) (length (rowContent b))) 14 (l .p0) (l .p14))
 
   packedGivenNumber-in : ListedGiven P → (h : Heading) (c : Context) (x : List ℕ) → P (packedGivenNumber h c x)

@@ -79,7 +79,7 @@ plain-back h c x small bytes given =
 
 -- ---- numbers
 module _ (P : ℕ → Type 0) where
-  plainOwn-in : ListedBody P → (m : Lent) → ((n : ℕ) → P (roomNumber m n)) → (c : Context) (b : List ℕ) → P (plainOwn m c b)
+  pub plainOwn-in : ListedBody P → (m : Lent) → ((n : ℕ) → P (roomNumber m n)) → (c : Context) (b : List ℕ) → P (plainOwn m c b)
   unfolding plainOwn plainNumber
   plainOwn-in l m room c b =
       let n = pixelCount b in
@@ -113,7 +113,7 @@ plain-lawful = record {
   writable-in = λ P l. l .p0;
   fixed-in = λ P l b. refuseIf-in P (ltb (length b) 4) 14 (l .p0) (l .p14);
   place-in = λ P l c h. rowPlace-in c h P (l .p0) (l .p16);
-  own-in = plainOwn-in;
+  own-in = λ P l bits. plainOwn-in P l;
   given-in = plainGivenNumber-in;
   readable-back = λ e. refl;
   back = λ h c x bytes writable place given. plain-back h c x (rowPlace-small c h place) bytes given;

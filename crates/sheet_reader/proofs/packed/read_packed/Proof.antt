@@ -34,8 +34,8 @@ unpack-row-requires c κs =
     let fields = at-row-fields .row-fields .ensures .fields (c .before .if2 .left) in
     (fields .there, (fields .count, search needs))
 
-refused-requires-3 : tie.Need-refused-requires-3
-refused-requires-3 c κs = search needs
+refused-at-requires : tie.Need-refused-at-requires
+refused-at-requires c κs = search needs
 
 returns-3 : tie.Need-returns-3
 returns-3 c =
@@ -44,7 +44,7 @@ returns-3 c =
     let at-row-fields = at-if2 .before in
     let at-if1 = at-row-fields .before in
     packed-refused (at-if1 .before .before .before .before .args .table .now) (at-if1 .if1 .left)
-    (at-row-fields .row-fields .ensures) (at-if2 .if2 .left) (at-unpack-row .unpack-row .ensures) (c .refused3 .ensures)
+    (at-row-fields .row-fields .ensures) (at-if2 .if2 .left) (at-unpack-row .unpack-row .ensures) (c .refused-at .ensures)
     (c .before .if3 .taken)
 
 slice-aggregate-keep : tie.Need-slice-aggregate-keep
@@ -106,7 +106,7 @@ read-packed-spec =
     returns-2
     slice-aggregate-unpack-row
     unpack-row-requires
-    refused-requires-3
+    refused-at-requires
     returns-3
     slice-aggregate-keep
     cast-keep

@@ -1,7 +1,7 @@
--- The theorems about records and sheets, in the words of document 01 and of document 02's ticket 2; the files below prove them. c is what the sheet holds so
--- far, r the sheet's bytes from a record's place on, h the heading and x the content that the record writer is given, and m
--- the memory lent for writing, as it was. The calls are given tb, the bytes of the sheet's table, and st, a state of two
--- numbers: contextOf tb st is what these say of c. Assumes nothing.
+-- The theorems about records and sheets, in the words of document 01 and of document 02's ticket 2; the files below prove them. c
+-- is what the sheet holds so far, r the sheet's bytes from a record's place on, h the heading and x the content that the record
+-- writer is given, and m the memory lent for writing, as it was. The calls are given tb, the bytes of the sheet's table, and st,
+-- a state of two numbers: contextOf tb st is what these say of c. Assumes nothing.
 use Prim.Native.Nat.{ℕ, _+_, _*_, _≤_, _<_}
 use mathlib.Core.Path.{_≡_}
 use mathlib.Core.Bool.{true, false}

@@ -1,4 +1,5 @@
--- The lines of the sheet lister, as document 01 and document 02's ticket 2 have them, each with its newline. Definitions only. Assumes nothing.
+-- The lines of the sheet lister, as document 01 and document 02's ticket 2 have them, each with its newline. Definitions only.
+-- Assumes nothing.
 use Prim.Native.Nat.{ℕ}
 use mathlib.Core.List.{List, _++_}
 use Rattle.text.specs.Text.{ascii, field, fields}

@@ -29,7 +29,7 @@ MINOR := $(word 2,$(subst ., ,$(VERSION)))
 # looks for; from 1 on the major version alone is.
 SONAME := libtahliruz.so.$(if $(filter 0,$(MAJOR)),0.$(MINOR),$(MAJOR))
 
-PROGRAMS := target/bin/fits_to_sheet target/bin/list_sheet target/bin/list_table
+PROGRAMS := target/bin/fits_to_sheet target/bin/list_map target/bin/list_sheet target/bin/list_table target/bin/text_to_map
 ARCHIVE := target/staticlib/libtahliruz.a
 SHARED := target/shared/libtahliruz.so.$(VERSION)
 SECOND := second/target/release
@@ -47,7 +47,7 @@ have_rt = command -v rt > /dev/null || { echo "rt, the Rattle toolchain, is not 
 # rt goes by contents and leaves what is proved already as it is, hence the touch.
 $(PROGRAMS) &: $(SOURCES)
 	@$(have_rt)
-	rt check fits_to_sheet list_sheet list_table
+	rt check fits_to_sheet list_map list_sheet list_table text_to_map
 	@touch $(PROGRAMS)
 
 $(ARCHIVE): $(SOURCES)
@@ -70,6 +70,7 @@ compare: $(ARCHIVE) $(PROGRAMS)
 	@$(SECOND)/compare_rows 5000000
 	@$(SECOND)/compare_sheets 200000
 	@$(SECOND)/compare_fits 200000
+	@$(SECOND)/compare_maps 200000
 	@$(SECOND)/compare_listers target/bin/list_sheet target/bin/list_table 2000
 	@$(SECOND)/compare_converter target/bin/fits_to_sheet 2000
 
@@ -93,6 +94,8 @@ have_cfitsio:
 samples: $(ARCHIVE)
 	$(CC) $(CFLAGS) -Iinclude -o target/make_samples samples/make_samples.c $(ARCHIVE)
 	target/make_samples samples
+	$(CC) $(CFLAGS) -Iinclude -o target/make_maps samples/make_maps.c $(ARCHIVE)
+	target/make_maps samples
 
 version:
 	package/version

@@ -1,9 +1,10 @@
 /*
  * Tahliruz: rows of heights packed by the truncated Huffman first-difference
- * code of MIT memo 36-56102, adaptive-precision numbers, sheets of both, and
- * scans, FITS images that become sheets. docs/FORMAT.md describes the formats
- * byte by byte. Names here keep document 01's words where a comment has the
- * usual ones: a string is a codeword, a step a difference, a raw height a
+ * code of MIT memo 36-56102, adaptive-precision numbers, sheets of both, scans,
+ * FITS images that become sheets, and maps, the counts of a pressure mat in the
+ * code for sparse arrays that EXOSAT's images had. docs/FORMAT.md describes the
+ * formats byte by byte. Names here keep document 01's words where a comment has
+ * the usual ones: a string is a codeword, a step a difference, a raw height a
  * height written in 12 bits after the escape.
  *
  * Every call ends and answers for every input. This is proved, and so are the
@@ -21,11 +22,12 @@
  *  - memory lent for writing overlaps no other argument;
  *  - 64 KiB of stack are free at the call.
  *
- * Tables, words and pixels are little-endian bytes: a table or packed row is
- * made of 4-byte words, a pixel has 2 bytes; only the pixels of a FITS image
- * have their higher byte first. All lengths are in bytes. An incomplete word,
- * pixel or number at the end counts for nothing, in what is read and in what is
- * lent; in a table it is refused 1.
+ * Tables, words, pixels and counts are little-endian bytes: a table or packed
+ * row is made of 4-byte words, a pixel and a map's count have 2 bytes; only the
+ * pixels of a FITS image have their higher byte first, and only a map has the
+ * higher bits of a byte first. All lengths are in bytes. An incomplete word,
+ * pixel, count or number at the end counts for nothing, in what is read and in
+ * what is lent; in a table it is refused 1.
  *
  * Number 0 is done: the call has written the bytes that its comment names, and
  * the rest of the lent memory is as it was. Any other number is a refusal:
@@ -57,10 +59,10 @@ extern "C" {
 #endif
 
 /* The version of this header. While MAJOR is 0, a new MINOR may change structs and calls. */
-#define TAHLIRUZ_VERSION "0.2.0"
+#define TAHLIRUZ_VERSION "0.2.1"
 #define TAHLIRUZ_VERSION_MAJOR 0
 #define TAHLIRUZ_VERSION_MINOR 2
-#define TAHLIRUZ_VERSION_PATCH 0
+#define TAHLIRUZ_VERSION_PATCH 1
 
 /* Sizes that are always enough. */
 #define TAHLIRUZ_MAX_PIXELS 4096            /* the pixels of a row */
@@ -75,6 +77,11 @@ extern "C" {
 #define TAHLIRUZ_FITS_HEADER_BYTES 28800    /* a FITS header: ten blocks, the most that is looked at */
 #define TAHLIRUZ_TABLE_RECORD_BYTES 2078    /* the plain table's record, exactly */
 #define TAHLIRUZ_MAX_SCAN_ROW_BYTES 7178    /* the record of a scan's row: 10 bytes, and 4096 pixels of 14 bits */
+#define TAHLIRUZ_MAP_SIDE 128               /* the rows of a map, and the counts of a row, exactly */
+#define TAHLIRUZ_MAP_COUNTS 16384           /* the counts of a map, exactly: 128 rows of 128 */
+#define TAHLIRUZ_MAP_COUNT_BYTES 32768      /* their bytes, exactly: 16384 counts of 2 */
+#define TAHLIRUZ_MAX_MAP_BYTES_4 46592      /* a map of group size 4, and so any map: 4096 groups of 3 + 4 * 22 = 91 bits */
+#define TAHLIRUZ_MAX_MAP_BYTES_16 45440     /* a map of group size 16: 1024 groups of 3 + 16 * 22 = 355 bits */
 
 /* A FITS header is made of blocks, and the image begins where one ends. */
 #define TAHLIRUZ_FITS_BLOCK_BYTES 2880
@@ -107,11 +114,15 @@ enum tahliruz_number {
     TAHLIRUZ_TOO_MANY = 11,     /* more than 4096 pixels, rows or numbers, or a place that no reading has */
     TAHLIRUZ_BYTES_END = 12,    /* the bytes end before an adaptive-precision number does */
     TAHLIRUZ_NUMBER_RANGE = 13, /* a number's fifth byte asks for a sixth, or its value is outside its range */
-    TAHLIRUZ_RECORD = 14,       /* length, fixed fields, word alignment or leftover of a record is wrong */
+    TAHLIRUZ_RECORD = 14,       /* length, fixed fields, word alignment or leftover of a record is wrong,
+                                   or a map's group size or number of counts */
     TAHLIRUZ_KIND = 15,         /* the record's kind is unknown */
     TAHLIRUZ_PLACE = 16,        /* no table first, a second table, or a row number not risen or above 65535 */
     TAHLIRUZ_FITS_HEADER = 17,  /* the FITS header is not of two axes of unscaled 16-bit pixels, or has no END in ten blocks */
-    TAHLIRUZ_IMAGE_END = 18     /* the image's bytes end before the row does */
+    TAHLIRUZ_IMAGE_END = 18,    /* the image's bytes end before the row does */
+    TAHLIRUZ_MAP_END = 19,      /* the map's bits end before its last group does */
+    TAHLIRUZ_MAP_PIXEL = 20,    /* a 16-bit pixel of the map is not above 17, or a code 000 group has fewer than three photons */
+    TAHLIRUZ_MAP_TOTAL = 21     /* the map's counts have another sum than the total given */
 };
 
 /* A number's text, in the words of the list above; "no such number" for any other. */
@@ -132,12 +143,18 @@ static inline const char *tahliruz_number_text(uint32_t number)
     case TAHLIRUZ_TOO_MANY: return "more than 4096 pixels, rows or numbers, or a place that no reading has";
     case TAHLIRUZ_BYTES_END: return "the bytes end before an adaptive-precision number does";
     case TAHLIRUZ_NUMBER_RANGE: return "a number's fifth byte asks for a sixth, or its value is outside its range";
-    case TAHLIRUZ_RECORD: return "length, fixed fields, word alignment or leftover of a record is wrong";
+    case TAHLIRUZ_RECORD:
+        return "length, fixed fields, word alignment or leftover of a record is wrong, "
+               "or a map's group size or number of counts";
     case TAHLIRUZ_KIND: return "the record's kind is unknown";
     case TAHLIRUZ_PLACE: return "no table first, a second table, or a row number not risen or above 65535";
     case TAHLIRUZ_FITS_HEADER:
         return "the FITS header is not of two axes of unscaled 16-bit pixels, or has no END in ten blocks";
     case TAHLIRUZ_IMAGE_END: return "the image's bytes end before the row does";
+    case TAHLIRUZ_MAP_END: return "the map's bits end before its last group does";
+    case TAHLIRUZ_MAP_PIXEL:
+        return "a 16-bit pixel of the map is not above 17, or a code 000 group has fewer than three photons";
+    case TAHLIRUZ_MAP_TOTAL: return "the map's counts have another sum than the total given";
     default: return "no such number";
     }
 }
@@ -594,6 +611,71 @@ struct tahliruz_image tahliruz_fits_header(const uint8_t *fits, size_t fits_len,
 struct tahliruz_answer tahliruz_fits_row(uint64_t width, uint64_t row,
                                          const uint8_t *image, size_t image_len,
                                          uint8_t *out, size_t out_len);
+
+/* ---- Maps ---- */
+
+/*
+ * Reads a map: the 128 x 128 counts of a pressure mat, row by row, in groups of 4
+ * or 16. A group begins with one of four codes, by its photons, the sum of its
+ * counts: 1 for none, 01 for one, 001 for two, 000 for three or more
+ * (docs/FORMAT.md, 7.3).
+ *
+ *   group   the group size, 4 or 16; any other, however large, is 14
+ *   bytes   the map, bytes_len bytes, the most significant bit of each first. 46592
+ *           bytes hold any map of group size 4, and 45440 any of 16; later bytes
+ *           and the spare bits of the last byte that is used are not looked at
+ *   total   the photons of the map, that is, the sum of its counts; all 64 bits count
+ *   counts  lent for writing: counts_len bytes, of which 32768 are enough
+ *
+ * Numbers, in this order:
+ *   14      group is neither 4 nor 16
+ *   5       counts_len is below 32768
+ *   19, 20  what the bits, taken one after another, come to first:
+ *           19  they end before or within the code, position or pixel that is to
+ *               be read
+ *           20  a pixel of 16 bits is not above 17, once these bits are there; or a
+ *               code 000 group has fewer than three photons, once its last pixel is
+ *   21      the sum of the counts, which does not wrap, differs from total
+ *   0       done
+ *
+ * Count: the bits used, 4096 to 372736 for group size 4, 1024 to 363520 for 16. The
+ * counts are in the first 32768 bytes of counts: 16384 of 2 bytes, 0 to 65535, that
+ * of row y and column x at byte 2 * (128 * y + x), both counted from 0. After a
+ * refusal counts is as it was.
+ */
+struct tahliruz_answer tahliruz_read_map(uint32_t group,
+                                         const uint8_t *bytes, size_t bytes_len,
+                                         uint64_t total,
+                                         uint8_t *counts, size_t counts_len);
+
+/*
+ * Writes a map.
+ *
+ *   group   the group size, 4 or 16; any other, however large, is 14
+ *   counts  the counts, row by row, 2 bytes a count: counts_len / 2 counts of 0 to
+ *           65535, of which there must be 16384
+ *   out     lent for writing: out_len bytes, of which 46592 are always enough for
+ *           group size 4, and 45440 for 16
+ *
+ * Numbers, in this order:
+ *   14  group is neither 4 nor 16, or counts_len / 2 is not 16384
+ *   5   the map takes more than out_len bytes
+ *   0   done
+ *
+ * Count: the bytes that the map takes, 512 to 46592 for group size 4, 128 to 45440
+ * for 16. It is in the first count bytes of out; the spare bits of the last one are
+ * 0. After a refusal out is as it was.
+ *
+ * A group is written in the first of the four codes that fits it, two photons with
+ * the lower position first. The group size and the sum of the counts are not in the
+ * map, and reading asks for them: keep them beside it. Read with them, the map gives
+ * these counts and uses exactly the bits that were written. Counts that were read
+ * take as many bits as they were read from, and the very same bits exactly where no
+ * code 001 group had its higher position first.
+ */
+struct tahliruz_answer tahliruz_write_map(uint32_t group,
+                                          const uint8_t *counts, size_t counts_len,
+                                          uint8_t *out, size_t out_len);
 
 /*
  * ---- A scan from a stream ----

@@ -1,8 +1,8 @@
 /*
  * The stack that each call takes, on the inputs that take most: a table of 8190 strings of up to 27 bits, a row of 4096
- * pixels, a record of each kind, a FITS header of ten blocks. A call runs on a thread whose stack was painted before; what
- * is no longer painted was used. It fails where a call takes more than the header asks for. With an argument it prints the
- * bytes of each call.
+ * pixels, a record of each kind, a FITS header of ten blocks, maps whose counts all take 22 bits. A call runs on a thread whose
+ * stack was painted before; what is no longer painted was used. It fails where a call takes more than the header asks for.
+ * With an argument it prints the bytes of each call.
  */
 #define _POSIX_C_SOURCE 200809L
 #include <pthread.h>
@@ -23,6 +23,7 @@
 static uint8_t table[TAHLIRUZ_MAX_TABLE_BYTES], pixels[2 * PIXELS], words[4 * TAHLIRUZ_MAX_ROW_WORDS], numbers[4 * PIXELS];
 static uint8_t record[TAHLIRUZ_MAX_RECORD_BYTES], content[TAHLIRUZ_MAX_CONTENT_BYTES];
 static uint8_t fits[TAHLIRUZ_FITS_HEADER_BYTES], image[2 * PIXELS];
+static uint8_t counts[TAHLIRUZ_MAP_COUNT_BYTES], counts_read[TAHLIRUZ_MAP_COUNT_BYTES], map[TAHLIRUZ_MAX_MAP_BYTES_4];
 static size_t record_len;
 
 static void put_word(size_t i, uint32_t w)
@@ -55,6 +56,7 @@ static void make_scan(void)
 static void make_inputs(void)
 {
     make_scan();
+    memset(counts, 0xFF, sizeof counts);
     put_word(0, 1);
     put_word(1, 0);
     put_word(2, ENTRIES);
@@ -131,6 +133,20 @@ static void fits_row(void)
 {
     expect("fits_row", tahliruz_fits_row(PIXELS, 4095, image, sizeof image, record, TAHLIRUZ_MAX_SCAN_ROW_BYTES).number);
 }
+/* Every count is 65535. */
+static void write_map(uint32_t group)
+{
+    expect("write_map", tahliruz_write_map(group, counts, sizeof counts, map, sizeof map).number);
+}
+static void read_map(uint32_t group)
+{
+    uint64_t total = UINT64_C(65535) * TAHLIRUZ_MAP_COUNTS;
+    expect("read_map", tahliruz_read_map(group, map, sizeof map, total, counts_read, sizeof counts_read).number);
+}
+static void write_map_4(void) { write_map(4); }
+static void read_map_4(void) { read_map(4); }
+static void write_map_16(void) { write_map(16); }
+static void read_map_16(void) { read_map(16); }
 static void write_table(void) { write_kind(1, table, sizeof table); }
 static void write_packed(void) { write_kind(2, pixels, sizeof pixels); }
 static void write_plain(void) { write_kind(3, pixels, sizeof pixels); }
@@ -155,6 +171,8 @@ static const struct {
     { "read a packed row", read_packed }, { "write a plain row", write_plain }, { "judge a plain row", judge_plain },
     { "read a plain row", read_plain }, { "write a line", write_line }, { "judge a line", judge_line },
     { "read a line", read_line }, { "fits_header", fits_header }, { "fits_row", fits_row },
+    { "write a map of 4", write_map_4 }, { "read a map of 4", read_map_4 }, { "write a map of 16", write_map_16 },
+    { "read a map of 16", read_map_16 },
 };
 
 static void *run(void *call)

@@ -1,10 +1,12 @@
-//! The calls on numbers and records in the form that they have for C,
+//! The calls on numbers, records and maps in the form that they have for C,
 //! answered by this program. A table comes opened, or as its refusal, so that
 //! a comparison opens each table once.
 
 use crate::adaptive;
 use crate::answers::{Answer, Record, Signed, Unsigned, Written};
+use crate::map;
 use crate::reader::Codec;
+use crate::refusal::{DONE, ROOM};
 use crate::sheet::{self, Content, RecordAnswer, State};
 use crate::sheet::{KIND_LINE, KIND_PACKED, KIND_PLAIN, KIND_TABLE};
 use crate::table::HEADER_WORDS;
@@ -53,6 +55,41 @@ pub fn write_record(
     let table = table.map(|codec| &codec.table);
     let answer = sheet::write_record(state, table, kind, row, content, out);
     Written { number: answer.number, count: answer.bytes as u32, state: answer.state }
+}
+
+pub fn read_map(group: u32, bytes: &[u8], total: u64, counts: &mut [u8]) -> Answer {
+    answer_of(read_counts(group, bytes, total, counts))
+}
+
+fn read_counts(group: u32, bytes: &[u8], total: u64, counts: &mut [u8]) -> Result<u32, u32> {
+    // Both are judged before any bit.
+    map::position_bits(group)?;
+    let (lent, _) = counts.as_chunks_mut::<2>();
+    let lent = lent.get_mut(..map::COUNTS).ok_or(ROOM)?;
+    let map = map::read_map(group, bytes, total)?;
+    for (lent, count) in lent.iter_mut().zip(map.counts) {
+        *lent = count.to_le_bytes();
+    }
+    Ok(map.bits)
+}
+
+pub fn write_map(group: u32, counts: &[u8], out: &mut [u8]) -> Answer {
+    answer_of(write_counts(group, counts, out))
+}
+
+fn write_counts(group: u32, counts: &[u8], out: &mut [u8]) -> Result<u32, u32> {
+    let (counts, _) = counts.as_chunks::<2>();
+    let counts: Vec<u16> = counts.iter().map(|&count| u16::from_le_bytes(count)).collect();
+    let bytes = map::write_map(group, &counts)?;
+    out.get_mut(..bytes.len()).ok_or(ROOM)?.copy_from_slice(&bytes);
+    Ok(bytes.len() as u32)
+}
+
+fn answer_of(outcome: Result<u32, u32>) -> Answer {
+    match outcome {
+        Ok(count) => Answer { number: DONE, count },
+        Err(number) => Answer { number, count: 0 },
+    }
 }
 
 fn record_of(answer: RecordAnswer) -> Record {
@@ -139,5 +176,33 @@ mod tests {
         assert_eq!(write_signed(64, &mut out).pair(), (0, 2));
         assert_eq!(write_unsigned(64, &mut out).pair(), (0, 1));
         assert_eq!(out, [64, 64]);
+    }
+
+    #[test]
+    fn maps() {
+        let (mut counts, mut out) = (vec![0; 2 * map::COUNTS + 1], [7; 514]);
+        counts[2] = 1;
+        assert_eq!(write_map(4, &counts, &mut out).pair(), (0, 513));
+        assert_eq!((out[0], out[512], out[513]), (0b0101_1111, 0b1110_0000, 7));
+        let mut read = vec![9; 2 * map::COUNTS + 2];
+        assert_eq!(read_map(4, &out, 1, &mut read).pair(), (0, 4099));
+        assert_eq!(read[..2 * map::COUNTS], counts[..2 * map::COUNTS]);
+        assert_eq!(read[2 * map::COUNTS..], [9, 9]);
+    }
+
+    #[test]
+    fn refused_maps() {
+        let (counts, mut out) = (vec![0; 2 * map::COUNTS], [7; 127]);
+        assert_eq!(write_map(16, &counts, &mut out).pair(), (5, 0));
+        assert_eq!(write_map(16, &counts[2..], &mut out).pair(), (14, 0));
+        assert_eq!(write_map(8, &counts, &mut out).pair(), (14, 0));
+        assert_eq!(out, [7; 127]);
+        let (mut little, mut enough) = (vec![7; 2 * map::COUNTS - 1], counts);
+        assert_eq!(read_map(5, &[], 0, &mut little).pair(), (14, 0));
+        assert_eq!(read_map(4, &[], 0, &mut little).pair(), (5, 0));
+        assert_eq!(read_map(4, &[], 0, &mut enough).pair(), (19, 0));
+        assert_eq!(read_map(4, &[0; 2], 0, &mut enough).pair(), (20, 0));
+        assert_eq!(read_map(16, &[255; 128], 1, &mut enough).pair(), (21, 0));
+        assert!(little.iter().all(|&byte| byte == 7));
     }
 }

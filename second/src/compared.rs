@@ -2,6 +2,8 @@
 
 mod items;
 #[cfg(feature = "sheets")]
+mod maps;
+#[cfg(feature = "sheets")]
 mod numbers;
 #[cfg(feature = "sheets")]
 mod records;
@@ -14,6 +16,8 @@ mod walk;
 use std::fmt::Debug;
 
 pub use items::Items;
+#[cfg(feature = "sheets")]
+pub use maps::{MapReading, MapWriting};
 #[cfg(feature = "sheets")]
 pub use numbers::{read_signed, read_unsigned, write_signed, write_unsigned};
 #[cfg(feature = "sheets")]

@@ -5,6 +5,8 @@ mod fits;
 #[cfg(feature = "rows")]
 mod items;
 #[cfg(feature = "sheets")]
+mod maps;
+#[cfg(feature = "sheets")]
 mod sheets;
 
 use std::ptr;
@@ -16,6 +18,8 @@ use crate::answers::Unpacked;
 pub use fits::*;
 #[cfg(feature = "rows")]
 pub use items::*;
+#[cfg(feature = "sheets")]
+pub use maps::*;
 #[cfg(feature = "sheets")]
 pub use sheets::*;
 

@@ -3,6 +3,7 @@
 pub mod damage;
 pub mod entries;
 pub mod flaws;
+pub mod maps;
 pub mod mutations;
 pub mod numbers;
 pub mod places;

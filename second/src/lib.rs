@@ -1,17 +1,18 @@
-//! A second program for the truncated Huffman first-difference code, written
-//! from the papers alone and compared with the proved library.
+//! A second program for the truncated Huffman first-difference code and for
+//! pressure mat maps, written from the papers alone and compared with the proved
+//! library.
 //!
 //! The programs link `libtahliruz.a` from the folder that `TAHLIRUZ_LIB_DIR`
 //! names when they are built: by default its table check, with the feature
 //! `rows` packing, unpacking, the room question and the item reader too, with
-//! `sheets` also adaptive numbers, records and FITS images. With
+//! `sheets` also adaptive numbers, records, FITS images and maps. With
 //! `--no-default-features` nothing is linked and the tests run alone.
 //!
-//! `compare_tables`, `compare_rows`, `compare_sheets` and `compare_fits`
-//! compare with it a given number of random inputs, `fuzz` changed ones for a
-//! given time, and `bench` times. `compare_listers` runs the two listing
-//! programs, `compare_converter` the one that turns scans into sheets. Each
-//! exits with 1 at the first difference and saves the case.
+//! `compare_tables`, `compare_rows`, `compare_sheets`, `compare_fits` and
+//! `compare_maps` compare with it a given number of random inputs, `fuzz`
+//! changed ones for a given time, and `bench` times. `compare_listers` runs the
+//! two listing programs, `compare_converter` the one that turns scans into
+//! sheets. Each exits with 1 at the first difference and saves the case.
 
 pub mod adaptive;
 pub mod agreement;
@@ -28,6 +29,7 @@ pub mod generate;
 pub mod items;
 pub mod known;
 pub mod listing;
+pub mod map;
 pub mod memory;
 pub mod opened;
 pub mod random;

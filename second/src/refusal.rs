@@ -27,7 +27,8 @@ pub const TOO_MANY: u32 = 11;
 pub const BYTES_END: u32 = 12;
 /// An adaptive number asks for a sixth byte or is outside its range.
 pub const NUMBER_RANGE: u32 = 13;
-/// A record's length, fixed fields, word alignment or leftover is wrong.
+/// A record's length, fixed fields, word alignment or leftover is wrong, or a
+/// map's group size or number of counts.
 pub const RECORD: u32 = 14;
 /// The record's kind is unknown.
 pub const KIND: u32 = 15;
@@ -38,6 +39,13 @@ pub const PLACE: u32 = 16;
 pub const FITS_HEADER: u32 = 17;
 /// The image's bytes end before the row does.
 pub const IMAGE_END: u32 = 18;
+/// The bits end before a map does.
+pub const MAP_END: u32 = 19;
+/// A map's 16-bit pixel is not above 17, or a group of code 000 has fewer than
+/// three photons.
+pub const MAP_PIXEL: u32 = 20;
+/// The photons of a map are not as many as the total says.
+pub const MAP_TOTAL: u32 = 21;
 
 /// Whether a refusal says where the reading of a row stopped.
 pub fn has_place(number: u32) -> bool {

@@ -1,11 +1,12 @@
 //! How often each call of the library gave each number.
 
-use crate::refusal::{has_place, IMAGE_END};
+use crate::refusal::{has_place, MAP_TOTAL};
 
-const NUMBERS: usize = IMAGE_END as usize + 1;
+const NUMBERS: usize = MAP_TOTAL as usize + 1;
 
-/// The calls, and for each the numbers that it can give.
-const CALLS: [(&str, &[usize]); 16] = [
+/// The calls, and for each the numbers that it can give. Those on maps are
+/// counted by their group size: the numbers must be reached at each.
+const CALLS: [(&str, &[usize]); 22] = [
     ("check", &[0, 1, 2, 3]),
     ("plain_table", &[0, 5]),
     ("pack", &[0, 1, 2, 3, 4, 5, 11]),
@@ -22,6 +23,12 @@ const CALLS: [(&str, &[usize]); 16] = [
     ("write_record", &[0, 1, 2, 3, 4, 5, 11, 15, 16]),
     ("fits_header", &[0, 5, 11, 17]),
     ("fits_row", &[0, 4, 5, 11, 17, 18]),
+    ("read_map 4", &[0, 5, 19, 20, 21]),
+    ("read_map 16", &[0, 5, 19, 20, 21]),
+    ("read_map other", &[14]),
+    ("write_map 4", &[0, 5, 14]),
+    ("write_map 16", &[0, 5, 14]),
+    ("write_map other", &[14]),
 ];
 
 /// The calls that say where the reading of a row stopped.
@@ -77,7 +84,7 @@ impl Tally {
             let above: String = above.collect();
             let places = if above.is_empty() { "" } else { "; with a place above 0" };
             let total: u64 = self.counts[call].iter().sum();
-            format!("{:<14} {total:>9} calls;{given}{places}{above}\n", CALLS[call].0)
+            format!("{:<15} {total:>9} calls;{given}{places}{above}\n", CALLS[call].0)
         };
         (0..CALLS.len()).filter(|&call| self.is_used(call)).map(line).collect()
     }

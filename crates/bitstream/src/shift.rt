@@ -35,9 +35,9 @@ pub fn bit_of(v: u32, k: u32) -> u32
     v / power(k) % 2
 }
 
-// The 32 bits of v from bit k on, k a place in a byte.
+// The 32 bits of v from bit k on.
 pub fn window(v: u64, k: u32) -> u32
-    requires { ⌜ k < 8 ⌝ }
+    requires { ⌜ k < 32 ⌝ }
     ensures { λ r. ⌜ r ≡ v / 2 ^ k % 2 ^ 32 ⌝ }
 {
     (v / power(k) as u64 % 4294967296) as u32

@@ -2,6 +2,7 @@
 // an argument's bytes are, nor what is read or written; what an argument is, by its bytes, is in specs/Argument.antt.
 pub mod argument;
 pub mod input;
+pub mod number;
 pub mod say;
 
 use argument::Argument;
@@ -12,7 +13,7 @@ use say::complain;
 ghost use mathlib.Core.Path.{_≡_};
 ghost use Prim.Native.Nat.{_-_};
 ghost use Rattle.io.specs.Counts.{Counts};
-ghost use Rattle.command.specs.Argument.{fileCount};
+ghost use Rattle.command.specs.Argument.{fileCount, wordPlace};
 
 // What a command line asks for. An unknown option comes with its place; of several options the first decides.
 pub enum Request {
@@ -22,7 +23,7 @@ pub enum Request {
     Files(Files),
 }
 
-// The files that it names.
+// The words that are no options: the files that it names and, in some programs, numbers before them.
 // arguments   how many words it has, the program's own name among them
 // end         the place of the `--` that ends the options, or `arguments` where there is none
 pub struct Files {
@@ -103,6 +104,17 @@ fn less(n: usize, k: usize) -> usize
         return 0;
     }
     n - k
+}
+
+// The place of word k, from 0 on, of those that are no options.
+pub fn place_of(files: Files, k: u32) -> usize
+    ensures { λ r. ⌜ r ≡ wordPlace (files .end) k ⌝ }
+{
+    let place = k as usize + 1;
+    if place < files.end {
+        return place;
+    }
+    place + 1
 }
 
 // A descriptor for reading, below 0 where there is none, which is said on standard error. `-` is standard input.

@@ -7,7 +7,7 @@ use libc::STDERR_FILENO;
 use libc::STDOUT_FILENO;
 
 // Of the programs; include/tahliruz.h has the library's, which is the same.
-const VERSION: [u8; 5] = *b"0.2.0";
+const VERSION: [u8; 5] = *b"0.2.1";
 
 // `PROGRAM: NAME: why`, by errno, which no write that succeeds changes.
 pub fn complain(program: &[u8], name: &[u8]) {
@@ -19,14 +19,19 @@ pub fn complain(program: &[u8], name: &[u8]) {
     os::fail(name);
 }
 
-// `PROGRAM: NAME: text`
+// `PROGRAM: NAME: text`, of a file.
 pub fn hint(program: &[u8], name: &[u8], text: &[u8]) {
-    begin(program);
     if let Argument::Input = argument_of(name) {
-        io::write_all(STDERR_FILENO, b"standard input");
-    } else {
-        io::write_all(STDERR_FILENO, name);
+        refuse_word(program, b"standard input", text);
+        return;
     }
+    refuse_word(program, name, text);
+}
+
+// `PROGRAM: WORD: text`, of a word as it stands on the command line.
+pub fn refuse_word(program: &[u8], word: &[u8], text: &[u8]) {
+    begin(program);
+    io::write_all(STDERR_FILENO, word);
     io::write_all(STDERR_FILENO, b": ");
     io::write_all(STDERR_FILENO, text);
     io::write_all(STDERR_FILENO, b"\n");

@@ -2,13 +2,14 @@
 -- are the keyword, left-justified and filled with blanks; "= " in bytes 9 and 10 is the value indicator; the value follows.
 -- Columns 31 to 80 are not looked at. Definitions only. Assumes nothing.
 use Prim.Native.Nat.{ℕ, _+_, _-_, _*_}
-use mathlib.Core.Bool.{Bool, false, cond, not, _&&_}
+use mathlib.Core.Bool.{Bool, cond, not, _&&_}
 use mathlib.Core.List.{List, [], _∷_}
 use lib.ListN.{take, drop}
-use lib.Dec.{ltb, eqb}
+use lib.Dec.{eqb}
 use lib.IntN.{ℤ, pos, negℤ}
 use Rattle.row_format.specs.Lists.{any}
 use Rattle.text.specs.Text.{ascii}
+use Rattle.text.specs.Number.{isDigit}
 use Rattle.text.specs.Same.{sameBytes}
 
 -- ---- the parts of a card
@@ -35,10 +36,6 @@ isTrue k c = hasValue k c && sameBytes (valueField c) (ascii "                  
 pub data FieldValue : Type 0 where
   noInteger : FieldValue
   isInteger : ℤ → FieldValue
-
--- ASCII has the digits at 48 to 57
-unfoldable pub isDigit : ℕ → Bool
-isDigit b = cond (ltb b 48) false (ltb b 58)
 
 -- the number that digits stand for, the highest first, where v stands for those before
 unfoldable pub digitsValue : ℕ → List ℕ → ℕ

@@ -6,7 +6,8 @@ use mathlib.Core.Bool.{cond}
 use mathlib.Core.List.{List, [], _∷_}
 use lib.ListN.{length, getD}
 use lib.IntN.{pos, negsuc}
-use Rattle.fits_format.specs.Card.{FieldValue, noInteger, isInteger, isDigit}
+use Rattle.text.specs.Number.{isDigit}
+use Rattle.fits_format.specs.Card.{FieldValue, noInteger, isInteger}
 pub mod Laws
 
 abbrev pub clipped : FieldValue → ℕ

@@ -1,8 +1,9 @@
 // A fixed-format integer. What a header is judged by is its value up to 4097: 0 where it is below 1 or where there is no
 // integer, which are refused alike, and 4097 for every value above 4096, of however many digits.
+use text::read::is_digit;
 ghost use mathlib.Core.Path.{_≡_};
 ghost use Prim.Native.Nat.{min};
-ghost use Rattle.fits_format.specs.Card.{isDigit, fixedInteger};
+ghost use Rattle.fits_format.specs.Card.{fixedInteger};
 ghost use Rattle.fits_reader.specs.Clipped.{clipped, digitsClipped, NotBlank};
 
 // Of a value field: blanks, an optional sign, digits.
@@ -45,12 +46,6 @@ fn unsigned_digits(field: &[u8]) -> u32
         i += 1;
     }
     value
-}
-
-fn is_digit(b: u8) -> bool
-    ensures { λ r. ⌜ r ≡ isDigit b ⌝ }
-{
-    if b < b'0' { false } else { b <= b'9' }
 }
 
 fn lesser(a: u32, b: u32) -> u32

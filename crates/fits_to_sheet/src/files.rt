@@ -6,6 +6,7 @@ use command::Files;
 use command::close;
 use command::count_files;
 use command::open;
+use command::place_of;
 use command::say::hint;
 use command::word_at;
 use libc::STDERR_FILENO;
@@ -22,23 +23,14 @@ pub fn convert_files(files: Files) {
         return;
     }
     let mut word = io::buffer();
-    let n = word_at(first_file(files), &mut word);
+    let n = word_at(place_of(files, 0), &mut word);
     convert_file(&word[..n]);
-}
-
-// The places of the first file and the second: each argument is one, but for the `--`.
-fn first_file(files: Files) -> usize {
-    if files.end == 1 { 2 } else { 1 }
-}
-
-fn second_file(files: Files) -> usize {
-    if files.end < 3 { 3 } else { 2 }
 }
 
 // A sheet holds one image.
 fn refuse_second(files: Files) {
     let mut word = io::buffer();
-    let n = word_at(second_file(files), &mut word);
+    let n = word_at(place_of(files, 1), &mut word);
     hint(&PROGRAM, &word[..n], b"only one file is taken");
     help(STDERR_FILENO);
 }

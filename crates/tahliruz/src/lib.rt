@@ -23,6 +23,7 @@ ghost use Rattle.sheet_format.specs.Reading.{recordJudged, recordRead};
 ghost use Rattle.sheet_format.specs.Writing.{recordWritten};
 ghost use Rattle.fits_format.specs.Header.{headerRead};
 ghost use Rattle.fits_format.specs.Image.{imageRow};
+ghost use Rattle.map_format.specs.Calls.{mapRead, mapWritten};
 
 #[no_mangle]
 pub extern "C" fn tahliruz_check(table: &[u8]) -> Answer
@@ -172,4 +173,23 @@ pub extern "C" fn tahliruz_fits_row(width: u64, row: u64, image: &[u8], out: &mu
     ensures { λ r. ⌜ outcome r (now (out .exit)) ≡ imageRow width row (now (image .entry)) (now (out .entry)) ⌝ }
 {
     fits_reader::fits_row(width, row, image, out)
+}
+
+#[no_mangle]
+pub extern "C" fn tahliruz_read_map(
+    group: u32,
+    bytes: &[u8],
+    total: u64,
+    counts: &mut [u8],
+) -> Answer
+    ensures { λ r. ⌜ outcome r (now (counts .exit)) ≡ mapRead group (now (bytes .entry)) total (now (counts .entry)) ⌝ }
+{
+    mat_map::read_map(group, bytes, total, counts)
+}
+
+#[no_mangle]
+pub extern "C" fn tahliruz_write_map(group: u32, counts: &[u8], out: &mut [u8]) -> Answer
+    ensures { λ r. ⌜ outcome r (now (out .exit)) ≡ mapWritten group (now (counts .entry)) (now (out .entry)) ⌝ }
+{
+    mat_map::write_map(group, counts, out)
 }

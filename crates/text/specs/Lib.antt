@@ -2,3 +2,4 @@ pub mod Text
 pub mod Put
 pub mod Lines
 pub mod Same
+pub mod Number

@@ -3,9 +3,9 @@ use Prim.Native.Nat.{ℕ, zero, suc, _+_, _-_, _*_, _/_, _%_, _^_, _≤_, _<_, z
 use native.Mathlib.Nat.{zero-mod, zero-div, add-zero, zero-add, add-comm, add-assoc, mod-lt, mod-one, div-one, suc-add, mul-zero, mul-suc, mul-one, mul-assoc, add-mul, pow-suc, mod-eq-of-lt, div-lt-iff-lt-mul, not-suc-le-zero, le-of-suc-le-suc, lt-of-lt-of-le}
 use native.Mathlib.Omega.{arith}
 use mathlib.Core.Path.{_≡_, refl, sym, ap, _∙_}
-use mathlib.Core.List.{List, [], _∷_, _++_, append-assoc}
-use lib.ListN.{length, take, drop, getD, replicate, length-append, length-drop}
-use lib.Seq.{take-nil, drop-nil, take-append-add, drop-append-add, take-at, drop-at, take-append-le, drop-append-le}
+use mathlib.Core.List.{List, [], _∷_, _++_, append-assoc, append-nil}
+use lib.ListN.{length, take, drop, getD, replicate, length-append, length-drop, take-append-drop}
+use lib.Seq.{take-nil, drop-nil, take-append-add, drop-append-add, take-at, drop-at, take-append-le, drop-append-le, length-take-le}
 use lib.Arith.{digits-lt, digits-div, mod-mul}
 use lib.Bits.{block-half, block-odd}
 use lib.Pow.{shr-shr, pow-pos, pow-add, pow-mono}
@@ -236,6 +236,36 @@ pad-all (suc k) (x ∷ b) h =
 pub pad-append : (b c : List ℕ) (n : ℕ) → pad (length b + n) (b ++ c) ≡ b ++ pad n c
 pad-append [] c n = rw (zero-add n)
 pad-append (x ∷ b) c n = rw (suc-add (length b) n) (ap (x ∷_) (pad-append b c n))
+
+pub length-pad : (k : ℕ) (b : List ℕ) → length (pad k b) ≡ k
+length-pad zero b = refl
+length-pad (suc k) [] = ap suc (length-pad k [])
+length-pad (suc k) (x ∷ b) = ap suc (length-pad k b)
+
+pub below-pad : (k : ℕ) (b : List ℕ) → Below 2 b → Below 2 (pad k b)
+below-pad zero b h = below-nil (omega arith)
+below-pad (suc k) [] h = below-cons (omega arith) (below-pad k [] h)
+below-pad (suc k) (x ∷ b) h = below-cons (below-head h) (below-pad k b (below-tail h))
+
+pub pad-at : (p q : List ℕ) (n : ℕ) → length p ≡ n → pad n (p ++ q) ≡ p
+pad-at p q n e = ap (λ (k : ℕ). pad k (p ++ q)) (sym e ∙ sym (add-zero (length p))) ∙ pad-append p q 0 ∙ append-nil p
+
+pub take-pad : (k n : ℕ) (b : List ℕ) → k ≤ n → take k (pad n b) ≡ pad k b
+take-pad k n b h =
+    let e : n ≡ k + (n - k) = omega arith in
+    ap (λ (m : ℕ). take k (pad m b)) e ∙ ap (take k) (pad-add k (n - k) b) ∙ take-at (pad k b) (pad (n - k) (drop k b)) k (length-pad k b)
+
+pub drop-pad : (k n : ℕ) (b : List ℕ) → k ≤ n → drop k (pad n b) ≡ pad (n - k) (drop k b)
+drop-pad k n b h =
+    let e : n ≡ k + (n - k) = omega arith in
+    ap (λ (m : ℕ). drop k (pad m b)) e ∙ ap (drop k) (pad-add k (n - k) b) ∙ drop-at (pad k b) (pad (n - k) (drop k b)) k (length-pad k b)
+
+-- as many bits as are there, and fewer
+pub pad-whole : (n : ℕ) (b : List ℕ) → length b ≡ n → pad n b ≡ b
+pad-whole n b e = ap (pad n) (sym (append-nil b)) ∙ pad-at b [] n e
+
+pub pad-short : (n : ℕ) (b : List ℕ) → n ≤ length b → pad n b ≡ take n b
+pad-short n b h = ap (pad n) (sym (take-append-drop n b)) ∙ pad-at (take n b) (drop n b) n (length-take-le n b h)
 
 pub digits-pad : (w : ℕ) (b : List ℕ) → Below 2 b → digits w (numOf b) ≡ pad w b
 unfolding digits numOf

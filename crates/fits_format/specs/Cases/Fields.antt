@@ -9,7 +9,8 @@ use lib.IntN.{pos, negsuc}
 use Rattle.row_format.specs.Lists.{any}
 use Rattle.text.specs.Text.{ascii}
 use Rattle.text.specs.Same.{sameBytes}
-use Rattle.fits_format.specs.Card.{hasKeyword, hasValue, isTrue, FieldValue, noInteger, isInteger, isDigit, digitsValue, signedDigits, fixedInteger, integerOf}
+use Rattle.text.specs.Number.{isDigit}
+use Rattle.fits_format.specs.Card.{hasKeyword, hasValue, isTrue, FieldValue, noInteger, isInteger, digitsValue, signedDigits, fixedInteger, integerOf}
 
 -- ---- value fields
 pub record FieldCase : Type 0 where

@@ -7,7 +7,8 @@ use lib.ListN.{take, replicate}
 use Rattle.row_format.specs.Lists.{any}
 use Rattle.text.specs.Text.{ascii}
 use Rattle.text.specs.Same.{sameBytes}
-use Rattle.fits_format.specs.Card.{hasKeyword, hasValue, isTrue, isDigit, digitsValue, signedDigits, fixedInteger, integerOf}
+use Rattle.text.specs.Number.{isDigit}
+use Rattle.fits_format.specs.Card.{hasKeyword, hasValue, isTrue, digitsValue, signedDigits, fixedInteger, integerOf}
 use Rattle.fits_format.specs.Header.{cardsOf, beforeEnd, cardInteger, headerClauses, headerNumber, endCard, imageOf}
 
 -- a card by its text up to its last character that is no blank

@@ -12,7 +12,8 @@ use lib.Dec.{eqb, ltb}
 use borrow.Author.Tests.{eq-eqb, ne-eqb, eqb-true, ltb-true, ltb-false}
 use Rattle.row_format.specs.Lists.{any}
 use Rattle.row_format.specs.Lists.Laws.{by-test, true-false}
-use Rattle.fits_format.specs.Card.{noInteger, isInteger, isDigit, digitsValue, signedDigits, fixedInteger}
+use Rattle.text.specs.Number.{isDigit}
+use Rattle.fits_format.specs.Card.{noInteger, isInteger, digitsValue, signedDigits, fixedInteger}
 use Rattle.fits_reader.specs.Clipped.{clipped, digitsClipped, NotBlank}
 
 -- ---- digits

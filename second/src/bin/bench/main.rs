@@ -8,6 +8,8 @@ mod fitted;
 mod heights;
 #[cfg(feature = "rows")]
 mod items;
+#[cfg(feature = "sheets")]
+mod maps;
 #[cfg(feature = "rows")]
 mod rows;
 #[cfg(feature = "sheets")]
@@ -29,7 +31,10 @@ fn main() {
         items::print();
     }
     #[cfg(feature = "sheets")]
-    scans::print();
+    {
+        scans::print();
+        maps::print();
+    }
     #[cfg(feature = "rows")]
     sizes::print();
 }

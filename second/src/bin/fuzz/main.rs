@@ -8,11 +8,12 @@
 //! Inputs in pages are read-only.
 //!
 //! The same seed makes the same calls in the same order. Each scene, a table,
-//! a sheet and a scan, has a seed of its own, which is told now and then and in
+//! a sheet, a scan and a map, has a seed of its own, which is told now and then and in
 //! every report: begun with it, the program comes to the case at once.
 
 mod fault;
 mod items;
+mod maps;
 mod records;
 mod rows;
 mod scans;
@@ -86,7 +87,7 @@ fn fuzz(first: u64, end: Instant, tally: &mut Tally) -> Outcome<()> {
 }
 
 fn one_call(random: &mut Random, scene: &Scene, tally: &mut Tally) -> Outcome<()> {
-    match random.below(22) {
+    match random.below(24) {
         0 => rows::check(random, scene, tally),
         1 => rows::plain_table(random, tally),
         2..=3 => rows::pack(random, scene, tally),
@@ -98,6 +99,8 @@ fn one_call(random: &mut Random, scene: &Scene, tally: &mut Tally) -> Outcome<()
         13..=14 => items::read(random, scene, tally),
         15..=16 => scans::header(random, scene, tally),
         17..=18 => scans::row(random, scene, tally),
+        19 => maps::read(random, scene, tally),
+        20 => maps::write(random, scene, tally),
         _ => records::write(random, scene, tally),
     }
 }

@@ -1,14 +1,16 @@
-//! A table, a sheet under it and a scan, whose parts are changed and called
-//! with.
+//! A table, a sheet under it, a scan and a map, whose parts are changed and
+//! called with.
 
 use second::generate::damage::{damaged_table, damages};
 use second::generate::entries::Entry;
+use second::generate::maps::{Sound, SORTS};
 use second::generate::mutations::mutate;
 use second::generate::rows::{row, row_length};
 use second::generate::scans::{self, scan, Scan};
 use second::generate::sheets::{sheet, Size};
 use second::generate::tables::any_table;
 use second::known::plain_table;
+use second::map::GROUPS;
 use second::memory::Lent;
 use second::opened::Opened;
 use second::random::Random;
@@ -23,6 +25,7 @@ pub struct Scene {
     /// The state before each record.
     pub states: Vec<State>,
     pub scan: Scan,
+    pub map: Sound,
     pub calls: usize,
 }
 
@@ -38,9 +41,11 @@ impl Scene {
         let row = row(random, model, n);
         let size = scans::Size { width: 4, rows: 2, ..scans::Size::any(random) };
         let scan = scan(random, model, size);
+        let (group, sort) = (random.pick(&GROUPS), random.pick(&SORTS));
+        let map = Sound::new(random, group, sort);
         // Fewer for a large table, which the library checks at every call.
         let calls = if bytes.len() < 5000 { 400 } else { 20 };
-        Scene { row, records, states: states(&entries), entries, scan, table, calls }
+        Scene { row, records, states: states(&entries), entries, scan, map, table, calls }
     }
 
     pub fn model(&self) -> &Table {

@@ -6,7 +6,7 @@ use mathlib.Core.Path.{_≡_, refl, sym, ap, _∙_}
 use mathlib.Core.Bool.{true}
 use lib.ListN.{length, drop, getD}
 use borrow.Author.Tests.{not-true, not-false}
-use Rattle.fits_format.specs.Card.{isDigit}
+use Rattle.text.specs.Number.{isDigit}
 use borrow.Author.Needs.{needs}
 use Rattle.fits_reader.specs.Clipped.{digitsClipped}
 use Rattle.fits_reader.specs.Clipped.Laws as laws

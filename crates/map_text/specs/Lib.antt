@@ -1,0 +1,4 @@
+pub mod MapText
+pub mod Scan
+pub mod Held
+pub mod Theorems

@@ -1,0 +1,4 @@
+pub mod Putting
+pub mod Size
+pub mod Step
+pub mod Written

@@ -101,7 +101,8 @@ module _ (g : ℕ) (s m : List ℕ) (bytes : Below 256 s) (done : mapWritten g s
   pub mapRead-front : (rest m′ : List ℕ) → 32768 ≤ length m′
       → mapRead g (take (mapWritten g s m .answer .count) (mapWritten g s m .memory) ++ rest) (sum (halvesOf s)) m′
       ≡ wrote (length (mapBits (positionBits g) (halvesOf s))) (take 32768 s) m′
-  mapRead-front rest m′ room = rw (written, take-at (mapBytes k xs) (drop (length (mapBytes k xs)) m) (length (mapBytes k xs)) refl) (own-bytes rest m′ room)
+  mapRead-front rest m′ room =
+      rw (written, take-at (mapBytes k xs) (drop (length (mapBytes k xs)) m) (length (mapBytes k xs)) refl) (own-bytes rest m′ room)
 
   pub mapRead-mapWritten : (m′ : List ℕ) → 32768 ≤ length m′
       → mapRead g (mapWritten g s m .memory) (sum (halvesOf s)) m′

@@ -30,7 +30,8 @@ use Rattle.map_format.specs.Reading.Laws.{sum-zeros, sum-append, length-photon,
 use Rattle.map_format.specs.Calls.{mapGroups}
 use Rattle.mat_map.specs.Step.{prefixed, StepReads, part, codeOf, Around, Stored, Pixels, GroupReady, Dark, Groups}
 use Rattle.mat_map.specs.Step.Laws.{refuses, gets, passes, follows, farther}
-use Rattle.mat_map.specs.Step.Prefixed.{prefixed-none, prefixed-onto, readPixels-more, readPixels-stop, readGroups-more, readGroups-stop}
+use Rattle.mat_map.specs.Step.Prefixed.{prefixed-none, prefixed-twice}
+use Rattle.mat_map.specs.Step.Prefixed.{readPixels-more, readPixels-stop, readGroups-more, readGroups-stop}
 use Rattle.mat_map.specs.Step.Memory.{photon-most, around-none, around-both, around-set, getD-part, part-photon, take-zeros}
 use Rattle.mat_map.specs.Step.Memory.{drop-zeros}
 use Rattle.mat_map.specs.declared.field.Step.{Step}
@@ -204,8 +205,9 @@ module _ (b : List ℕ) (at n place : ℕ) (l : List ℕ) where
             around = around-both (q .around) (subst (Around place n l′) (sym put) (around-set place n l′ i h (x .value)));
             so-far =
                 by-next
-                ∙ ap (prefixed (part place i l′)) (readPixels-more (n - (i + 1)) (drop next b) (x .value) (drop (x .next) b) (r .goes z .read))
-                ∙ prefixed-onto (part place i l′) (x .value ∷ []) (readPixels (n - (i + 1)) (drop (x .next) b))
+                ∙ ap (prefixed (part place i l′))
+                (readPixels-more (n - (i + 1)) (drop next b) (x .value) (drop (x .next) b) (r .goes z .read))
+                ∙ prefixed-twice (part place i l′) (x .value ∷ []) (readPixels (n - (i + 1)) (drop (x .next) b))
                 ∙ ap (λ (xs : List ℕ). prefixed xs (readPixels (n - (i + 1)) (drop (x .next) b))) (sym front);
             sums =
                 ap (_+ x .value) (q .sums)
@@ -266,7 +268,8 @@ module _ (b : List ℕ) (k at place n : ℕ) (l l′ : List ℕ) (x : Step) (e :
 pub ready-later : {k at place next : ℕ} {l : List ℕ} → GroupReady k at place l → next ≤ at → GroupReady k next place l
 ready-later r h = record { some = r .some; few = r .few; near = omega (arith, r .near); room = r .room; none = r .none }
 
-module _ (b : List ℕ) (k at place : ℕ) (l : List ℕ) (x : Step) (h : StepReads b (at + 3) 4 (readCode (drop at b)) (codeOf (x .value)) x) where
+module _ (b : List ℕ) (k at place : ℕ) (l : List ℕ) (x : Step)
+    (h : StepReads b (at + 3) 4 (readCode (drop at b)) (codeOf (x .value)) x) where
   pub group-stop : (x .number ≡ 0 → ⊥) → Stored b (at + 3 + 22 * 2 ^ k) (readGroup k (drop at b)) place (2 ^ k) l l x
   unfolding readGroup
   group-stop n = record { reads = passes _ _ h n; photons = λ z. absurd (n z); around = around-none place (2 ^ k) l }
@@ -406,7 +409,7 @@ module _ (b : List ℕ) (k : ℕ) (few : k ≤ 4) where
               so-far =
                   by-group
                   ∙ ap (prefixed (take place l)) (readGroups-more k (left - 1) (drop at b) xs (drop (x .next) b) (g .reads .goes z .read))
-                  ∙ prefixed-onto (take place l) xs (readGroups k (left - 1) (drop (x .next) b))
+                  ∙ prefixed-twice (take place l) xs (readGroups k (left - 1) (drop (x .next) b))
                   ∙ ap (λ (ys : List ℕ). prefixed ys (readGroups k (left - 1) (drop (x .next) b))) (sym front);
               none =
                   g .around .back

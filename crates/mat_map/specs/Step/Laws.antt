@@ -96,7 +96,8 @@ module _ (c : Code) (rest : List ℕ → Parse Code) (b : List ℕ) (at far : �
         }))
 
     pub bit-zero : (x .value ≡ 1 → ⊥) → (y : Step) (far′ : ℕ) → far′ ≤ far
-        → StepReads b far′ 4 (rest (drop (x .next) b)) (codeOf (y .value)) y → StepReads b far 4 (bitOr c rest (drop at b)) (codeOf (y .value)) y
+        → StepReads b far′ 4 (rest (drop (x .next) b)) (codeOf (y .value)) y
+        → StepReads b far 4 (bitOr c rest (drop at b)) (codeOf (y .value)) y
     bit-zero l y far′ f g = follows _ _ h z (rw (ne-eqb (x .value) 1 l) (farther f (omega arith) g))
 
 -- the last bit
@@ -169,6 +170,7 @@ module _ (b : List ℕ) (at : ℕ) (x : Step) where
           low = h .goes z .low;
         }))
 
-    pub wide-bad : x .number ≡ 0 → x .value ≤ 17 → (y : Step) → y .number ≡ 20 → StepReads b (at + 16) 65536 (wideOnly (drop at b)) (y .value) y
+    pub wide-bad : x .number ≡ 0 → x .value ≤ 17 → (y : Step) → y .number ≡ 20
+        → StepReads b (at + 16) 65536 (wideOnly (drop at b)) (y .value) y
     wide-bad z l y e =
         follows _ _ h z (rw (le-ltb 17 (x .value) l) (refuses b (at + 16) 65536 _ _ y 19 e refl))

@@ -9,9 +9,9 @@ pub prefixed-none : (p : Parse (List ℕ)) → p ≡ prefixed [] p
 prefixed-none (stops e) = refl
 prefixed-none (got xs b) = refl
 
-pub prefixed-onto : (a c : List ℕ) (p : Parse (List ℕ)) → prefixed a (prefixed c p) ≡ prefixed (a ++ c) p
-prefixed-onto a c (stops e) = refl
-prefixed-onto a c (got xs b) = ap (λ (l : List ℕ). got l b) (sym (append-assoc a c xs))
+pub prefixed-twice : (a c : List ℕ) (p : Parse (List ℕ)) → prefixed a (prefixed c p) ≡ prefixed (a ++ c) p
+prefixed-twice a c (stops e) = refl
+prefixed-twice a c (got xs b) = ap (λ (l : List ℕ). got l b) (sym (append-assoc a c xs))
 
 -- ---- one pixel or group more
 module _ (n : ℕ) (b : List ℕ) where

@@ -132,13 +132,13 @@ comes-by g xs m text room is zero e =
 comes-by g xs m text room is (suc n) e = rw (is, e, written-refused g xs m (text-below text xs is) room n e)
 
 -- `write_map`, given the counts that are held and the memory m, answered a and left m′
-pub record Written (g : ℕ) (held m : List ℕ) (a : Answer) (m′ : List ℕ) : Type 0 where
+pub record MapAnswered (g : ℕ) (held m : List ℕ) (a : Answer) (m′ : List ℕ) : Type 0 where
   pub of : CountsOf held
   pub room : 46592 ≤ length m
   pub left : outcome a m′ ≡ mapWritten g held m
   pub same : length m′ ≡ length m
 
-module _ {g : ℕ} {held m : List ℕ} {a : Answer} {m′ : List ℕ} (w : Written g held m a m′) where
+module _ {g : ℕ} {held m : List ℕ} {a : Answer} {m′ : List ℕ} (w : MapAnswered g held m a m′) where
   converted : Makes g held (endOf (a .number) (take (a .count) m′) (sum (halvesOf held)))
   converted =
       let of = w .of in

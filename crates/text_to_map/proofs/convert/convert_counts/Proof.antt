@@ -1,7 +1,7 @@
 -- `text_to_map::convert::convert_counts` is safe: what it prints is the map, and the verdict that it says is its own. Assumes nothing.
 use mathlib.Core.Path.{sym}
 use lib.Seq.{length-take-le}
-use Rattle.text_to_map.specs.Made.Laws.{Written, ended-refused, map-of, ended-done, count-within}
+use Rattle.text_to_map.specs.Made.Laws.{MapAnswered, ended-refused, map-of, ended-done, count-within}
 use borrow.Author.Needs.{needs}
 use Rattle.text_to_map.proofs.convert.convert_counts.Statement.{statement}
 use Rattle.text_to_map.proofs.convert.convert_counts.Tie as tie
@@ -9,7 +9,7 @@ use Rattle.text_to_map.proofs.convert.convert_counts.Tie as tie
 -- what the call left
 written : (c : tie.After-write-map)
     → let args = c .before .before .before .before .args in
-    Written (args .group) (args .counts .now) (args .out .now) (c .write-map .result) (c .write-map .last .1 .1 .0)
+    MapAnswered (args .group) (args .counts .now) (args .out .now) (c .write-map .result) (c .write-map .last .1 .1 .0)
 written c =
     let start = c .before .before .before .before in
     record { of = start .pre .0; room = start .pre .1; left = c .write-map .ensures; same = c .write-map .kept .1 .1 .0 }

@@ -4,12 +4,12 @@
 # make compare    the comparisons with second/ in full
 # make bench      ratios beside second/, in one run on one machine
 # make fuzz       mutated inputs of the C calls against second/: ten minutes with the sanitizers in both, then two as shipped
-# make interop    scans that cfitsio writes, converted, against what it reads back; wants Debian's libcfitsio-dev
-# make samples    writes samples/ anew
+# make interop    pictures, PGM and scans beside pngcheck, netpbm, ImageMagick and cfitsio, as far as they are installed
+# make samples    writes samples/ and docs/morning.png anew
 # make version    writes VERSION where it is said again: the header and the programs
-# make install    programs, libraries, header, man pages and docs below PREFIX; needs no rt after make
+# make install    programs, libraries, header, man pages, docs and file types below PREFIX; needs no rt after make
 # make uninstall  removes what make install with the same variables has put there
-.PHONY: all build test compare bench fuzz interop have_cfitsio samples version install uninstall clean
+.PHONY: all build test compare bench fuzz interop samples version install uninstall clean
 # rt proves crates in parallel itself; two runs of it at once would write the same files.
 .NOTPARALLEL:
 
@@ -21,6 +21,8 @@ LIBDIR ?= $(PREFIX)/lib
 INCLUDEDIR ?= $(PREFIX)/include
 MANDIR ?= $(PREFIX)/share/man
 DOCDIR ?= $(PREFIX)/share/doc/tahliruz
+MIMEDIR ?= $(PREFIX)/share/mime
+THUMBNAILERDIR ?= $(PREFIX)/share/thumbnailers
 
 VERSION := $(shell cat VERSION)
 MAJOR := $(word 1,$(subst ., ,$(VERSION)))
@@ -29,7 +31,8 @@ MINOR := $(word 2,$(subst ., ,$(VERSION)))
 # looks for; from 1 on the major version alone is.
 SONAME := libtahliruz.so.$(if $(filter 0,$(MAJOR)),0.$(MINOR),$(MAJOR))
 
-PROGRAMS := target/bin/fits_to_sheet target/bin/list_map target/bin/list_sheet target/bin/list_table target/bin/text_to_map
+PROGRAMS := $(addprefix target/bin/,draw_sheet fits_to_sheet list_map list_sheet list_table pgm_to_sheet sheet_to_pgm \
+    sheet_to_text text_to_map)
 ARCHIVE := target/staticlib/libtahliruz.a
 SHARED := target/shared/libtahliruz.so.$(VERSION)
 SECOND := second/target/release
@@ -47,7 +50,7 @@ have_rt = command -v rt > /dev/null || { echo "rt, the Rattle toolchain, is not 
 # rt goes by contents and leaves what is proved already as it is, hence the touch.
 $(PROGRAMS) &: $(SOURCES)
 	@$(have_rt)
-	rt check fits_to_sheet list_map list_sheet list_table text_to_map
+	rt check $(notdir $(PROGRAMS))
 	@touch $(PROGRAMS)
 
 $(ARCHIVE): $(SOURCES)
@@ -73,10 +76,11 @@ compare: $(ARCHIVE) $(PROGRAMS)
 	@$(SECOND)/compare_maps 200000
 	@$(SECOND)/compare_listers target/bin/list_sheet target/bin/list_table 2000
 	@$(SECOND)/compare_converter target/bin/fits_to_sheet 2000
+	@$(SECOND)/compare_desk target/bin 2000
 
-bench: $(ARCHIVE)
+bench: $(ARCHIVE) $(PROGRAMS)
 	@tests/second timed
-	@second/target/timed/bench
+	@second/target/timed/bench target/bin
 
 fuzz:
 	@tests/sanitized
@@ -84,25 +88,27 @@ fuzz:
 	@tests/second build
 	@$(SECOND)/fuzz 120 5
 
-# The package is asked for first: a build may take long.
-interop: have_cfitsio build
+interop: build
 	@tests/interop
 
-have_cfitsio:
-	@tests/interop package
-
-samples: $(ARCHIVE)
+samples: $(ARCHIVE) $(PROGRAMS)
 	$(CC) $(CFLAGS) -Iinclude -o target/make_samples samples/make_samples.c $(ARCHIVE)
 	target/make_samples samples
 	$(CC) $(CFLAGS) -Iinclude -o target/make_maps samples/make_maps.c $(ARCHIVE)
 	target/make_maps samples
+	target/bin/draw_sheet -o docs/morning.png --map samples/foot.map --group 4 --total 40561 samples/morning.sheet
 
 version:
 	package/version
 
+# The file manager's database is made anew from its packages. Where DESTDIR is given, whoever puts the files in place does that.
+update_mime = [ -n "$(DESTDIR)" ] || [ ! -d "$(MIMEDIR)/packages" ] || ! command -v update-mime-database > /dev/null \
+    || update-mime-database "$(MIMEDIR)"
+
 install: build
 	install -d "$(DESTDIR)$(BINDIR)" "$(DESTDIR)$(LIBDIR)/pkgconfig" "$(DESTDIR)$(INCLUDEDIR)" \
-	    "$(DESTDIR)$(MANDIR)/man1" "$(DESTDIR)$(MANDIR)/man3" "$(DESTDIR)$(DOCDIR)/examples"
+	    "$(DESTDIR)$(MANDIR)/man1" "$(DESTDIR)$(MANDIR)/man3" "$(DESTDIR)$(DOCDIR)/examples" \
+	    "$(DESTDIR)$(MIMEDIR)/packages" "$(DESTDIR)$(THUMBNAILERDIR)"
 	install -m 755 $(PROGRAMS) "$(DESTDIR)$(BINDIR)"
 	install -m 644 $(ARCHIVE) $(SHARED) "$(DESTDIR)$(LIBDIR)"
 	ln -sf libtahliruz.so.$(VERSION) "$(DESTDIR)$(LIBDIR)/$(SONAME)"
@@ -117,6 +123,9 @@ install: build
 	    echo .so man3/tahliruz.3 | install -m 644 /dev/stdin "$(DESTDIR)$(MANDIR)/man3/$$call.3" || exit; done
 	install -m 644 docs/FORMAT.md "$(DESTDIR)$(DOCDIR)"
 	install -m 644 examples/*.c "$(DESTDIR)$(DOCDIR)/examples"
+	install -m 644 package/tahliruz-mime.xml "$(DESTDIR)$(MIMEDIR)/packages/tahliruz.xml"
+	install -m 644 package/tahliruz.thumbnailer "$(DESTDIR)$(THUMBNAILERDIR)"
+	@$(update_mime)
 
 uninstall:
 	rm -f $(patsubst target/bin/%,"$(DESTDIR)$(BINDIR)/%",$(PROGRAMS))
@@ -126,7 +135,9 @@ uninstall:
 	rm -f $(patsubst target/bin/%,"$(DESTDIR)$(MANDIR)/man1/%.1",$(PROGRAMS)) "$(DESTDIR)$(MANDIR)/man3/tahliruz.3"
 	for call in $$(package/calls); do rm -f "$(DESTDIR)$(MANDIR)/man3/$$call.3"; done
 	rm -f "$(DESTDIR)$(DOCDIR)/FORMAT.md" $(patsubst %,"$(DESTDIR)$(DOCDIR)/%",$(wildcard examples/*.c))
+	rm -f "$(DESTDIR)$(MIMEDIR)/packages/tahliruz.xml" "$(DESTDIR)$(THUMBNAILERDIR)/tahliruz.thumbnailer"
 	-rmdir "$(DESTDIR)$(DOCDIR)/examples" "$(DESTDIR)$(DOCDIR)"
+	@$(update_mime)
 
 clean:
 	rm -rf target second/target

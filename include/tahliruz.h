@@ -59,10 +59,10 @@ extern "C" {
 #endif
 
 /* The version of this header. While MAJOR is 0, a new MINOR may change structs and calls. */
-#define TAHLIRUZ_VERSION "0.2.1"
+#define TAHLIRUZ_VERSION "0.2.2"
 #define TAHLIRUZ_VERSION_MAJOR 0
 #define TAHLIRUZ_VERSION_MINOR 2
-#define TAHLIRUZ_VERSION_PATCH 1
+#define TAHLIRUZ_VERSION_PATCH 2
 
 /* Sizes that are always enough. */
 #define TAHLIRUZ_MAX_PIXELS 4096            /* the pixels of a row */

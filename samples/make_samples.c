@@ -1,9 +1,10 @@
 /*
- * Makes the samples anew: make_samples FOLDER writes foot.fits, morning.sheet, damaged.sheet, small.sheet, plain.table and
- * memo.table there.
+ * Makes the samples anew: make_samples FOLDER writes foot.fits, morning.sheet, torn.sheet, damaged.sheet, small.sheet,
+ * plain.table and memo.table there.
  *
- * foot.fits is the scan of a made-up foot: rows of heights over a footprint, with the noise of a scanner, a few bad spots,
- * and a pin that stands out further than the plain table's steps reach. The morning's sheet is that scan's sheet. The small
+ * foot.fits is the scan of a made-up foot: rows of heights over its cast, with the noise of a scanner and a few bad spots; at
+ * the cast's edge heights differ by more than the plain table's steps reach. The morning's sheet is that scan's sheet. The torn
+ * one lacks three of its rows, and 16 bytes of another are lost: reading stops there, with whole records behind. The small
  * sheet has every fortieth row of such a foot, of a row every tenth pixel, a bad spot, a plain row and a contour line; the
  * damaged one ends within a row.
  */
@@ -29,23 +30,51 @@ static uint32_t noise(uint32_t limit)
     return (noise_state >> 16) % limit;
 }
 
-/* Half the footprint's width at row y: a heel, a waist, a ball and toes. */
-static int half_width(int y)
+/* A part of the foot, an ellipse seen from above: its middle, half its length and half its width. */
+struct part {
+    int y, x, ry, rx;
+};
+
+static const struct part foot[] = {
+    { 240, 74, 70, 42 }, /* the heel */
+    { 170, 77, 90, 46 }, /* the instep */
+    { 112, 82, 56, 60 }, /* the ball */
+    { 44, 118, 38, 20 }, { 36, 86, 30, 13 }, { 46, 62, 26, 12 }, { 60, 41, 22, 11 }, { 78, 24, 18, 10 },
+};
+#define PARTS (int)(sizeof foot / sizeof *foot)
+
+/* How high a part is at a place, in thousandths: all of them in its middle, less towards its edge, none outside. */
+static int thousandths(const struct part *part, int y, int x)
 {
-    static const int at[9] = { 0, 26, 33, 30, 24, 27, 40, 44, 12 };
-    int part = y * 8 / ROWS, from = part * ROWS / 8, next = (part + 1) * ROWS / 8;
-    return at[part] + (at[part + 1] - at[part]) * (y - from) / (next - from);
+    int dy = y - part->y, dx = x - part->x;
+    int far = 1000 * dy * dy / (part->ry * part->ry) + 1000 * dx * dx / (part->rx * part->rx);
+    return far < 1000 ? 1000 - far : 0;
 }
 
-/* The height above the glass at a pixel: flat outside the foot, a dome inside that is lowest under heel and ball. */
+/* The cast of a left foot that stands on its sole, higher from the toes to the ankle; 0 where there is only glass. */
+static int cast_above(int y, int x)
+{
+    int most = 0, ridge = y < 220 ? 1400 + 10 * y : 3600;
+    for (int i = 0; i < PARTS; i++)
+        if (thousandths(&foot[i], y, x) > most)
+            most = thousandths(&foot[i], y, x);
+    return ridge * most / 1000;
+}
+
+/* The foot's left edge in a row, or PIXELS. */
+static int left_edge(int y)
+{
+    int x = 0;
+    while (x < PIXELS && cast_above(y, x) == 0)
+        x++;
+    return x;
+}
+
+/* The height at a pixel, above the glass at 40, with the noise of a scanner. */
 static uint16_t height(int y, int x)
 {
-    int w = half_width(y), dx = abs(x - PIXELS / 2);
-    if (dx >= w)
-        return (uint16_t)(40 + noise(5));
-    int dome = 900 - 620 * dx * dx / (w * w);
-    int arch = y > 110 && y < 200 ? (y - 110) * (200 - y) / 9 : 0;
-    return (uint16_t)(200 + dome / 2 + arch / 4 + (int)noise(9));
+    int cast = cast_above(y, x);
+    return (uint16_t)(40 + cast + (int)noise(cast == 0 ? 5 : 9));
 }
 
 static void make_row(int y, uint8_t *pixels)
@@ -56,8 +85,6 @@ static void make_row(int y, uint8_t *pixels)
             h = TAHLIRUZ_BAD_PIXEL;
         else if (noise(2500) == 0)
             h = TAHLIRUZ_BAD_BIAS;
-        if (y == 150 && x == 80)
-            h = 3100;
         pixels[2 * x] = (uint8_t)h;
         pixels[2 * x + 1] = (uint8_t)(h >> 8);
     }
@@ -141,6 +168,26 @@ static void make_sheet(const char *folder, uint8_t rows[ROWS][2 * PIXELS])
     finish(f);
 }
 
+/* The same without rows 60 to 62, and with zeros over the words of row 190 from byte 100 on. */
+static void make_torn(const char *folder, uint8_t rows[ROWS][2 * PIXELS])
+{
+    FILE *f = create(folder, "torn.sheet");
+    struct tahliruz_sheet state = { 0, 0 };
+    append(f, &state, TAHLIRUZ_KIND_TABLE, 0, plain, sizeof plain);
+    for (int y = 0; y < ROWS; y++) {
+        if (y >= 60 && y <= 62)
+            continue;
+        long start = ftell(f);
+        append(f, &state, TAHLIRUZ_KIND_PACKED, (uint32_t)y, rows[y], 2 * PIXELS);
+        if (y == 190) {
+            fseek(f, start + 10 + 100, SEEK_SET);
+            fwrite((const uint8_t[16]){ 0 }, 1, 16, f);
+            fseek(f, 0, SEEK_END);
+        }
+    }
+    finish(f);
+}
+
 static void make_foot(const char *folder)
 {
     static uint8_t rows[ROWS][2 * PIXELS];
@@ -148,6 +195,7 @@ static void make_foot(const char *folder)
         make_row(y, rows[y]);
     make_fits(folder, rows);
     make_sheet(folder, rows);
+    make_torn(folder, rows);
 }
 
 /* A sheet of three rows, the last cut off after its second word: six whole items of 10 bits, and 4 bits of the seventh. */
@@ -186,7 +234,7 @@ static void make_small(const char *folder)
             memcpy(few + 14, (const uint8_t[2]){ TAHLIRUZ_BAD_PIXEL & 255, TAHLIRUZ_BAD_PIXEL >> 8 }, 2);
         append(f, &state, y == 180 ? TAHLIRUZ_KIND_PLAIN : TAHLIRUZ_KIND_PACKED, (uint32_t)y, few, sizeof few);
         for (int b = 0; b < 4; b++)
-            edges[y / 40 * 4 + b] = (uint8_t)((uint32_t)(PIXELS / 2 - half_width(y)) >> (8 * b));
+            edges[y / 40 * 4 + b] = (uint8_t)((uint32_t)left_edge(y) >> (8 * b));
     }
     append(f, &state, TAHLIRUZ_KIND_LINE, 0, edges, sizeof edges);
     finish(f);

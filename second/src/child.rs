@@ -1,8 +1,10 @@
 //! A program run with bytes on its standard input.
 
+use std::ffi::OsString;
+use std::fs::File;
 use std::io::{self, Read, Write};
 use std::path::Path;
-use std::process::{Child, Command, Stdio};
+use std::process::{Child, ChildStdin, Command, Stdio};
 use std::sync::mpsc;
 use std::thread;
 use std::time::Duration;
@@ -40,27 +42,42 @@ pub struct Printed {
     pub complaints: Vec<u8>,
 }
 
+/// Where a program's standard input comes from.
+#[derive(Clone, Copy)]
+pub enum Source<'a> {
+    Pipe(&'a [u8], Feed),
+    File(&'a Path),
+}
+
+impl Source<'_> {
+    fn stdin(self) -> io::Result<Stdio> {
+        Ok(match self {
+            Source::Pipe(..) => Stdio::piped(),
+            Source::File(path) => File::open(path)?.into(),
+        })
+    }
+}
+
 /// Runs the program with the input, and gives what it printed.
 pub fn run(program: &Path, input: &[u8], feed: Feed) -> Result<Printed, String> {
-    let mut child = Command::new(program)
-        .stdin(Stdio::piped())
-        .stdout(Stdio::piped())
-        .stderr(Stdio::piped())
-        .spawn()
+    run_with(program, &[], Source::Pipe(input, feed))
+}
+
+/// The same with words behind its name.
+pub fn run_with(program: &Path, words: &[OsString], source: Source) -> Result<Printed, String> {
+    let mut child = source
+        .stdin()
+        .and_then(|stdin| {
+            let mut command = Command::new(program);
+            command.args(words).stdin(stdin).stdout(Stdio::piped()).stderr(Stdio::piped()).spawn()
+        })
         .map_err(|error| format!("cannot run: {error}"))?;
-    let mut to_child = child.stdin.take().expect("a pipe was asked for");
+    let to_child = child.stdin.take();
     let mut out = child.stdout.take().expect("a pipe was asked for");
     let mut complaints = child.stderr.take().expect("a pipe was asked for");
     let (sender, receiver) = mpsc::channel();
     thread::scope(|scope| {
-        scope.spawn(move || {
-            // A refused input need not be read to its end.
-            let _ = input.chunks(feed.piece).try_for_each(|piece| {
-                let written = to_child.write_all(piece);
-                thread::sleep(feed.pause);
-                written
-            });
-        });
+        scope.spawn(move || feed(to_child, source));
         let complaints = scope.spawn(move || all_of(&mut complaints));
         scope.spawn(move || sender.send(all_of(&mut out)));
         let out = receiver.recv_timeout(LIMIT);
@@ -72,6 +89,17 @@ pub fn run(program: &Path, input: &[u8], feed: Feed) -> Result<Printed, String> 
             Err(_) => Err(format!("still running after {LIMIT:?}")),
         }
     })
+}
+
+fn feed(to_child: Option<ChildStdin>, source: Source) {
+    if let (Some(mut to_child), Source::Pipe(input, feed)) = (to_child, source) {
+        // A refused input need not be read to its end.
+        let _ = input.chunks(feed.piece).try_for_each(|piece| {
+            let written = to_child.write_all(piece);
+            thread::sleep(feed.pause);
+            written
+        });
+    }
 }
 
 fn all_of(pipe: &mut impl Read) -> io::Result<Vec<u8>> {
@@ -124,6 +152,17 @@ mod tests {
             (&given.out[..], &given.complaints[..]),
             (&b"listed\n"[..], &b"complained\n"[..])
         );
+    }
+
+    #[test]
+    fn words_and_files() {
+        let words = ["-c".into(), "read word; echo $1 $word".into(), "sh".into(), "given".into()];
+        let path = std::env::temp_dir().join(format!("second-child-{}", std::process::id()));
+        std::fs::write(&path, "read\n").unwrap();
+        let printed = run_with(Path::new("sh"), &words, Source::File(&path));
+        std::fs::remove_file(&path).unwrap();
+        assert_eq!(printed, only_output(b"given read\n"));
+        assert!(run_with(Path::new("sh"), &words, Source::File(&path)).is_err());
     }
 
     #[test]

@@ -8,11 +8,12 @@ mod header;
 mod tests;
 
 use crate::answers::{Answer, Image};
+use crate::conversion::{Conversion, Verdict};
 use crate::known::plain_table;
 use crate::reader::Codec;
 use crate::refusal::{DONE, FITS_HEADER, IMAGE_END, PIXEL, ROOM, TOO_MANY};
 use crate::row::{MAX_PIXELS, PIXEL_SPOT};
-use crate::sheet::{write_record, State, KIND_PACKED, KIND_TABLE};
+use crate::sheet::{write_record, State, KIND_PACKED};
 use header::Header;
 
 pub const CARD_BYTES: usize = 80;
@@ -26,63 +27,25 @@ pub const MAX_AXIS: usize = MAX_PIXELS;
 /// The plain table's record.
 pub const TABLE_RECORD_BYTES: usize = 2078;
 
-/// No record of a row is longer: 4096 heights written in 14 bits each.
-const MOST_ROW_BYTES: usize = 10 + MAX_PIXELS * 14 / 8;
-
-/// How the making of a sheet ends.
-#[derive(Clone, Copy, PartialEq, Eq, Debug)]
-pub enum Verdict {
-    Done { rows: usize },
-    Header { number: u32 },
-    Row { number: u32, row: usize },
-}
-
-impl Verdict {
-    /// The line that a program ends with.
-    pub fn line(self) -> String {
-        match self {
-            Verdict::Done { rows } => format!("done rows {rows}\n"),
-            Verdict::Header { number } => format!("refused {number}\n"),
-            Verdict::Row { number, row } => format!("refused {number} at row {row}\n"),
-        }
-    }
-
-    pub fn number(self) -> u32 {
-        match self {
-            Verdict::Done { .. } => DONE,
-            Verdict::Header { number } | Verdict::Row { number, .. } => number,
-        }
-    }
-}
-
-/// Makes sheets of scans. The plain table is read and its record written once.
-pub struct Converter {
-    codec: Codec,
-    record: Vec<u8>,
-    state: State,
-}
+/// Makes sheets of scans, under the plain table.
+pub struct Converter(Conversion);
 
 impl Default for Converter {
     fn default() -> Converter {
-        let plain = plain_table();
-        let codec = Codec::open(&plain).expect("the plain table is accepted");
-        let mut record = vec![0; TABLE_RECORD_BYTES];
-        let kind = KIND_TABLE.into();
-        let written = write_record(State::default(), Err(0), kind, 0, &plain, &mut record);
-        assert_eq!((written.number, written.bytes), (DONE, TABLE_RECORD_BYTES));
-        Converter { codec, record, state: written.state }
+        Converter(Conversion::new(&plain_table()).expect("the plain table is accepted"))
     }
 }
 
 impl Converter {
     pub fn codec(&self) -> &Codec {
-        &self.codec
+        &self.0.codec
     }
 
     /// The header's call: judges the header and writes the table's record.
     pub fn header(&self, fits: &[u8], out: &mut [u8]) -> Image {
         let written = Header::read(fits).and_then(|header| {
-            out.get_mut(..self.record.len()).ok_or(ROOM)?.copy_from_slice(&self.record);
+            let record = &self.0.record;
+            out.get_mut(..record.len()).ok_or(ROOM)?.copy_from_slice(record);
             Ok(header)
         });
         match written {
@@ -91,7 +54,7 @@ impl Converter {
                 width: header.width as u32,
                 rows: header.rows as u32,
                 start: header.start as u32,
-                count: self.record.len() as u32,
+                count: self.0.record.len() as u32,
             },
             Err(number) => Image { number, ..Image::default() },
         }
@@ -114,8 +77,8 @@ impl Converter {
             return Err(TOO_MANY);
         }
         let pixels = row_pixels(image, width as usize)?;
-        let state = State { least_row: row as u32, ..self.state };
-        let table = Ok(&self.codec.table);
+        let state = State { least_row: row as u32, ..self.0.state };
+        let table = Ok(&self.codec().table);
         let written = write_record(state, table, KIND_PACKED.into(), row as u32, &pixels, out);
         if written.number != DONE {
             return Err(written.number);
@@ -123,30 +86,14 @@ impl Converter {
         Ok(written.bytes)
     }
 
-    /// A whole scan: the sheet as far as it comes, and how it ends. The state
-    /// goes from record to record, as it does where a sheet is written.
+    /// A whole scan: the sheet as far as it comes, and how it ends.
     pub fn sheet(&self, fits: &[u8]) -> (Vec<u8>, Verdict) {
-        let header = match Header::read(fits) {
+        let Header { width, rows, start } = match Header::read(fits) {
             Ok(header) => header,
             Err(number) => return (Vec::new(), Verdict::Header { number }),
         };
-        let mut sheet = self.record.clone();
-        let mut state = self.state;
-        let mut rest = fits.get(header.start..).unwrap_or_default();
-        let mut record = [0; MOST_ROW_BYTES];
-        for row in 0..header.rows {
-            let pixels = match row_pixels(rest, header.width) {
-                Ok(pixels) => pixels,
-                Err(number) => return (sheet, Verdict::Row { number, row }),
-            };
-            let (table, kind) = (Ok(&self.codec.table), KIND_PACKED.into());
-            let written = write_record(state, table, kind, row as u32, &pixels, &mut record);
-            assert_eq!(written.number, DONE, "a row of pixels has its place and its room");
-            sheet.extend_from_slice(&record[..written.bytes]);
-            state = written.state;
-            rest = &rest[pixels.len()..];
-        }
-        (sheet, Verdict::Done { rows: header.rows })
+        let from = |row: usize| fits.get(start + 2 * width * row..).unwrap_or_default();
+        self.0.sheet((0..rows).map(|row| row_pixels(from(row), width)))
     }
 }
 

@@ -1,6 +1,6 @@
-//! A second program for the truncated Huffman first-difference code and for
-//! pressure mat maps, written from the papers alone and compared with the proved
-//! library.
+//! A second program for the truncated Huffman first-difference code, for
+//! pressure mat maps and for pictures of sheets, written from the papers alone
+//! and compared with the proved library and the proved programs.
 //!
 //! The programs link `libtahliruz.a` from the folder that `TAHLIRUZ_LIB_DIR`
 //! names when they are built: by default its table check, with the feature
@@ -12,7 +12,9 @@
 //! `compare_maps` compare with it a given number of random inputs, `fuzz`
 //! changed ones for a given time, and `bench` times. `compare_listers` runs the
 //! two listing programs, `compare_converter` the one that turns scans into
-//! sheets. Each exits with 1 at the first difference and saves the case.
+//! sheets, `compare_desk` those that draw sheets and turn them into pictures,
+//! text and back; `desk` stands in for these where they are timed. Each that
+//! compares exits with 1 at the first difference and saves the case.
 
 pub mod adaptive;
 pub mod agreement;
@@ -22,6 +24,8 @@ pub mod child;
 pub mod command;
 #[cfg(feature = "rows")]
 pub mod compared;
+pub mod conversion;
+pub mod desk;
 #[cfg(feature = "check")]
 pub mod ffi;
 pub mod fits;
@@ -32,10 +36,14 @@ pub mod listing;
 pub mod map;
 pub mod memory;
 pub mod opened;
+pub mod pgm;
+pub mod picture;
+pub mod png;
 pub mod random;
 pub mod reader;
 pub mod refusal;
 pub mod row;
 pub mod sheet;
+pub mod stored;
 pub mod table;
 pub mod tally;

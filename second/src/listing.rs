@@ -1,40 +1,17 @@
 //! The text of the sheet lister and of the table lister.
 
-use std::fmt::Write;
-
-use crate::reader::Codec;
-use crate::refusal::{has_place, PLACE, TABLE_SHAPE};
-use crate::sheet::{judge_record, Content, State};
+use crate::refusal::has_place;
+use crate::sheet::{Content, Records};
 use crate::table::{Codeword, Table, BAD_BIAS, BAD_PIXEL, ESCAPE};
 
 /// Lists a whole sheet.
 pub fn list_sheet(sheet: &[u8]) -> String {
     let mut text = String::new();
-    if sheet.is_empty() {
-        text.push_str(&refused_line(PLACE, 0, 0));
-        return text;
-    }
-    let (mut rest, mut record, mut rows) = (sheet, 0, 0);
-    let mut state = State::default();
-    // Never looked at before the sheet's table is read.
-    let mut codec = Err(TABLE_SHAPE);
-    while !rest.is_empty() {
-        let answer = judge_record(state, codec.as_ref().map_err(|number| *number), rest);
-        let Some(content) = answer.content else {
-            text.push_str(&refused_line(answer.number, record, answer.at));
-            return text;
-        };
-        if matches!(content, Content::Table { .. }) {
-            codec = Codec::open(&rest[6..answer.used]);
-        }
-        rows += u32::from(matches!(content, Content::Packed { .. } | Content::Plain { .. }));
+    let mut records = Records::new(sheet);
+    while let Some(content) = records.next(None) {
         text.push_str(&content_line(&content));
-        state = answer.state;
-        rest = &rest[answer.used..];
-        record += 1;
     }
-    let _ = writeln!(text, "done rows {rows}");
-    text
+    text + &records.verdict()
 }
 
 /// A listing's last line; `bit` is counted from the row's first word.

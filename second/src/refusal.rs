@@ -37,6 +37,9 @@ pub const PLACE: u32 = 16;
 /// The FITS header is not of two axes of unscaled 16-bit pixels, or it has no
 /// END in ten blocks.
 pub const FITS_HEADER: u32 = 17;
+/// The PGM header is not of two axes of samples up to 4095, or it has no end in
+/// 65536 bytes.
+pub const PGM_HEADER: u32 = 17;
 /// The image's bytes end before the row does.
 pub const IMAGE_END: u32 = 18;
 /// The bits end before a map does.

@@ -1,12 +1,15 @@
 //! Sheets: records one after another, the table first.
 
 mod reader;
+mod records;
 mod writer;
 
 #[cfg(test)]
 mod tests;
 
+use reader::answer;
 pub use reader::{judge_record, read_record, Content, RecordAnswer};
+pub use records::Records;
 pub use writer::{write_record, WriteAnswer};
 
 pub const KIND_TABLE: u16 = 1;

@@ -1,1 +1,3 @@
 pub mod Argument
+pub mod Number
+pub mod Option

@@ -3,7 +3,9 @@
 pub mod argument;
 pub mod input;
 pub mod number;
+pub mod option;
 pub mod say;
+pub mod usage;
 
 use argument::Argument;
 use argument::argument_of;
@@ -123,6 +125,15 @@ pub fn open(program: &[u8], name: &[u8]) -> i32 {
         return STDIN_FILENO;
     }
     let file = os::open_read(name);
+    if file < 0 {
+        complain(program, name);
+    }
+    file
+}
+
+// A descriptor for writing to a file that is made, or overwritten; below 0 where that fails, which is said on standard error.
+pub fn open_output(program: &[u8], name: &[u8]) -> i32 {
+    let file = os::open_overwrite(name);
     if file < 0 {
         complain(program, name);
     }

@@ -44,9 +44,19 @@ fn begin(program: &[u8]) {
 
 // `PROGRAM: OPTION: unknown option`, of the option at place i.
 pub fn refuse_option(program: &[u8], i: usize) {
+    refuse_at(program, i, b"unknown option");
+}
+
+// The same where it is known, and what it takes is not there.
+pub fn refuse_lacking(program: &[u8], i: usize) {
+    refuse_at(program, i, b"a value is missing");
+}
+
+// `PROGRAM: WORD: text`, of the argument at place i.
+pub fn refuse_at(program: &[u8], i: usize, text: &[u8]) {
     let mut word = io::buffer();
     let n = word_at(i, &mut word);
-    hint(program, &word[..n], b"unknown option");
+    refuse_word(program, &word[..n], text);
 }
 
 // Whether a text was written to standard output; where not, standard error says why.

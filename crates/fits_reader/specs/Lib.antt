@@ -1,2 +1,3 @@
 pub mod Clipped
 pub mod Judged
+pub mod Verdict

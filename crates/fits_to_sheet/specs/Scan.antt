@@ -12,7 +12,7 @@ use Rattle.fits_format.specs.Header.{axis1, axis2, axisLength, headerNumber, im
 use Rattle.fits_format.specs.Image.{rowRecord, imageRowNumber}
 use Rattle.fits_format.specs.Conversion.{Conversion, conversion, rowAt}
 use Rattle.fits_to_sheet.specs.declared.rows.RowTurn.{RowTurn}
-use Rattle.fits_to_sheet.specs.Verdict.{verdictLine}
+use Rattle.fits_reader.specs.Verdict.{verdictLine}
 pub mod Header
 pub mod Rows
 pub mod Laws

@@ -1,13 +1,13 @@
 // The listing of one sheet.
 use crate::PROGRAM;
 use crate::turn::Turn;
-use crate::turn::begin;
 use crate::turn::take_turn;
 use crate::turn::unread;
 use code_table::check::check;
 use command::input::fill;
 use command::say::hint;
 use command::say::print;
+use sheet_stream::progress::begin;
 ghost use mathlib.Core.Path.{_≡_};
 ghost use mathlib.Core.Bool.{true, false};
 ghost use Prim.Native.Nat.{_≤_};
@@ -56,7 +56,8 @@ pub struct Records {
 // line     the record's line
 // at       what is carried; its index is a number that no run uses up, so that the loop ends
 // No contract can say that reading moves the input's next bytes, fewer than asked only at its end, and that writing moves the
-// line's bytes: only that is left to tests. With it each line is the listing's next (sheet_listing, `front-held`, `next-line`).
+// line's bytes: only that is left to tests. With it each line is the listing's next (sheet_format, `front-held`; sheet_listing,
+// `next-line`).
 fn list_records(
     file: i32,
     name: &[u8],

@@ -1,7 +1,6 @@
 // Lists sheets: of each a line for each record, then `done rows N` or `refused N at record K`, with `bit B` where a packed row
 // cannot be read. A sheet may have any length: one record is held at a time, and its line goes out as soon as it is known.
 mod files;
-mod input;
 mod list;
 mod turn;
 

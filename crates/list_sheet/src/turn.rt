@@ -1,34 +1,20 @@
 // One turn: a record is read and judged, and its line, or the last one, put into lent memory.
-use crate::input::fill_record;
-use sheet_format::RecordRead;
-use sheet_format::SheetState;
-use sheet_format::kind::is_row;
-use sheet_format::kind::is_table;
+use crate::PROGRAM;
 use sheet_listing::list_end;
 use sheet_listing::list_record;
-use text::put::put_bytes;
+use sheet_stream::input::fill_record;
+use sheet_stream::progress::SheetProgress;
+use sheet_stream::progress::keep_table;
+use sheet_stream::progress::number_at_end;
+use sheet_stream::progress::rows_after;
 ghost use mathlib.Core.Path.{_≡_};
 ghost use mathlib.Core.Bool.{true, false};
-ghost use Prim.Native.Nat.{_+_, _≤_, _<_};
+ghost use Prim.Native.Nat.{_≤_, _<_};
 ghost use lib.ListN.{length, take};
-ghost use Rattle.sheet_format.specs.Context.{newSheet, stateOf};
-ghost use Rattle.sheet_format.specs.Kinds.{kindOf};
 ghost use Rattle.sheet_listing.specs.Line.{lastLine};
-ghost use Rattle.sheet_listing.specs.Listing.{rowsOf};
-ghost use Rattle.sheet_listing.specs.Turns.{endNumber, turnOf};
-ghost use Rattle.list_sheet.specs.Step.{carriedBy, turnedBy, endTurn, tableAfter, CarriedFits, TurnMade};
-
-// What is carried from record to record.
-// state    what the sheet holds so far
-// kept     the bytes of its table
-// index    the records listed so far
-// rows     the rows among them
-pub struct ListProgress {
-    pub state: SheetState,
-    pub kept: usize,
-    pub index: u64,
-    pub rows: u64,
-}
+ghost use Rattle.sheet_listing.specs.Turns.{turnOf};
+ghost use Rattle.sheet_stream.specs.Progress.{carriedBy, CarriedFits};
+ghost use Rattle.list_sheet.specs.Step.{turnedBy, endTurn, TurnMade};
 
 // failed   whether reading failed, so that there is no line
 // last     whether the sheet has ended here
@@ -40,21 +26,7 @@ pub struct Turn {
     pub last: bool,
     pub taken: usize,
     pub count: usize,
-    pub next: ListProgress,
-}
-
-pub fn begin() -> ListProgress
-    ensures { λ r. ⌜ r ≡ record { state = stateOf newSheet; kept = 0; index = 0; rows = 0 } ⌝ }
-{
-    ListProgress {
-        state: SheetState {
-            has_table: 0,
-            least_row: 0,
-        },
-        kept: 0,
-        index: 0,
-        rows: 0,
-    }
+    pub next: SheetProgress,
 }
 
 // With what was read, at the front of `bytes`, the turn that sheet_listing defines (`turnOf`) is made.
@@ -64,7 +36,7 @@ pub fn take_turn(
     bytes: &mut [u8],
     table: &mut [u8],
     line: &mut [u8],
-    at: ListProgress,
+    at: SheetProgress,
 ) -> Turn
     requires { ⌜ 32778 ≤ length (now bytes) ⌝ }
     requires { ⌜ 32772 ≤ length (now table) ⌝ }
@@ -76,7 +48,7 @@ pub fn take_turn(
     ensures fits { λ r. ⌜ CarriedFits (r .next) (now (table .exit)) ⌝ }
     ensures made { λ r. ⌜ (r .failed ≡ false → TurnMade (take (r .taken) (now (bytes .exit))) at (now (table .entry)) r (now (table .exit)) (now (line .exit))) ⌝ }
 {
-    let got = fill_record(file, name, bytes);
+    let got = fill_record(&PROGRAM, name, file, bytes);
     let count = got.count;
     if got.failed {
         return unread(at);
@@ -87,15 +59,8 @@ pub fn take_turn(
     list_one(&bytes[..count], table, line, at)
 }
 
-// "A sheet with no records is refused 16".
-fn number_at_end(index: u64) -> u32
-    ensures { λ r. ⌜ r ≡ endNumber index ⌝ }
-{
-    if index == 0 { 16 } else { 0 }
-}
-
 // Reading failed.
-pub fn unread(at: ListProgress) -> Turn
+pub fn unread(at: SheetProgress) -> Turn
     ensures { λ r. ⌜ r ≡ record { failed = true; last = true; taken = 0; count = 0; next = at } ⌝ }
 {
     Turn {
@@ -108,7 +73,7 @@ pub fn unread(at: ListProgress) -> Turn
 }
 
 // The last line.
-fn end(taken: usize, number: u32, bit: u32, at: ListProgress, line: &mut [u8]) -> Turn
+fn end(taken: usize, number: u32, bit: u32, at: SheetProgress, line: &mut [u8]) -> Turn
     requires { ⌜ 128 ≤ length (now line) ⌝ }
     ensures turn { λ r. ⌜ r ≡ endTurn taken number bit at ⌝ }
     ensures within { λ r. ⌜ r .count ≤ length (now (line .exit)) ⌝ }
@@ -126,7 +91,7 @@ fn end(taken: usize, number: u32, bit: u32, at: ListProgress, line: &mut [u8]) -
 }
 
 // The record's line goes to `line`, and a table to `table`.
-fn list_one(bytes: &[u8], table: &mut [u8], line: &mut [u8], at: ListProgress) -> Turn
+fn list_one(bytes: &[u8], table: &mut [u8], line: &mut [u8], at: SheetProgress) -> Turn
     requires { ⌜ 0 < length (now bytes) ⌝ }
     requires { ⌜ 32772 ≤ length (now table) ⌝ }
     requires { ⌜ 128 ≤ length (now line) ⌝ }
@@ -154,33 +119,11 @@ fn list_one(bytes: &[u8], table: &mut [u8], line: &mut [u8], at: ListProgress) -
         last: false,
         taken: bytes.len(),
         count,
-        next: ListProgress {
+        next: SheetProgress {
             state,
             kept,
             index: at.index + 1,
             rows,
         },
     }
-}
-
-// A table is kept for the rows that follow. The answer is its bytes, or those known before.
-fn keep_table(read: RecordRead, bytes: &[u8], table: &mut [u8], known: usize) -> usize
-    requires { ⌜ 32772 ≤ length (now table) ⌝ }
-    requires { ⌜ known ≤ length (now table) ⌝ }
-    requires { ⌜ (6 ≤ read .length) × (read .length ≤ 32778) × (read .length ≤ length (now bytes)) ⌝ }
-    ensures within { λ r. ⌜ r ≤ length (now (table .entry)) ⌝ }
-    ensures table { λ r. ⌜ take r (now (table .exit)) ≡ tableAfter read (take known (now (table .entry))) (now (bytes .entry)) ⌝ }
-{
-    if is_table(read.kind) {
-        let end = read.length as usize;
-        return put_bytes(table, 0, &bytes[6..end]);
-    }
-    known
-}
-
-fn rows_after(kind: u32, rows: u64) -> u64
-    requires { ⌜ rows < 18446744073709551615 ⌝ }
-    ensures { λ r. ⌜ r ≡ rows + rowsOf (kindOf kind .holds) ⌝ }
-{
-    if is_row(kind) { rows + 1 } else { rows }
 }

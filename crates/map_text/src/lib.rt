@@ -3,3 +3,4 @@
 pub mod counts;
 pub mod map;
 pub mod scan;
+pub mod spaced;

@@ -1,12 +1,12 @@
 // A map's counts, two little-endian bytes each, as text.
-use row_pixels::pixel_at;
+use crate::spaced::put_count;
+use crate::spaced::put_spaced;
 use text::line::put_refused_line;
 use text::number::put_field;
 use text::put::put_bytes;
-ghost use Prim.Native.Nat.{_+_, _/_, _≤_, _<_};
-ghost use lib.ListN.{length, take, drop, getD};
+ghost use Prim.Native.Nat.{_+_, _/_, _≤_};
+ghost use lib.ListN.{length, take, drop};
 ghost use Rattle.bitstream.specs.Bits.{halvesOf};
-ghost use Rattle.text.specs.Text.{field};
 ghost use Rattle.text.specs.Put.{Put};
 ghost use Rattle.map_text.specs.MapText.{rowText, mapText, doneBitsLine, listingText};
 
@@ -51,7 +51,6 @@ fn put_map(out: &mut [u8], counts: &[u8]) -> usize
 }
 
 // The row whose counts are those from `first` on.
-// next   the place after its first count and i more
 fn put_row(out: &mut [u8], at: usize, counts: &[u8], first: usize) -> usize
     requires { ⌜ at + 800 ≤ length (now out) ⌝ }
     requires { ⌜ first + 128 ≤ length (now counts) / 2 ⌝ }
@@ -59,23 +58,7 @@ fn put_row(out: &mut [u8], at: usize, counts: &[u8], first: usize) -> usize
         r (now (out .exit)) ⌝ }
     ensures most { λ r. ⌜ r ≤ at + 768 ⌝ }
 {
-    let mut next = put_count(out, at, b"", counts, first);
-    let mut i = 0;
-    while i < 127 {
-        next = put_count(out, next, b" ", counts, first + 1 + i);
-        i += 1;
-    }
-    put_bytes(out, next, b"\n")
-}
-
-// Some words and a count, which has at most 5 digits.
-fn put_count(out: &mut [u8], at: usize, words: &[u8], counts: &[u8], i: usize) -> usize
-    requires { ⌜ at + length (now words) + 20 ≤ length (now out) ⌝ }
-    requires { ⌜ i < length (now counts) / 2 ⌝ }
-    ensures put { λ r. ⌜ Put (now (out .entry)) at (field (now (words .entry)) (getD (halvesOf (now (counts .entry))) i 0))
-        r (now (out .exit)) ⌝ }
-    ensures most { λ r. ⌜ r ≤ at + length (now (words .entry)) + 5 ⌝ }
-{
-    let count = pixel_at(counts, i);
-    put_field(out, at, words, count as u64)
+    let next = put_count(out, at, b"", counts, first);
+    let end = put_spaced(out, next, counts, first + 1, 127);
+    put_bytes(out, end, b"\n")
 }

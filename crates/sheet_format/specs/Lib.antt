@@ -7,6 +7,8 @@ pub mod Record
 pub mod Reading
 pub mod Writing
 pub mod Sheet
+pub mod Size
+pub mod Stream
 pub mod Given
 pub mod Theorems
 pub mod Cases

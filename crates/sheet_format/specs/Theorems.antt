@@ -48,6 +48,7 @@ pub mod Memory
 pub mod Locality
 pub mod Room
 pub mod Rising
+pub mod Rows
 pub mod TableFirst
 pub mod Sheets
 pub mod Numbers
@@ -55,6 +56,7 @@ pub mod State
 pub mod Stored
 pub mod Place
 pub mod Reached
+pub mod StoredRows
 
 -- ---- what is written is read back
 -- From the bytes that a done write counts, whatever follows them, and with room for the content, reading gives number 0, the

@@ -14,6 +14,7 @@ use Rattle.sheet_format.specs.Sheet.{recordHere}
 use Rattle.sheet_listing.specs.declared.ListedRecord.{ListedRecord}
 use Rattle.sheet_listing.specs.Line.{recordLine}
 pub mod Laws
+pub mod Given
 
 -- 5 where a line does not fit
 abbrev pub noRoom : List ℕ → List ℕ → ℕ

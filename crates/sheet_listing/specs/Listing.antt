@@ -3,7 +3,6 @@
 use Prim.Native.Nat.{ℕ}
 use mathlib.Core.List.{List, [], _∷_, _++_}
 use lib.ListN.{length}
-use Rattle.sheet_format.specs.Kind.{Payload, aTable, aRow, aLine, noPayload}
 use Rattle.sheet_format.specs.Sheet.{SheetRecord, SheetRead, sheetRead, rowNumbers}
 use Rattle.sheet_listing.specs.Line.{recordLine, lastLine}
 pub mod Laws
@@ -20,10 +19,3 @@ lastOf s = lastLine (s .number) (s .place) (length (s .records)) (length (rowNum
 
 unfoldable pub listing : List ℕ → List ℕ
 listing bytes = recordLines (sheetRead bytes .records) ++ lastOf (sheetRead bytes)
-
--- whether a record counts as a row, as 1 or 0
-abbrev pub rowsOf : Payload → ℕ
-rowsOf aTable = 0
-rowsOf aRow = 1
-rowsOf aLine = 0
-rowsOf noPayload = 0

@@ -39,7 +39,7 @@ pub fn read(
 }
 
 // 14, or 0 where the length is in order: "2 to 32,774", and no more than the bytes left.
-fn length_number(sheet: &[u8]) -> u32
+pub fn length_number(sheet: &[u8]) -> u32
     ensures { λ r. ⌜ r ≡ lengthNumber (now (sheet .entry)) ⌝ }
 {
     if sheet.len() < 4 {

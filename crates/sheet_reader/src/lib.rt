@@ -9,6 +9,7 @@ mod plain;
 mod row;
 mod table;
 
+pub use frame::length_number;
 use sheet_format::RecordRead;
 use sheet_format::SheetState;
 ghost use mathlib.Core.Path.{_≡_};

@@ -1,6 +1,9 @@
 use super::*;
 use crate::listing::list_sheet;
 
+/// No record of a row is longer: 4096 heights written in 14 bits each.
+const MOST_ROW_BYTES: usize = 10 + MAX_PIXELS * 14 / 8;
+
 fn card(text: &str) -> String {
     format!("{text:<80}")
 }

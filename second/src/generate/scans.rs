@@ -161,7 +161,8 @@ impl Scan {
 #[cfg(test)]
 mod tests {
     use super::*;
-    use crate::fits::{Converter, Verdict};
+    use crate::conversion::Verdict;
+    use crate::fits::Converter;
 
     #[test]
     fn scans_keep_all_rules() {

@@ -18,6 +18,18 @@ pub enum Content {
     Line { numbers: u16 },
 }
 
+impl Content {
+    /// A row's number and pixels.
+    pub fn row(&self) -> Option<(u16, u16)> {
+        match *self {
+            Content::Packed { row, pixels, .. } | Content::Plain { row, pixels } => {
+                Some((row, pixels))
+            }
+            Content::Table { .. } | Content::Line { .. } => None,
+        }
+    }
+}
+
 #[derive(Clone, PartialEq, Eq, Debug)]
 pub struct RecordAnswer {
     pub number: u32,
@@ -61,7 +73,8 @@ pub fn read_record(
     answer(state, codec, bytes, Some(lent))
 }
 
-fn answer(
+/// Judges a record, and gives its content where memory is lent.
+pub fn answer(
     state: State,
     codec: Result<&Codec, u32>,
     bytes: &[u8],

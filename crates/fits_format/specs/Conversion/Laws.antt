@@ -6,7 +6,10 @@ use mathlib.Core.Path.{_≡_, refl, sym, ap, _∙_}
 use mathlib.Core.List.{List, _++_}
 use lib.ListN.{drop}
 use lib.Seq.{drop-drop}
+use lib.Dec.{ltb}
+use borrow.Author.Tests.{ltb-true, ltb-false}
 use Rattle.answer.specs.Outcome.Laws.{unless-in}
+use Rattle.row_format.specs.Lists.Laws.{by-test}
 use Rattle.fits_format.specs.Image.{imageRow}
 use Rattle.fits_format.specs.Image.Call.{imageRow-number, imageRow-counted}
 use Rattle.fits_format.specs.Conversion.{RowsWritten, rowsEnd, rowFirst, rowCalls, rowAt, rowNumberAt, rowRecordAt, inOrder, FirstFault}
@@ -97,3 +100,28 @@ module _ (lends : ℕ → List ℕ) (w : ℕ) (image : List ℕ) where
       → let x = rowCalls lends w n 0 image in
       x .bytes ≡ inOrder (rowRecordAt w image) 0 (x .rows)
   rowCalls-bytes n = (rw (nothing-before) at (rowCalls-up-to n 0)) .bytes
+
+-- ---- where the first r rows are right, and row r is faulty or r is the last: the first fault is there
+module _ {numbers : ℕ → ℕ} {n k e : ℕ} (fault : FirstFault numbers n k e) (r : ℕ) (within : r ≤ n)
+    (right : (i : ℕ) → i < r → numbers i ≡ 0) (stops : r < n → numbers r ≡ 0 → ⊥) where
+  not-before : k < r → ⊥
+  not-before h =
+      let faulty = fault .faulty (omega (arith, h, within)) in
+      faulty .1 (faulty .0 ∙ right k h)
+
+  not-after : r < k → ⊥
+  not-after h = stops (omega (arith, h, fault .within)) (fault .before r h)
+
+  pub fault-place : k ≡ r
+  fault-place =
+      by-test (ltb k r)
+      (λ t. absurd (not-before (ltb-true k r t)))
+      (λ t. by-test (ltb r k)
+      (λ u. absurd (not-after (ltb-true r k u)))
+      (λ u. omega (arith, ltb-false k r t, ltb-false r k u)))
+
+  pub fault-number : r < n → e ≡ numbers r
+  fault-number h = fault .faulty (omega (arith, h, fault-place)) .0 ∙ ap numbers fault-place
+
+  pub fault-none : r ≡ n → e ≡ 0
+  fault-none h = fault .whole (fault-place ∙ h)

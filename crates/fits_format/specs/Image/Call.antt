@@ -8,21 +8,20 @@ use mathlib.Core.List.{List}
 use lib.ListN.{length, take, drop}
 use lib.Seq.{take-append-seam}
 use lib.Dec.{ltb, eqb}
-use borrow.Author.Tests.{le-ltb, eqb-false, ne-eqb, eq-eqb}
+use borrow.Author.Tests.{eqb-false, ne-eqb, eq-eqb}
 use Rattle.bitstream.specs.Bits.{Below}
 use Rattle.answer.specs.Outcome.{Outcome, outcome, wrote, refused, answerOf, refuseIf, _orElse_, unless, lent, roomNumber}
 use Rattle.answer.specs.declared.Answer.{Answer}
 use Rattle.answer.specs.Outcome.Laws.{orElse-zero-left, orElse-zero-right, orElse-same, lessNumber-zero, lessNumber-none, lessNumber-given, refuseIf-zero, unless-part, unless-first, unless-number, refuseIf-in, orElse-in}
 use Rattle.row_format.specs.Lists.{any}
-use Rattle.row_format.specs.Row.{pixelBytes, tooHigh}
-use Rattle.row_format.specs.Theorems.Words.{halvesOf-bytesOf}
+use Rattle.row_format.specs.Row.{pixelBytes}
 use Rattle.row_format.specs.Plain.{plainBytes}
 use Rattle.code_table.specs.Plain.Laws.{plain-accepted}
 use Rattle.sheet_format.specs.declared.RecordWritten.{RecordWritten}
 use Rattle.sheet_format.specs.Context.{contextOf}
-use Rattle.sheet_format.specs.Kind.Row.{rowPlace}
-use Rattle.sheet_format.specs.Kind.PackedRow.{packedGivenNumber}
 use Rattle.sheet_format.specs.Writing.{recordFor, recordWritten, writeNumber}
+use Rattle.fits_format.specs.Heights.{heightsRecord}
+use Rattle.fits_format.specs.Heights.Sheet.{heights-number}
 use Rattle.fits_format.specs.Image.{bigEndian, signedPixels, outOfRange, imageContext, rowRecord, beforePixels, imageRowNumber, imageRow}
 use Rattle.fits_format.specs.Image.Laws.{length-bigEndian, below-bigEndian, outOfRange-any, heights-same}
 
@@ -99,21 +98,6 @@ unless-done : {A : Type 0} (e : ℕ) (refusal : ℕ → A) (x y : A) → (e ≡ 
 unless-done zero refusal x y h = h refl
 unless-done (suc e) refusal x y h = refl
 
--- a packed row under the plain table is refused 4 and 5, and nothing else
-module _ (r : ℕ) (vs : List ℕ) (low : r ≤ 4095) (few : length vs ≤ 4096) (small : Below 65536 vs) where
-  place-none : rowPlace (imageContext r) (record { row = r }) ≡ 0
-  unfolding rowPlace
-  place-none = rw (le-ltb r r (omega arith), le-ltb 65535 r (omega (arith, low)))
-
-  given-high : packedGivenNumber (record { row = r }) (imageContext r) (pixelBytes vs) ≡ tooHigh vs
-  unfolding packedGivenNumber
-  given-high = rw (plain-accepted, halvesOf-bytesOf (length vs) vs refl small, lessNumber-none 4096 (length vs) 11 few)
-
-  pub packed-number : (room : ℕ) → writeNumber 2 (record { row = r }) (imageContext r) (pixelBytes vs) room
-      ≡ tooHigh vs orElse roomNumber (lent room) (length (recordFor 2 (record { row = r }) (imageContext r) (pixelBytes vs)))
-  unfolding writeNumber
-  packed-number room = rw (place-none, given-high)
-
 module _ (w r : ℕ) (s m : List ℕ) (bytes : Below 256 s) (stands : RowStands w r (length s)) where
   abbrev vs : List ℕ
   vs = bigEndian w s
@@ -128,10 +112,11 @@ module _ (w r : ℕ) (s m : List ℕ) (bytes : Below 256 s) (stands : RowStands 
 
   numbers-same : writeNumber 2 (record { row = r }) (imageContext r) (pixelBytes vs) (length m)
       ≡ imageRowNumber w r s (length m)
-  unfolding imageRowNumber
+  unfolding imageRowNumber heightsRecord
   numbers-same =
       let few : length vs ≤ 4096 = omega (arith, length-bigEndian w s, stands .narrow) in
-      packed-number r vs (stands .low) few (below-bigEndian w s bytes) (length m)
+      let low : r ≤ 65535 = omega (arith, stands .low) in
+      heights-number plainBytes plain-accepted r low vs few (below-bigEndian w s bytes) (length m)
       ∙ rw (← outOfRange-any vs, beforePixels-stands w r (length s) stands)
       (orElse-same (refuseIf (any outOfRange (signedPixels w s)) 4) _ _
       (λ e. ap (λ (b : List ℕ). roomNumber (lent (length m)) (length b)) (own-record e)))

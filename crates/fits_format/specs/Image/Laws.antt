@@ -1,12 +1,12 @@
 -- The laws of an image's pixels. Assumes nothing.
-use Prim.Native.Nat.{ℕ, zero, suc, _+_, _*_, _<_}
+use Prim.Native.Nat.{ℕ, zero, suc, _+_, _*_, _≤_, _<_}
 use native.Mathlib.Nat.{not-suc-le-zero, le-of-suc-le-suc}
 use native.Mathlib.Omega.{arith}
 use mathlib.Core.Path.{_≡_, refl, sym, ap, _∙_}
 use mathlib.Core.Bool.{false}
-use mathlib.Core.List.{List, [], _∷_, map}
+use mathlib.Core.List.{List, [], _∷_, _++_, map}
 use lib.ListN.{length, take, drop, getD}
-use lib.Seq.{getD-drop}
+use lib.Seq.{getD-drop, take-append-le}
 use lib.Dec.{ltb}
 use lib.IntN.{pos}
 use borrow.Author.Tests.{ltb-false, lt-ltb}
@@ -52,6 +52,10 @@ bigEndian-take zero s = refl
 bigEndian-take (suc n) [] = rw (twice n)
 bigEndian-take (suc n) (x ∷ []) = rw (twice n)
 bigEndian-take (suc n) (x ∷ y ∷ s) = rw (twice n, bigEndian-take n s)
+
+pub bigEndian-front : (n : ℕ) (s t : List ℕ) → 2 * n ≤ length s → bigEndian n (s ++ t) ≡ bigEndian n s
+bigEndian-front n s t there =
+    sym (bigEndian-take n (s ++ t)) ∙ ap (bigEndian n) (take-append-le (2 * n) s t there) ∙ bigEndian-take n s
 
 -- ---- heights: a number of 16 bits stands for a pixel outside 0 to 4095 exactly when it is above 4095
 outOfRange-twosComplement : (v : ℕ) → outOfRange (twosComplement v) ≡ ltb 4095 v

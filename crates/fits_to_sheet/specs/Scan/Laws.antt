@@ -21,7 +21,7 @@ use Rattle.fits_format.specs.Conversion.{RowsWritten, Conversion, headerRefused
 use Rattle.fits_format.specs.Conversion.{rowCalls, rowAt, rowNumberAt, rowRecordAt, inOrder}
 use Rattle.fits_format.specs.Theorems.Header.{headerRead-accepted}
 use Rattle.fits_format.specs.Theorems.Span.{prefix-end}
-use Rattle.fits_to_sheet.specs.Verdict.{verdictText}
+use Rattle.fits_reader.specs.Verdict.{verdictText}
 use Rattle.fits_to_sheet.specs.Scan.{HeaderHeld, imageWidth, imageRows, rowSpan, Enough, FirstRecord, RowsTaken, NextRecord, Ended, EndVerdict}
 use Rattle.fits_format.specs.Image.Room.{imageRowNumber-room}
 use Rattle.fits_to_sheet.specs.Scan.Rows.{rowRecord-front, imageRowNumber-front, imageRowNumber-stands, inOrder-same, inOrder-last, rowCalls-rows, rowCalls-records, rowCalls-number, rowCalls-none}

@@ -5,22 +5,15 @@ use native.Mathlib.Omega.{arith}
 use mathlib.Core.Path.{_≡_, refl, sym, ap, _∙_}
 use mathlib.Core.List.{List, _++_, append-assoc, append-nil}
 use lib.ListN.{length, length-append}
-use lib.Seq.{take-append-le}
-use lib.Dec.{ltb}
-use borrow.Author.Tests.{ltb-true, ltb-false, le-ltb}
+use borrow.Author.Tests.{le-ltb}
 use Rattle.answer.specs.Outcome.Laws.{orElse-zero-left}
-use Rattle.row_format.specs.Lists.Laws.{by-test}
-use Rattle.fits_format.specs.Image.{bigEndian, rowRecord, beforePixels, imageRowNumber}
-use Rattle.fits_format.specs.Image.Laws.{bigEndian-take}
+use Rattle.fits_format.specs.Image.{rowRecord, beforePixels, imageRowNumber}
+use Rattle.fits_format.specs.Image.Laws.{bigEndian-front}
 use Rattle.fits_format.specs.Image.Call.{RowStands, beforePixels-zero}
 use Rattle.fits_format.specs.Conversion.{RowsWritten, rowCalls, rowNumberAt, rowRecordAt, inOrder, FirstFault}
-use Rattle.fits_format.specs.Conversion.Laws.{rowCalls-fault, rowCalls-bytes}
+use Rattle.fits_format.specs.Conversion.Laws.{rowCalls-fault, rowCalls-bytes, fault-place, fault-number, fault-none}
 
 -- ---- a row's own bytes
-bigEndian-front : (w : ℕ) (s t : List ℕ) → 2 * w ≤ length s → bigEndian w (s ++ t) ≡ bigEndian w s
-bigEndian-front w s t there =
-    sym (bigEndian-take w (s ++ t)) ∙ ap (bigEndian w) (take-append-le (2 * w) s t there) ∙ bigEndian-take w s
-
 module _ (w r : ℕ) (s t : List ℕ) (there : 2 * w ≤ length s) where
   pub rowRecord-front : rowRecord w r (s ++ t) ≡ rowRecord w r s
   unfolding rowRecord
@@ -69,27 +62,14 @@ module _ (lends : ℕ → List ℕ) (w n : ℕ) (image : List ℕ) (r : ℕ) (wi
   fault : FirstFault (rowNumberAt lends w image) n (x .rows) (x .number)
   fault = rowCalls-fault lends w image n
 
-  not-before : x .rows < r → ⊥
-  not-before h =
-      let faulty = fault .faulty (omega (arith, h, within)) in
-      faulty .1 (faulty .0 ∙ right (x .rows) h)
-
-  not-after : r < x .rows → ⊥
-  not-after h = stops (omega (arith, h, fault .within)) (fault .before r h)
-
   pub rowCalls-rows : x .rows ≡ r
-  rowCalls-rows =
-      by-test (ltb (x .rows) r)
-      (λ t. absurd (not-before (ltb-true (x .rows) r t)))
-      (λ t. by-test (ltb r (x .rows))
-      (λ u. absurd (not-after (ltb-true r (x .rows) u)))
-      (λ u. omega (arith, ltb-false (x .rows) r t, ltb-false r (x .rows) u)))
+  rowCalls-rows = fault-place fault r within right stops
 
   pub rowCalls-records : x .bytes ≡ inOrder (rowRecordAt w image) 0 r
   rowCalls-records = rw rowCalls-rows at (rowCalls-bytes lends w image n)
 
   pub rowCalls-number : r < n → x .number ≡ rowNumberAt lends w image r
-  rowCalls-number h = fault .faulty (omega (arith, h, rowCalls-rows)) .0 ∙ ap (rowNumberAt lends w image) rowCalls-rows
+  rowCalls-number = fault-number fault r within right stops
 
   pub rowCalls-none : r ≡ n → x .number ≡ 0
-  rowCalls-none h = fault .whole (rowCalls-rows ∙ h)
+  rowCalls-none = fault-none fault r within right stops

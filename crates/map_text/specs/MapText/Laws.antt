@@ -29,15 +29,15 @@ spaced-suc (x ∷ l) (suc i) h =
     ∙ sym (append-assoc (field (ascii " ") x) (spaced (take i l)) (field (ascii " ") (getD l i 0)))
 
 module _ (xs : List ℕ) (first : ℕ) where
-  pub spaced-none : spaced (take 0 (drop (first + 1) xs)) ≡ []
+  pub spaced-none : spaced (take 0 (drop first xs)) ≡ []
   unfolding spaced
   spaced-none = refl
 
-  pub spaced-more : (i : ℕ) → first + 1 + i < length xs
-      → spaced (take (i + 1) (drop (first + 1) xs)) ≡ spaced (take i (drop (first + 1) xs)) ++ field (ascii " ") (getD xs (first + 1 + i) 0)
+  pub spaced-more : (i : ℕ) → first + i < length xs
+      → spaced (take (i + 1) (drop first xs)) ≡ spaced (take i (drop first xs)) ++ field (ascii " ") (getD xs (first + i) 0)
   spaced-more i h =
-      let rest : i < length (drop (first + 1) xs) = omega (arith, length-drop (first + 1) xs) in
-      rw (add-one i, ← getD-drop (first + 1) xs i 0) (spaced-suc (drop (first + 1) xs) i rest)
+      let rest : i < length (drop first xs) = omega (arith, length-drop first xs) in
+      rw (add-one i, ← getD-drop first xs i 0) (spaced-suc (drop first xs) i rest)
 
   pub row-all : first < length xs
       → rowText (take 128 (drop first xs)) ≡ decimal (getD xs first 0) ++ spaced (take 127 (drop (first + 1) xs)) ++ newline

@@ -139,6 +139,10 @@ row-counts (x ∷ xs) low =
     ∙ rw (decimal-counts Line x x (omega arith), decimal-scan Line line-begins x x (omega arith) (below-head low))
     (rest-counts x xs (below-tail low))
 
+pub row-back : (xs : List ℕ) → Below 65536 xs → textCounts (rowText xs) ≡ counts xs
+unfolding textCounts isText lastCounts
+row-back xs low = rw (row-scan xs low, row-counts xs low, append-nil xs)
+
 rows-scan : (n : ℕ) (xs : List ℕ) → Below 65536 xs → scanAfter Line (rowsText n xs) ≡ Line
 unfolding rowsText
 rows-scan zero xs low = unfold scanAfter in refl

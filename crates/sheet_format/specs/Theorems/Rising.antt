@@ -42,7 +42,7 @@ record-rises c r ys ok rest =
     (λ row. lawful (kindField r) .row-risen row c (k .heading (bodyOf r)) place) rest)
 
 -- ---- all records
-recordsFrom-rising : (n : ℕ) (c : Context) (r : List ℕ) → Rising (c .least) (storedRows (recordsFrom n c r .records))
+pub recordsFrom-rising : (n : ℕ) (c : Context) (r : List ℕ) → Rising (c .least) (storedRows (recordsFrom n c r .records))
 unfolding storedRows
 recordsFrom-rising =
     recordsFrom-all (λ c s. Rising (c .least) (storedRows (s .records))) (λ c e at. tt)

@@ -5,19 +5,20 @@ use native.Mathlib.Omega.{arith}
 use mathlib.Core.Path.{_≡_, sym, ap, _∙_}
 use mathlib.Core.Bool.{true, false}
 use mathlib.Core.List.{List, [], _∷_, _++_, append-assoc}
-use lib.ListN.{length, length-map}
+use lib.ListN.{length}
 use Rattle.row_format.specs.Lists.Laws.{true-false}
 use Rattle.row_format.specs.Place.{hasPlace}
 use Rattle.sheet_format.specs.Context.{Context, newSheet}
-use Rattle.sheet_format.specs.Kind.{Payload, aTable, aRow, aLine, noPayload}
 use Rattle.sheet_format.specs.Reading.{contextAfter, recordJudged}
 use Rattle.sheet_format.specs.Sheet.{SheetRecord, SheetRead, endsWith, putFirst, recordHere, restNext, records, sheetRead}
-use Rattle.sheet_format.specs.Sheet.{recordHolds, StoredRow, rowOf, withRow, storedRows, rowNumbers}
+use Rattle.sheet_format.specs.Sheet.{recordHolds, rowOf, storedRows, rowNumbers}
+use Rattle.sheet_format.specs.Stream.{rowsOf}
+use Rattle.sheet_format.specs.Stream.Laws.{length-withRow, length-rowNumbers}
 use Rattle.sheet_format.specs.Theorems.{sheet-end, sheet-refused, sheet-more}
 use Rattle.text.specs.Lines.{refusedAtLine, refusedBitLine}
 use Rattle.sheet_listing.specs.Line.{recordLine, lastLine}
 use Rattle.sheet_listing.specs.Line.Laws.{last-bit, last-placeless}
-use Rattle.sheet_listing.specs.Listing.{recordLines, lastOf, listing, rowsOf}
+use Rattle.sheet_listing.specs.Listing.{recordLines, lastOf, listing}
 
 -- a listing from a record on, after so many records and rows
 abbrev pub listingFrom : ℕ → ℕ → SheetRead → List ℕ
@@ -27,15 +28,6 @@ listingFrom index rows s =
 
 pub listing-from : (s : SheetRead) → recordLines (s .records) ++ lastOf s ≡ listingFrom 0 0 s
 listing-from s = rw (zero-add (length (s .records)), zero-add (length (rowNumbers (s .records))))
-
-pub length-withRow : (s : Payload) (y : StoredRow) (ys : List StoredRow) → length (withRow s y ys) ≡ rowsOf s + length ys
-length-withRow aTable y ys = omega arith
-length-withRow aRow y ys = omega arith
-length-withRow aLine y ys = omega arith
-length-withRow noPayload y ys = omega arith
-
-pub length-rowNumbers : (xs : List SheetRecord) → length (rowNumbers xs) ≡ length (storedRows xs)
-length-rowNumbers xs = length-map (storedRows xs) _
 
 module _ (index rows : ℕ) where
   last-alone : (e at : ℕ) → listingFrom index rows (endsWith e at) ≡ lastLine e at index rows

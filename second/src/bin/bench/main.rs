@@ -2,6 +2,8 @@
 //! it packs rows into beside what other programs make of them.
 
 mod checks;
+#[cfg(feature = "sheets")]
+mod desk;
 #[cfg(feature = "rows")]
 mod fitted;
 #[cfg(feature = "rows")]
@@ -34,6 +36,10 @@ fn main() {
     {
         scans::print();
         maps::print();
+        // The programs' folder, where it is given.
+        if let Some(folder) = std::env::args_os().nth(1) {
+            desk::print(folder.as_ref());
+        }
     }
     #[cfg(feature = "rows")]
     sizes::print();

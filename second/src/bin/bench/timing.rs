@@ -13,11 +13,16 @@ pub fn best(mut call: impl FnMut()) -> f64 {
     (0..REPETITIONS).map(|_| repeated(calls, &mut call)).fold(f64::INFINITY, f64::min)
 }
 
-/// Seconds of each of several long calls, the best of as many turns: where the
-/// machine is slower for a while, it is so for all of them.
-pub fn best_by_turns<const N: usize>(mut calls: [&mut dyn FnMut(); N]) -> [f64; N] {
+/// Seconds of each of several long calls, the best of as many turns.
+pub fn best_by_turns<const N: usize>(calls: [&mut dyn FnMut(); N]) -> [f64; N] {
+    best_of_turns(2 * REPETITIONS, calls)
+}
+
+/// The best of so many turns: where the machine is slower for a while, it is so
+/// for all calls.
+pub fn best_of_turns<const N: usize>(turns: u32, mut calls: [&mut dyn FnMut(); N]) -> [f64; N] {
     let mut best = [f64::INFINITY; N];
-    for _ in 0..2 * REPETITIONS {
+    for _ in 0..turns {
         for (best, call) in best.iter_mut().zip(&mut calls) {
             *best = best.min(repeated(1, call));
         }

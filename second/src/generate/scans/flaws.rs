@@ -7,7 +7,7 @@ mod first;
 mod image;
 
 use super::Scan;
-use crate::fits::Verdict;
+use crate::conversion::Verdict;
 use crate::random::Random;
 
 #[derive(Clone, Copy, PartialEq, Eq, Debug)]

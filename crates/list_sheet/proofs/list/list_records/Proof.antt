@@ -9,8 +9,9 @@ use lib.Seq.{length-take-le}
 use borrow.Author.Needs.{needs}
 use Rattle.row_format.specs.Lists.Laws.{true-false}
 use Rattle.list_sheet.specs.declared.turn.Turn.{Turn}
-use Rattle.list_sheet.specs.Step.{carriedBy, CarriedFits, Underway}
-use Rattle.list_sheet.specs.Step.Laws.{line-next, line-last, next-index, underway-next, underway-first}
+use Rattle.sheet_stream.specs.Progress.{carriedBy, CarriedFits, Underway}
+use Rattle.sheet_stream.specs.Progress.Laws.{underway-first}
+use Rattle.list_sheet.specs.Step.Laws.{line-next, line-last, next-index, underway-next}
 use Rattle.list_sheet.proofs.list.list_records.Statement.{statement}
 use Rattle.list_sheet.proofs.list.list_records.Tie as tie
 

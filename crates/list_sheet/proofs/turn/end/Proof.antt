@@ -1,6 +1,6 @@
 -- `list_sheet::turn::end` meets its contract: the last line stands at the front of the memory. Assumes nothing.
 use Rattle.sheet_listing.specs.Line.{lastLine}
-use Rattle.list_sheet.specs.Step.Laws.{given-count, given-line, given-within}
+use Rattle.sheet_listing.specs.Listed.Given.{given-count, given-line, given-within}
 use borrow.Author.Needs.{needs}
 use Rattle.list_sheet.proofs.turn.end.Statement.{statement}
 use Rattle.list_sheet.proofs.turn.end.Tie as tie

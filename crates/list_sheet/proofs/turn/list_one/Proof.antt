@@ -4,9 +4,10 @@ use Rattle.list_sheet.specs.declared.turn.Turn.{Turn}
 use native.Mathlib.Omega.{arith}
 use mathlib.Core.Path.{refl, sym, ap}
 use lib.Seq.{length-take-le}
-use Rattle.sheet_listing.specs.Turns.{holdsOf}
-use Rattle.list_sheet.specs.Step.{carriedBy}
-use Rattle.list_sheet.specs.Step.Laws.{rowsOf-most, turn-refused, read-length, line-within, turn-accepted}
+use Rattle.sheet_format.specs.Stream.{holdsOf}
+use Rattle.sheet_format.specs.Stream.Laws.{rowsOf-most}
+use Rattle.sheet_stream.specs.Progress.{carriedBy}
+use Rattle.list_sheet.specs.Step.Laws.{turn-refused, read-length, line-within, turn-accepted}
 use borrow.Author.Needs.{needs}
 use Rattle.list_sheet.proofs.turn.list_one.Statement.{statement}
 use Rattle.list_sheet.proofs.turn.list_one.Tie as tie

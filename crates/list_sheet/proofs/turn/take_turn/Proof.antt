@@ -9,6 +9,9 @@ use borrow.Author.Needs.{needs}
 use Rattle.list_sheet.proofs.turn.take_turn.Statement.{statement}
 use Rattle.list_sheet.proofs.turn.take_turn.Tie as tie
 
+slice-aggregate-fill-record : tie.Need-slice-aggregate-fill-record
+slice-aggregate-fill-record c = search needs
+
 fill-record-requires : tie.Need-fill-record-requires
 fill-record-requires c κs = search needs
 
@@ -21,7 +24,7 @@ same-length c = search needs
 returns : tie.Need-returns
 returns c =
     let filled = c .before .before .before .before in
-    let start = filled .before .before .before .before .before .before in
+    let start = filled .before .before .before .before .before .before .before in
     let unread = c .unread .ensures in (
       rw unread (omega arith),
       (
@@ -49,7 +52,7 @@ returns-2 : tie.Need-returns-2
 returns-2 c =
     let ended = c .before .before in
     let filled = ended .before .before .before .before .before .before .before in
-    let start = filled .before .before .before .before .before .before in
+    let start = filled .before .before .before .before .before .before .before in
     let last = ended .end .ensures in
     let number = ended .before .before .number-at-end .ensures in (
       rw (last .0) (omega arith),
@@ -57,7 +60,7 @@ returns-2 c =
         last .1 .0,
         (
           rw (last .0) (start .pre .1 .1 .1 .1),
-          λ e. end-made (start .args .at) (start .args .table .now) (filled .fill-record .last .1 .1 .0) number (last .0) (last .1 .1),
+          λ e. end-made (start .args .at) (start .args .table .now) (filled .fill-record .last .1 .1 .1 .0) number (last .0) (last .1 .1),
         ),
       ),
     )
@@ -68,16 +71,16 @@ slice-reshare-prefix-list-one c = search needs
 slice-aggregate-list-one : tie.Need-slice-aggregate-list-one
 slice-aggregate-list-one c =
     let filled = c .before .before .before .before .before in
-    let start = filled .before .before .before .before .before .before in
-    sym (length-take-le (filled .fill-record .result .count) (filled .fill-record .last .1 .1 .0)
+    let start = filled .before .before .before .before .before .before .before in
+    sym (length-take-le (filled .fill-record .result .count) (filled .fill-record .last .1 .1 .1 .0)
     (omega (arith, filled .fill-record .ensures .0, filled .fill-record .kept, start .pre .0)))
 
 list-one-requires : tie.Need-list-one-requires
 list-one-requires c κs =
     let some = c .before .before .before in
     let filled = some .before .before .before .before in
-    let start = filled .before .before .before .before .before .before in
-    let size = length-take-le (filled .fill-record .result .count) (filled .fill-record .last .1 .1 .0)
+    let start = filled .before .before .before .before .before .before .before in
+    let size = length-take-le (filled .fill-record .result .count) (filled .fill-record .last .1 .1 .1 .0)
     (omega (arith, filled .fill-record .ensures .0, filled .fill-record .kept, start .pre .0)) in
     (omega (arith, size, some .if2 .left), start .pre .1)
 
@@ -94,9 +97,9 @@ returns-3 : tie.Need-returns-3
 returns-3 c =
     let listed = c .before .before .before .before in
     let filled = listed .before .before .before .before .before .before .before .before in
-    let start = filled .before .before .before .before .before .before in
+    let start = filled .before .before .before .before .before .before .before in
     let count = filled .fill-record .result .count in
-    let size = length-take-le count (filled .fill-record .last .1 .1 .0)
+    let size = length-take-le count (filled .fill-record .last .1 .1 .1 .0)
     (omega (arith, filled .fill-record .ensures .0, filled .fill-record .kept, start .pre .0)) in
     let made = listed .list-one .ensures in
     let taken : listed .list-one .result .taken ≡ count = made .0 ∙ size in (
@@ -114,6 +117,7 @@ pub take-turn-spec : {M : Type 1} → statement M
 take-turn-spec =
     tie.close
     (tie.spec
+    slice-aggregate-fill-record
     fill-record-requires
     unread-requires
     same-length

@@ -3,7 +3,7 @@
 use super::super::cards::{blank_cards, card, end, near_scaling, other_cards, scaling, NEAR_ENDS};
 use super::super::{Scan, BLOCK_CARDS, MOST_CARDS};
 use super::{done, refused, Change};
-use crate::fits::Verdict;
+use crate::conversion::Verdict;
 use crate::random::Random;
 use crate::refusal::FITS_HEADER;
 

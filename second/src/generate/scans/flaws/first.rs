@@ -3,7 +3,8 @@
 use super::super::cards::{blank_cards, card, fixed, scaling, Card};
 use super::super::{Scan, FIRST};
 use super::{refused, Change};
-use crate::fits::{Verdict, FIRST_KEYWORDS};
+use crate::conversion::Verdict;
+use crate::fits::FIRST_KEYWORDS;
 use crate::random::Random;
 use crate::refusal::{FITS_HEADER, TOO_MANY};
 

@@ -2,7 +2,8 @@
 
 use super::super::{Scan, FIRST};
 use super::{done, refused, Change};
-use crate::fits::{Verdict, BLOCK_BYTES, CARD_BYTES};
+use crate::conversion::Verdict;
+use crate::fits::{BLOCK_BYTES, CARD_BYTES};
 use crate::random::Random;
 use crate::refusal::{FITS_HEADER, IMAGE_END, PIXEL};
 

@@ -1,0 +1,2 @@
+pub mod RowRange
+pub mod SheetText

@@ -13,5 +13,6 @@ pub mod verdict;
 pub use cards::count_cards;
 pub use cards::find_end;
 pub use header::fits_header;
+pub use integer::unsigned_digits;
 pub use pixels::copy_pixels;
 pub use row::fits_row;

@@ -4,10 +4,11 @@ use Prim.Native.String.{String}
 use mathlib.Core.Path.{_≡_, refl}
 use mathlib.Core.List.{List, [], _∷_, map}
 use Rattle.text.specs.Text.{ascii, spelled, decimal}
-use Rattle.text.specs.Number.{isDigit, withDigit, numberWith, numberFrom, numberIn}
+use Rattle.text.specs.Number.{isDigit}
 use Rattle.text.specs.Same.{sameBytes}
 use Rattle.sheet_format.specs.Sheet.{StoredRow, heightsOf}
 use Rattle.sheet_format.specs.Size.{rowsWidth, rowsHeight}
+use Rattle.fits_format.specs.Card.{digitsValue}
 use Rattle.fits_format.specs.Image.{numberAt, bigEndian}
 use Rattle.pgm_format.specs.declared.PgmHeader.{PgmHeader}
 use Rattle.pgm_format.specs.Header.{pgmFront, isBlank, endsLine, separates, comments, gapFrom, digitBytes, fieldValue, fieldBytes}
@@ -49,15 +50,17 @@ pgmCases =
     ∷ refused 17 "P5 3 2 4095"
     ∷ refused 17 "P5 3 2 4095#\n"
     ∷ refused 17 "P5 3 # 2 4095\n"
-    -- more than a sheet holds; more than 32 bits
+    ∷ refused 17 "P5 3 2 4294971391\n"
+    -- more than a sheet holds, however much more
     ∷ refused 11 "P5 4097 2 4095\n"
     ∷ refused 11 "P5 3 65537 4095\n"
-    ∷ refused 17 "P5 4294967296 2 4095\n"
+    ∷ refused 11 "P5 4294967299 2 4095\n"
+    ∷ refused 11 "P5 3 18446744073709551618 4095\n"
     ∷ []
 
 pub header-cases-right : map (λ (c : PgmCase). pgmHeader (c .text)) pgmCases ≡ map (λ (c : PgmCase). c .read) pgmCases
-unfolding isDigit withDigit numberWith numberFrom numberIn sameBytes isBlank endsLine separates comments gapFrom digitBytes fieldValue
-    fieldBytes fieldsNumber frontNumber frontRead pgmHeader
+unfolding isDigit digitsValue sameBytes isBlank endsLine separates comments gapFrom digitBytes fieldValue fieldBytes fieldsNumber frontNumber
+    frontRead pgmHeader
 header-cases-right = refl
 
 -- ---- samples: 766 and 4095

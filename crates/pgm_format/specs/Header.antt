@@ -7,11 +7,10 @@ use mathlib.Core.List.{List, [], _∷_, _++_}
 use lib.ListN.{length, take, drop, getD}
 use lib.Dec.{ltb, eqb}
 use Rattle.answer.specs.Outcome.{_orElse_, refuseIf, unless}
-use Rattle.text.specs.declared.read.Decimal.{Decimal}
-use Rattle.text.specs.declared.read.Decimal.the-variants.{Number, NoNumber}
 use Rattle.text.specs.Text.{ascii, fields}
-use Rattle.text.specs.Number.{isDigit, numberIn}
+use Rattle.text.specs.Number.{isDigit}
 use Rattle.text.specs.Same.{sameBytes}
+use Rattle.fits_format.specs.Card.{digitsValue}
 use Rattle.pgm_format.specs.declared.PgmHeader.{PgmHeader}
 pub mod Laws
 pub mod Back
@@ -51,15 +50,11 @@ unfoldable pub digitBytes : List ℕ → ℕ
 digitBytes [] = 0
 digitBytes (b ∷ s) = cond (isDigit b) (suc (digitBytes s)) 0
 
-abbrev pub orZero : Decimal → ℕ
-orZero (Number v) = v
-orZero NoNumber = 0
-
--- 0 where no separator is there, no digit, or more than 32 bits: a header has no use for 0
+-- their number, however many there are; 0 where no separator is there or no digit: a header has no use for 0
 unfoldable pub fieldValue : List ℕ → ℕ
 fieldValue s =
     let g : ℕ = gapBytes s in
-    cond (eqb g 0) 0 (orZero (numberIn 4294967295 (take (digitBytes (drop g s)) (drop g s))))
+    cond (eqb g 0) 0 (digitsValue 0 (take (digitBytes (drop g s)) (drop g s)))
 
 unfoldable pub fieldBytes : List ℕ → ℕ
 fieldBytes s = let g : ℕ = gapBytes s in g + digitBytes (drop g s)

@@ -1,25 +1,25 @@
 // A number of a header, after its separators.
 use crate::gap::gap_bytes;
-use text::read::Decimal;
+use fits_reader::unsigned_digits;
 use text::read::is_digit;
-use text::read::read_decimal;
 ghost use mathlib.Core.Path.{_≡_};
-ghost use Prim.Native.Nat.{_≤_};
+ghost use Prim.Native.Nat.{_≤_, min};
 ghost use lib.ListN.{length};
-ghost use Rattle.text.specs.Number.{numberIn};
-ghost use Rattle.pgm_format.specs.Header.{digitBytes, orZero, fieldAt, afterField};
+ghost use Rattle.pgm_format.specs.Header.{digitBytes, fieldAt, afterField};
 
-// value   0 where there is no number, or one of more than 32 bits
+// value   the number up to MOST, which no header may have; 0 where there is none
 // end     the place behind its digits
 pub struct Field {
     pub value: u32,
     pub end: usize,
 }
 
+const MOST: u32 = 65537;
+
 // The field that begins at a place.
 pub fn field_at(bytes: &[u8], at: usize) -> Field
     requires { ⌜ at ≤ length (now bytes) ⌝ }
-    ensures value { λ r. ⌜ r .value ≡ fieldAt at (now (bytes .entry)) ⌝ }
+    ensures value { λ r. ⌜ r .value ≡ min (fieldAt at (now (bytes .entry))) 65537 ⌝ }
     ensures end { λ r. ⌜ r .end ≡ afterField at (now (bytes .entry)) ⌝ }
     ensures within { λ r. ⌜ r .end ≤ length (now (bytes .entry)) ⌝ }
 {
@@ -30,7 +30,7 @@ pub fn field_at(bytes: &[u8], at: usize) -> Field
         return Field { value: 0, end };
     }
     Field {
-        value: number_or_zero(&bytes[start..end]),
+        value: unsigned_digits(&bytes[start..end], MOST),
         end,
     }
 }
@@ -49,13 +49,4 @@ fn digit_bytes(s: &[u8]) -> usize
         }
     }
     i
-}
-
-fn number_or_zero(digits: &[u8]) -> u32
-    ensures { λ r. ⌜ r ≡ orZero (numberIn 4294967295 (now (digits .entry))) ⌝ }
-{
-    match read_decimal(digits, 4294967295) {
-        Decimal::Number(v) => v as u32,
-        Decimal::NoNumber => 0,
-    }
 }

@@ -1,4 +1,4 @@
--- The theorems about the picture of a sheet, in the issue's words; the files below prove them. l is how the sheet is looked at, e its
+-- The theorems about the picture of a sheet, in the order's words; the files below prove them. l is how the sheet is looked at, e its
 -- extent, ys its stored rows, g a range of heights. Assumes nothing.
 use Prim.Native.Nat.{ℕ, _+_, _-_, _*_, _/_, _≤_, _<_}
 use mathlib.Core.Path.{_≡_, refl}

@@ -65,7 +65,7 @@ pub fn size(random: &mut Random) -> (usize, usize) {
 pub fn pgm(random: &mut Random, table: &Table, (width, rows): (usize, usize)) -> Pgm {
     let fields = [width, rows, MAXVAL.into()].map(|number| {
         let separators = separators(random);
-        (separators, spelled(random, number))
+        (separators, spelled(random, number as u128))
     });
     let samples = (0..rows).flat_map(|_| row(random, table, width)).collect();
     let end = vec![random.pick(&BLANKS)];
@@ -101,7 +101,7 @@ fn comment(random: &mut Random, text: Vec<u8>) -> Vec<u8> {
 }
 
 /// A number, at times with zeros before it.
-fn spelled(random: &mut Random, number: usize) -> String {
+fn spelled(random: &mut Random, number: u128) -> String {
     let zeros = random.pick(&[0, 0, 0, 0, 0, 1, 3, 30]);
     "0".repeat(zeros) + &number.to_string()
 }

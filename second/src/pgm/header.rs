@@ -1,6 +1,8 @@
 //! The header of a PGM picture: P5, width, rows and maxval, each after blanks
 //! or comments, and one blank.
 
+use std::num::IntErrorKind;
+
 use super::{MAGIC, MAXVAL, MOST_HEADER, MOST_ROWS};
 use crate::refusal::{PGM_HEADER, TOO_MANY};
 use crate::row::MAX_PIXELS;
@@ -66,10 +68,14 @@ fn after_separators(mut rest: &[u8]) -> &[u8] {
     rest
 }
 
-/// A number of 32 bits at the front, and what follows its digits.
+/// A number at the front, and what follows its digits. One that does not fit is
+/// the largest that does, and judged as that.
 fn decimal(bytes: &[u8]) -> Option<(u32, &[u8])> {
     let digits = bytes.iter().take_while(|byte| byte.is_ascii_digit()).count();
     let (digits, rest) = bytes.split_at(digits);
-    let number = std::str::from_utf8(digits).ok()?.parse().ok()?;
-    Some((number, rest))
+    match std::str::from_utf8(digits).ok()?.parse::<u32>() {
+        Ok(number) => Some((number, rest)),
+        Err(error) if *error.kind() == IntErrorKind::PosOverflow => Some((u32::MAX, rest)),
+        Err(_) => None,
+    }
 }

@@ -28,12 +28,12 @@ abbrev noDigit : ℕ → Bool
 noDigit b = not (isDigit b)
 
 -- what is kept of digits is what is kept of their number
-digits-value : (v : ℕ) (s : List ℕ) → cond (any noDigit s) 0 (min (digitsValue v s) 4097) ≡ digitsClipped v s
+digits-value : (most v : ℕ) (s : List ℕ) → cond (any noDigit s) 0 (min (digitsValue v s) most) ≡ digitsClipped most v s
 unfolding any digitsValue digitsClipped
-digits-value v [] = refl
-digits-value v (b ∷ bs) =
+digits-value most v [] = refl
+digits-value most v (b ∷ bs) =
     by-test (isDigit b)
-    (λ e. rw e (digits-value (v * 10 + (b - 48)) bs))
+    (λ e. rw e (digits-value most (v * 10 + (b - 48)) bs))
     (λ e. rw e)
 
 clipped-cond : (t : Bool) (z : ℤ) → clipped (cond t noInteger (isInteger z)) ≡ cond t 0 (clipped (isInteger z))
@@ -41,10 +41,10 @@ clipped-cond true z = refl
 clipped-cond false z = refl
 
 -- no sign
-clipped-digits : (s : List ℕ) → clipped (signedDigits (λ (z : ℤ). z) s) ≡ digitsClipped 0 s
+clipped-digits : (s : List ℕ) → clipped (signedDigits (λ (z : ℤ). z) s) ≡ digitsClipped 4097 0 s
 unfolding signedDigits digitsClipped
 clipped-digits [] = refl
-clipped-digits (b ∷ bs) = clipped-cond (any noDigit (b ∷ bs)) (pos (digitsValue 0 (b ∷ bs))) ∙ digits-value 0 (b ∷ bs)
+clipped-digits (b ∷ bs) = clipped-cond (any noDigit (b ∷ bs)) (pos (digitsValue 0 (b ∷ bs))) ∙ digits-value 4097 0 (b ∷ bs)
 
 -- a minus sign: nothing above 0
 clipped-minus : (k : ℕ) → clipped (isInteger (negℤ (pos k))) ≡ 0
@@ -63,7 +63,7 @@ clipped-negative (b ∷ bs) =
     clipped-cond (any noDigit (b ∷ bs)) (negℤ (pos v))
     ∙ nothing-kept (any noDigit (b ∷ bs)) (clipped (isInteger (negℤ (pos v)))) (clipped-minus v)
 
-digits-minus : (s : List ℕ) → digitsClipped 0 (45 ∷ s) ≡ 0
+digits-minus : (s : List ℕ) → digitsClipped 4097 0 (45 ∷ s) ≡ 0
 unfolding isDigit digitsClipped
 digits-minus s = refl
 
@@ -90,12 +90,12 @@ pub integer-none : (s : List ℕ) (i : ℕ) → length s ≤ i → clipped (fixe
 integer-none s i h = integer-empty (drop i s) (omega (arith, length-drop i s))
 
 -- the sign
-pub integer-plus : (s : List ℕ) → NotBlank s → getD s 0 0 ≡ 43 → clipped (fixedInteger s) ≡ digitsClipped 0 (drop 1 s)
+pub integer-plus : (s : List ℕ) → NotBlank s → getD s 0 0 ≡ 43 → clipped (fixedInteger s) ≡ digitsClipped 4097 0 (drop 1 s)
 unfolding fixedInteger
 integer-plus [] h e = absurd (omega arith)
 integer-plus (b ∷ bs) h e = rw e (clipped-digits bs)
 
-pub integer-other : (s : List ℕ) → NotBlank s → (getD s 0 0 ≡ 43 → ⊥) → clipped (fixedInteger s) ≡ digitsClipped 0 s
+pub integer-other : (s : List ℕ) → NotBlank s → (getD s 0 0 ≡ 43 → ⊥) → clipped (fixedInteger s) ≡ digitsClipped 4097 0 s
 unfolding fixedInteger
 integer-other [] h p = absurd (omega arith)
 integer-other (b ∷ bs) h p =
@@ -105,35 +105,35 @@ integer-other (b ∷ bs) h p =
 
 -- ---- digits, byte by byte
 -- ten times what is kept and a digit give what is kept of ten times the value and a digit
-clipped-more : (v d : ℕ) → min (min v 4097 * 10 + d) 4097 ≡ min (v * 10 + d) 4097
-clipped-more v d = omega arith
+clipped-more : (most v d : ℕ) → min (min v most * 10 + d) most ≡ min (v * 10 + d) most
+clipped-more most v d = omega arith
 
-digits-clipped : (v : ℕ) (s : List ℕ) → digitsClipped (min v 4097) s ≡ digitsClipped v s
+digits-clipped : (most v : ℕ) (s : List ℕ) → digitsClipped most (min v most) s ≡ digitsClipped most v s
 unfolding digitsClipped
-digits-clipped v [] = omega arith
-digits-clipped v (b ∷ bs) =
+digits-clipped most v [] = omega arith
+digits-clipped most v (b ∷ bs) =
     let d : ℕ = b - 48 in
-    let same : digitsClipped (min v 4097 * 10 + d) bs ≡ digitsClipped (v * 10 + d) bs =
-    sym (digits-clipped (min v 4097 * 10 + d) bs)
-    ∙ ap (λ (x : ℕ). digitsClipped x bs) (clipped-more v d)
-    ∙ digits-clipped (v * 10 + d) bs in
+    let same : digitsClipped most (min v most * 10 + d) bs ≡ digitsClipped most (v * 10 + d) bs =
+    sym (digits-clipped most (min v most * 10 + d) bs)
+    ∙ ap (λ (x : ℕ). digitsClipped most x bs) (clipped-more most v d)
+    ∙ digits-clipped most (v * 10 + d) bs in
     ap (λ (x : ℕ). cond (isDigit b) x 0) same
 
-module _ (s : List ℕ) (i v : ℕ) (h : i < length s) where
+module _ (most : ℕ) (s : List ℕ) (i v : ℕ) (h : i < length s) where
   pub digits-on : isDigit (getD s i 0) ≡ true
-      → digitsClipped v (drop i s) ≡ digitsClipped (min (v * 10 + (getD s i 0 - 48)) 4097) (drop (i + 1) s)
+      → digitsClipped most v (drop i s) ≡ digitsClipped most (min (v * 10 + (getD s i 0 - 48)) most) (drop (i + 1) s)
   unfolding digitsClipped
   digits-on e =
-      rw (drop-cons s i 0 h, e, add-one i) (sym (digits-clipped (v * 10 + (getD s i 0 - 48)) (drop (suc i) s)))
+      rw (drop-cons s i 0 h, e, add-one i) (sym (digits-clipped most (v * 10 + (getD s i 0 - 48)) (drop (suc i) s)))
 
-  pub digits-not : isDigit (getD s i 0) ≡ false → digitsClipped v (drop i s) ≡ 0
+  pub digits-not : isDigit (getD s i 0) ≡ false → digitsClipped most v (drop i s) ≡ 0
   unfolding digitsClipped
   digits-not e = rw (drop-cons s i 0 h, e)
 
-digits-empty : (v : ℕ) (s : List ℕ) → v ≤ 4097 → length s ≡ 0 → digitsClipped v s ≡ v
+digits-empty : (most v : ℕ) (s : List ℕ) → v ≤ most → length s ≡ 0 → digitsClipped most v s ≡ v
 unfolding digitsClipped
-digits-empty v [] m e = omega arith
-digits-empty v (b ∷ bs) m e = absurd (omega arith)
+digits-empty most v [] m e = omega arith
+digits-empty most v (b ∷ bs) m e = absurd (omega arith)
 
-pub digits-end : (s : List ℕ) (i v : ℕ) → v ≤ 4097 → length s ≤ i → digitsClipped v (drop i s) ≡ v
-digits-end s i v m h = digits-empty v (drop i s) m (omega (arith, length-drop i s))
+pub digits-end : (most : ℕ) (s : List ℕ) (i v : ℕ) → v ≤ most → length s ≤ i → digitsClipped most v (drop i s) ≡ v
+digits-end most s i v m h = digits-empty most v (drop i s) m (omega (arith, length-drop i s))

@@ -32,7 +32,7 @@ pub record FieldsFit (w r : ℕ) (blank : Bool) : Type 0 where
   pub wide : w ≤ 4096
   pub high : r ≤ 65536
 
-fields-fit : (w r largest : ℕ) (blank : Bool) → fieldsNumber w r largest blank ≡ 0 → FieldsFit w r blank
+pub fields-fit : (w r largest : ℕ) (blank : Bool) → fieldsNumber w r largest blank ≡ 0 → FieldsFit w r blank
 unfolding fieldsNumber
 fields-fit w r largest blank e =
     let e1 = orElse-zero-right (refuseIf (eqb w 0) 17) _ e in

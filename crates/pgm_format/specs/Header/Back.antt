@@ -1,5 +1,5 @@
 -- A header that is written is read back, whatever follows it. Assumes nothing.
-use Prim.Native.Nat.{ℕ, zero, suc, _+_, _-_, _/_, _%_, _≤_, _<_}
+use Prim.Native.Nat.{ℕ, zero, suc, _+_, _-_, _*_, _/_, _%_, _≤_, _<_}
 use native.Mathlib.Omega.{arith}
 use mathlib.Core.Path.{_≡_, refl, sym, ap, _∙_}
 use mathlib.Core.Bool.{true, false}
@@ -12,8 +12,9 @@ use Rattle.row_format.specs.Lists.Laws.{by-test}
 use Rattle.text.specs.Text.{ascii, digit, spelled, decimal}
 use Rattle.text.specs.Text.Laws.{decimal-digit, decimal-more, length-decimal}
 use Rattle.text.specs.Number.{isDigit}
-use Rattle.text.specs.Number.Laws.{digit-is, numberIn-decimal}
+use Rattle.text.specs.Number.Laws.{digit-is}
 use Rattle.text.specs.Same.{sameBytes}
+use Rattle.fits_format.specs.Card.{digitsValue}
 use Rattle.pgm_format.specs.Header.{pgmFront, isBlank, separates, comments, gapFrom, gapBytes, digitBytes, fieldValue, fieldBytes}
 use Rattle.pgm_format.specs.Header.{fieldAt, afterField}
 use Rattle.pgm_format.specs.Header.{rowsPlace, largestPlace, blankPlace, fieldsNumber, frontRead, pgmHeader}
@@ -60,9 +61,34 @@ gap-decimal (suc f) n rest enough =
     rw (decimal-more n (ltb-false n 10 t), append-assoc (decimal (n / 10)) last rest)
     (gap-decimal f (n / 10) (digit (n % 10) ∷ rest) (omega (arith, ltb-false n 10 t))))
 
+-- and they stand for it
+value-append : (v : ℕ) (s t : List ℕ) → digitsValue v (s ++ t) ≡ digitsValue (digitsValue v s) t
+unfolding digitsValue
+value-append v [] t = refl
+value-append v (b ∷ s) t = value-append (v * 10 + (b - 48)) s t
+
+value-digit : (v d : ℕ) → digitsValue v (digit d ∷ []) ≡ v * 10 + d
+unfolding digitsValue
+value-digit v d = omega arith
+
+value-decimal : (f n : ℕ) → n ≤ f → digitsValue 0 (decimal n) ≡ n
+value-decimal zero n enough = rw (decimal-digit n (omega arith)) (value-digit 0 n ∙ omega arith)
+value-decimal (suc f) n enough =
+    by-test (ltb n 10)
+    (λ t. rw (decimal-digit n (ltb-true n 10 t)) (value-digit 0 n ∙ omega arith))
+    (λ t.
+    let last = digit (n % 10) ∷ [] in
+    rw (
+      decimal-more n (ltb-false n 10 t),
+      value-append 0 (decimal (n / 10)) last,
+      value-decimal f (n / 10) (omega (arith, ltb-false n 10 t)),
+      value-digit (n / 10) (n % 10),
+    )
+    (omega arith))
+
 -- ---- a number after one separator and before what is no digit
-module _ (b : ℕ) (sep : separates false b ≡ true) (shut : comments false b ≡ false) (n : ℕ) (small : n ≤ 4294967295)
-    (rest : List ℕ) (ends : digitBytes rest ≡ 0) where
+module _ (b : ℕ) (sep : separates false b ≡ true) (shut : comments false b ≡ false) (n : ℕ) (rest : List ℕ)
+    (ends : digitBytes rest ≡ 0) where
   abbrev s : List ℕ
   s = b ∷ (decimal n ++ rest)
 
@@ -76,7 +102,7 @@ module _ (b : ℕ) (sep : separates false b ≡ true) (shut : comments false b �
   pub value-written : fieldValue s ≡ n
   unfolding fieldValue
   value-written =
-      rw (gap-one, digits-all, take-append-seam (decimal n) rest, numberIn-decimal 4294967295 n small)
+      rw (gap-one, digits-all, take-append-seam (decimal n) rest, value-decimal n n (omega arith))
 
   pub bytes-written : fieldBytes s ≡ 1 + length (decimal n)
   unfolding fieldBytes
@@ -136,44 +162,44 @@ module _ (w r : ℕ) (rest : List ℕ) (wide : w ≤ 4096) (high : r ≤ 65536) 
   -- the three fields, one after the other
   first-width : fieldAt 2 front ≡ w
   first-width =
-      field-written 10 (line-separates .0) (line-separates .1) w (omega arith) second (no-digit-blank (decimal r ++ third)) 2 front
+      field-written 10 (line-separates .0) (line-separates .1) w second (no-digit-blank (decimal r ++ third)) 2 front
       (ap (drop 2) parts)
 
   first-end : rowsPlace front ≡ 3 + length (decimal w)
   first-end =
-      after-written 10 (line-separates .0) (line-separates .1) w (omega arith) second (no-digit-blank (decimal r ++ third)) 2 front
+      after-written 10 (line-separates .0) (line-separates .1) w second (no-digit-blank (decimal r ++ third)) 2 front
       (ap (drop 2) parts)
       ∙ omega arith
 
   after-first : drop (rowsPlace front) front ≡ second
   after-first =
-      rest-written 10 (line-separates .0) (line-separates .1) w (omega arith) second (no-digit-blank (decimal r ++ third)) 2 front
+      rest-written 10 (line-separates .0) (line-separates .1) w second (no-digit-blank (decimal r ++ third)) 2 front
       (ap (drop 2) parts)
 
   second-rows : fieldAt (rowsPlace front) front ≡ r
   second-rows =
-      field-written 32 (blank-separates .0) (blank-separates .1) r (omega arith) third (no-digit (decimal 4095 ++ fourth)) (rowsPlace front)
+      field-written 32 (blank-separates .0) (blank-separates .1) r third (no-digit (decimal 4095 ++ fourth)) (rowsPlace front)
       front after-first
 
   second-end : largestPlace front ≡ rowsPlace front + (1 + length (decimal r))
   second-end =
-      after-written 32 (blank-separates .0) (blank-separates .1) r (omega arith) third (no-digit (decimal 4095 ++ fourth)) (rowsPlace front)
+      after-written 32 (blank-separates .0) (blank-separates .1) r third (no-digit (decimal 4095 ++ fourth)) (rowsPlace front)
       front after-first
 
   after-second : drop (largestPlace front) front ≡ third
   after-second =
-      rest-written 32 (blank-separates .0) (blank-separates .1) r (omega arith) third (no-digit (decimal 4095 ++ fourth)) (rowsPlace front)
+      rest-written 32 (blank-separates .0) (blank-separates .1) r third (no-digit (decimal 4095 ++ fourth)) (rowsPlace front)
       front after-first
 
   third-largest : fieldAt (largestPlace front) front ≡ 4095
   third-largest =
-      field-written 10 (line-separates .0) (line-separates .1) 4095 (omega arith) fourth (no-digit rest) (largestPlace front) front
+      field-written 10 (line-separates .0) (line-separates .1) 4095 fourth (no-digit rest) (largestPlace front) front
       after-second
 
   third-end : blankPlace front ≡ largestPlace front + 5
   unfolding decimal spelled
   third-end =
-      after-written 10 (line-separates .0) (line-separates .1) 4095 (omega arith) fourth (no-digit rest) (largestPlace front) front
+      after-written 10 (line-separates .0) (line-separates .1) 4095 fourth (no-digit rest) (largestPlace front) front
       after-second
 
   closing : getD front (blankPlace front) 0 ≡ 10
@@ -185,9 +211,9 @@ module _ (w r : ℕ) (rest : List ℕ) (wide : w ≤ 4096) (high : r ≤ 65536) 
   unfolding isBlank sameBytes
   fields-read = record {
     begins = rw parts;
-    width = sym first-width;
-    rows = sym second-rows;
-    most = sym third-largest;
+    width = omega (arith, first-width, wide);
+    rows = omega (arith, second-rows, high);
+    most = omega (arith, third-largest);
     ends = refl;
     closed = rw closing;
   }

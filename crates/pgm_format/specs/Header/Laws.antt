@@ -2,21 +2,23 @@
 use Prim.Native.Nat.{ℕ, suc, _+_, _≤_, _<_, min}
 use native.Mathlib.Numerals.{add-one}
 use native.Mathlib.Omega.{arith}
-use mathlib.Core.Path.{_≡_, sym}
+use mathlib.Core.Path.{_≡_, sym, _∙_}
 use mathlib.Core.Bool.{Bool, true, false}
 use mathlib.Core.List.{List, [], _∷_}
 use lib.ListN.{length, take, drop, getD}
 use lib.Seq.{drop-cons, drop-length, drop-drop, take-all, take-length}
-use lib.Dec.{ltb}
-use borrow.Author.Tests.{ltb-true, ltb-false, eq-eqb, ne-eqb}
+use lib.Dec.{ltb, eqb}
+use borrow.Author.Tests.{ltb-true, ltb-false, lt-ltb, le-ltb, eqb-true, eqb-false, eq-eqb, ne-eqb}
 use Rattle.row_format.specs.Lists.Laws.{by-test}
 use Rattle.answer.specs.Outcome.Laws.{unless-refused}
 use Rattle.text.specs.Text.{ascii}
-use Rattle.text.specs.Number.{isDigit, numberIn}
+use Rattle.text.specs.Number.{isDigit}
 use Rattle.text.specs.Same.{sameBytes}
-use Rattle.pgm_format.specs.Header.{isBlank, separates, comments, gapFrom, gapBytes, digitBytes, orZero, fieldValue, fieldBytes}
+use Rattle.fits_format.specs.Card.{digitsValue}
+use Rattle.pgm_format.specs.Header.{isBlank, separates, comments, gapFrom, gapBytes, digitBytes, fieldValue, fieldBytes}
 use Rattle.pgm_format.specs.Header.{fieldAt, afterField}
 use Rattle.pgm_format.specs.Header.{rowsPlace, largestPlace, blankPlace, fieldsNumber, frontNumber, noPgm, pgmOf, frontRead}
+use Rattle.pgm_format.specs.Header.Accepted.{fields-fit}
 
 -- ---- one byte after the other: those before i were counted
 module _ (s : List ℕ) (i : ℕ) where
@@ -70,16 +72,44 @@ module _ (s : List ℕ) (at g d : ℕ) (gap : g ≡ gapBytes (drop at s)) (digit
   unfolding fieldValue
   field-none e = rw (← gap, eq-eqb g 0 e)
 
-  pub field-number : (g ≡ 0 → ⊥) → orZero (numberIn 4294967295 (take d (drop (at + g) s))) ≡ fieldAt at s
+  pub field-number : (g ≡ 0 → ⊥) → digitsValue 0 (take d (drop (at + g) s)) ≡ fieldAt at s
   unfolding fieldValue
   field-number e = rw (← gap, ne-eqb g 0 e, drop-drop g at s, ← digits)
+
+-- ---- a number is judged by what is kept of it up to 65537, which no header may have
+abbrev pub kept : ℕ → ℕ
+kept n = min n 65537
+
+kept-same : (n k : ℕ) → k < 65537 → eqb (kept n) k ≡ eqb n k
+kept-same n k h =
+    by-test (eqb n k)
+    (λ t. rw t (eq-eqb (kept n) k (omega (arith, eqb-true n k t))))
+    (λ t. rw t (ne-eqb (kept n) k (λ e. eqb-false n k t (omega (arith, e)))))
+
+kept-less : (k n : ℕ) → k < 65537 → ltb k (kept n) ≡ ltb k n
+kept-less k n h =
+    by-test (ltb k n)
+    (λ t. rw t (lt-ltb k (kept n) (omega (arith, ltb-true k n t))))
+    (λ t. rw t (le-ltb k (kept n) (omega (arith, ltb-false k n t))))
+
+fields-kept : (w r largest : ℕ) (blank : Bool)
+    → fieldsNumber (kept w) (kept r) (kept largest) blank ≡ fieldsNumber w r largest blank
+unfolding fieldsNumber
+fields-kept w r largest blank =
+    rw (
+      kept-same w 0 (omega arith),
+      kept-same r 0 (omega arith),
+      kept-same largest 4095 (omega arith),
+      kept-less 4096 w (omega arith),
+      kept-less 65536 r (omega arith),
+    )
 
 -- ---- the three fields
 pub record FieldsRead (s : List ℕ) (w r largest end : ℕ) (blank : Bool) : Type 0 where
   pub begins : sameBytes (take 2 s) (ascii "P5") ≡ true
-  pub width : w ≡ fieldAt 2 s
-  pub rows : r ≡ fieldAt (rowsPlace s) s
-  pub most : largest ≡ fieldAt (largestPlace s) s
+  pub width : w ≡ kept (fieldAt 2 s)
+  pub rows : r ≡ kept (fieldAt (rowsPlace s) s)
+  pub most : largest ≡ kept (fieldAt (largestPlace s) s)
   pub ends : end ≡ blankPlace s
   pub closed : blank ≡ isBlank (getD s end 0)
 
@@ -88,9 +118,15 @@ unfolding frontRead frontNumber
 front-unlike s e = rw e
 
 module _ {s : List ℕ} {w r largest end : ℕ} {blank : Bool} (read : FieldsRead s w r largest end blank) where
+  fields-number : fieldsNumber w r largest blank
+      ≡ fieldsNumber (fieldAt 2 s) (fieldAt (rowsPlace s) s) (fieldAt (largestPlace s) s) blank
+  fields-number =
+      rw (read .width, read .rows, read .most)
+      (fields-kept (fieldAt 2 s) (fieldAt (rowsPlace s) s) (fieldAt (largestPlace s) s) blank)
+
   pub front-number : fieldsNumber w r largest blank ≡ frontNumber s
   unfolding frontNumber
-  front-number = rw (read .begins, read .closed, read .width, read .rows, read .most, read .ends)
+  front-number = fields-number ∙ rw (read .begins, read .closed, read .ends)
 
   pub front-refused : {n : ℕ} → n ≡ fieldsNumber w r largest blank → (n ≡ 0 → ⊥) → frontRead s ≡ noPgm n
   unfolding frontRead
@@ -100,7 +136,12 @@ module _ {s : List ℕ} {w r largest end : ℕ} {blank : Bool} (read : FieldsRea
   pub front-accepted : {n : ℕ} → n ≡ fieldsNumber w r largest blank → n ≡ 0
       → frontRead s ≡ record { number = 0; width = w; rows = r; start = end + 1 }
   unfolding frontRead
-  front-accepted e none = rw (← front-number, ← e, none, read .width, read .rows, read .ends)
+  front-accepted e none =
+      let fits =
+      fields-fit (fieldAt 2 s) (fieldAt (rowsPlace s) s) (fieldAt (largestPlace s) s) blank (sym fields-number ∙ sym e ∙ none) in
+      let width : w ≡ fieldAt 2 s = omega (arith, read .width, fits .wide) in
+      let rows : r ≡ fieldAt (rowsPlace s) s = omega (arith, read .rows, fits .high) in
+      rw (← front-number, ← e, none, width, rows, read .ends)
 
 -- ---- n bytes from the front, or as many as there are
 pub take-min : (n : ℕ) (l : List ℕ) → take (min n (length l)) l ≡ take n l

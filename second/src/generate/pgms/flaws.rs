@@ -5,7 +5,7 @@ use super::{comment, spelled, Pgm};
 use crate::conversion::Verdict;
 use crate::generate::mutations::mutate;
 use crate::generate::rows;
-use crate::pgm::{MOST_HEADER, MOST_ROWS};
+use crate::pgm::{MAXVAL, MOST_HEADER, MOST_ROWS};
 use crate::random::Random;
 use crate::refusal::{IMAGE_END, PGM_HEADER, PIXEL, TOO_MANY};
 use crate::row::MAX_PIXELS;
@@ -19,7 +19,6 @@ pub enum Change {
     NoSeparator,
     OtherSeparator,
     NoNumber,
-    NumberTooLarge,
     AxisZero,
     OtherMaxval,
     NoBlankAtEnd,
@@ -38,12 +37,11 @@ pub enum Change {
 use Change::*;
 
 const SOUND: [Change; 3] = [Nothing, MoreBytes, LongestHeader];
-const HEADERS: [Change; 12] = [
+const HEADERS: [Change; 11] = [
     OtherMagic,
     NoSeparator,
     OtherSeparator,
     NoNumber,
-    NumberTooLarge,
     AxisZero,
     OtherMaxval,
     NoBlankAtEnd,
@@ -105,12 +103,6 @@ fn header(random: &mut Random, pgm: &mut Pgm, change: Change) -> Vec<u8> {
         NoSeparator => separators.clear(),
         OtherSeparator => separators.push(random.pick(&[11, 12, 0, b',', b'/', 0xA0])),
         NoNumber => *number = random.pick(&["", "-3", "+3", "x", "0x3", "#"]).to_string(),
-        NumberTooLarge => {
-            // What a careless reader takes for the same number.
-            let same: u128 = number.parse().expect("a number");
-            let wrapped = 1 << random.pick(&[32, 33, 64, 65]);
-            *number = random.pick(&[same + wrapped, 1 << 32]).to_string();
-        }
         AxisZero => pgm.fields[random.below(2)].1 = random.pick(&["0", "000"]).to_string(),
         OtherMaxval => other_maxval(random, pgm),
         NoBlankAtEnd => {
@@ -138,15 +130,21 @@ fn header(random: &mut Random, pgm: &mut Pgm, change: Change) -> Vec<u8> {
 }
 
 fn other_maxval(random: &mut Random, pgm: &mut Pgm) {
-    let others = ["0", "1", "255", "4094", "4096", "40950", "65535", "4294967295"];
+    let others = [0, 1, 255, 4094, 4096, 40950, 65535, 4294967295, wrapped(random, MAXVAL.into())];
     pgm.fields[2].1 = random.pick(&others).to_string();
+}
+
+/// What a careless reader takes for the same number.
+fn wrapped(random: &mut Random, number: u128) -> u128 {
+    number + (1 << random.pick(&[32, 33, 64, 65]))
 }
 
 fn axis_too_long(random: &mut Random, pgm: &mut Pgm) {
     let axis = random.below(2);
     let least = [MAX_PIXELS, MOST_ROWS][axis] + 1;
     let longer = random.within(least..=u32::MAX as usize);
-    let number = random.pick(&[least, longer, u32::MAX as usize]);
+    let same = wrapped(random, [pgm.width, pgm.rows()][axis] as u128);
+    let number = random.pick(&[least as u128, longer as u128, 1 << 32, same]);
     pgm.fields[axis].1 = spelled(random, number);
 }
 

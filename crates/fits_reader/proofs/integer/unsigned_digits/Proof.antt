@@ -14,11 +14,11 @@ use Rattle.fits_reader.proofs.integer.unsigned_digits.Statement.{statem
 use Rattle.fits_reader.proofs.integer.unsigned_digits.Tie as tie
 
 abbrev Inv-loop : tie.InvT-loop
-Inv-loop field value₀ i₀ value i =
-    (i ≤ length field) × (value ≤ 4097) × (digitsClipped 0 field ≡ digitsClipped value (drop i field))
+Inv-loop field most value₀ i₀ value i =
+    (i ≤ length field) × (value ≤ most) × (digitsClipped most 0 field ≡ digitsClipped most value (drop i field))
 
 abbrev μ-loop : tie.MeasureT-loop
-μ-loop field value₀ i₀ value i = length field - i
+μ-loop field most value₀ i₀ value i = length field - i
 
 -- the byte at i is a digit
 module _ (c : tie.Else1 Inv-loop μ-loop) where
@@ -49,8 +49,9 @@ returns c =
     let tested = c .before in
     let at-loop = tested .before .before .before in
     let field = at-loop .before .before .args .field .now in
+    let most = at-loop .before .before .args .most in
     let no-digit = sym (tested .is-digit .ensures) ∙ not-true (tested .is-digit .result) (c .if1 .taken) in
-    sym (at-loop .loop .inv .2 ∙ laws.digits-not field (at-loop .loop .i) (at-loop .loop .value) (omega arith) no-digit)
+    sym (at-loop .loop .inv .2 ∙ laws.digits-not most field (at-loop .loop .i) (at-loop .loop .value) (omega arith) no-digit)
 
 mul-lesser : tie.Need-mul-lesser Inv-loop μ-loop
 mul-lesser c = search needs
@@ -77,16 +78,18 @@ loop-again : tie.Need-loop-again Inv-loop μ-loop
 loop-again c =
     let at-loop = c .before .before .before .before .before in
     let field = at-loop .before .before .args .field .now in
+    let most = at-loop .before .before .args .most in
     let i = at-loop .loop .i in
-    let on = laws.digits-on field i (at-loop .loop .value) (omega arith) (a-digit (c .before)) in
-    let kept = ap (λ (v : ℕ). digitsClipped v (drop (i + 1) field)) (sym (c .lesser .ensures)) in
+    let on = laws.digits-on most field i (at-loop .loop .value) (omega arith) (a-digit (c .before)) in
+    let kept = ap (λ (v : ℕ). digitsClipped most v (drop (i + 1) field)) (sym (c .lesser .ensures)) in
     (omega arith, omega arith, at-loop .loop .inv .2 ∙ on ∙ kept)
 
 returns-2 : tie.Need-returns-2 Inv-loop μ-loop
 returns-2 c =
     let at-loop = c .before in
     let field = at-loop .before .before .args .field .now in
-    sym (at-loop .loop .inv .2 ∙ laws.digits-end field (at-loop .loop .i) (at-loop .loop .value) (omega arith) (omega arith))
+    let most = at-loop .before .before .args .most in
+    sym (at-loop .loop .inv .2 ∙ laws.digits-end most field (at-loop .loop .i) (at-loop .loop .value) (omega arith) (omega arith))
 
 pub unsigned-digits-spec : {M : Type 1} → statement M
 unsigned-digits-spec =

@@ -1,11 +1,12 @@
 -- `pgm_reader::field::field_at` meets its contract: separators, and then digits. Assumes nothing.
 use Prim.Native.Nat.{_+_, _-_, _≤_}
 use native.Mathlib.Omega.{arith}
-use mathlib.Core.Path.{_≡_, _∙_}
+use mathlib.Core.Path.{_≡_, ap, _∙_}
 use lib.ListN.{length, drop, length-drop}
 use borrow.Rule.Slice.PartAt.{part-to-end}
 use Rattle.pgm_format.specs.Header.{gapBytes, digitBytes}
-use Rattle.pgm_format.specs.Header.Laws.{field-none, field-end, field-number}
+use Rattle.pgm_format.specs.Header.Laws.{kept, field-none, field-end, field-number}
+use Rattle.pgm_reader.proofs.field.Laws.{kept-digits}
 use borrow.Author.Needs.{needs}
 use Rattle.pgm_reader.proofs.field.field_at.Statement.{statement}
 use Rattle.pgm_reader.proofs.field.field_at.Tie as tie
@@ -65,21 +66,21 @@ returns c =
     let digits = counted .digit-bytes .result in
     let a = counted .before .before .before .before .before .args in
     let f = found counted in (
-      field-none (a .bytes .now) (a .at) gap digits (f .0) (f .1) (c .if1 .taken),
+      ap kept (field-none (a .bytes .now) (a .at) gap digits (f .0) (f .1) (c .if1 .taken)),
       (field-end (a .bytes .now) (a .at) gap digits (f .0) (f .1), f .2),
     )
 
-sub-number-or-zero : tie.Need-sub-number-or-zero
-sub-number-or-zero c = search needs
+sub-unsigned-digits : tie.Need-sub-unsigned-digits
+sub-unsigned-digits c = search needs
 
-part-number-or-zero-start : tie.Need-part-number-or-zero-start
-part-number-or-zero-start c = search needs
+part-unsigned-digits-start : tie.Need-part-unsigned-digits-start
+part-unsigned-digits-start c = search needs
 
-part-number-or-zero-end : tie.Need-part-number-or-zero-end
-part-number-or-zero-end c = search needs
+part-unsigned-digits-end : tie.Need-part-unsigned-digits-end
+part-unsigned-digits-end c = search needs
 
-number-or-zero-requires : tie.Need-number-or-zero-requires
-number-or-zero-requires c κs = search needs
+unsigned-digits-requires : tie.Need-unsigned-digits-requires
+unsigned-digits-requires c κs = search needs
 
 returns-2 : tie.Need-returns-2
 returns-2 c =
@@ -88,9 +89,11 @@ returns-2 c =
     let digits = counted .digit-bytes .result in
     let a = counted .before .before .before .before .before .args in
     let f = found counted in
-    let size : a .at + gap + digits - (a .at + gap) ≡ digits = omega arith in (
-      (rw size at (c .number-or-zero .ensures))
-          ∙ field-number (a .bytes .now) (a .at) gap digits (f .0) (f .1) (c .before .before .if1 .left),
+    let size : a .at + gap + digits - (a .at + gap) ≡ digits = omega arith in
+    let number = field-number (a .bytes .now) (a .at) gap digits (f .0) (f .1) (c .before .before .if1 .left) in (
+      (rw size at (c .unsigned-digits .ensures))
+          ∙ (rw (← f .1) at (kept-digits 65537 0 (drop (a .at + gap) (a .bytes .now))))
+          ∙ ap kept number,
       (field-end (a .bytes .now) (a .at) gap digits (f .0) (f .1), f .2),
     )
 
@@ -109,8 +112,8 @@ field-at-spec =
     digit-bytes-requires
     add-end
     returns
-    sub-number-or-zero
-    part-number-or-zero-start
-    part-number-or-zero-end
-    number-or-zero-requires
+    sub-unsigned-digits
+    part-unsigned-digits-start
+    part-unsigned-digits-end
+    unsigned-digits-requires
     returns-2)

@@ -83,6 +83,19 @@ pub fn word_at(i: usize, word: &mut [u8]) -> usize
     n
 }
 
+// Whether standard input is meant by the argument at place i: it is `-`, or there is none, which place 0 says.
+pub fn is_input(i: usize) -> bool {
+    if i == 0 {
+        return true;
+    }
+    let mut word = io::buffer();
+    let n = word_at(i, &mut word);
+    if let Argument::Input = argument_of(&word[..n]) {
+        return true;
+    }
+    false
+}
+
 // Whether the argument at place i is a file: each is, in front of the `--` and behind it.
 pub fn is_file(files: Files, i: usize) -> bool {
     i != files.end

@@ -26,7 +26,12 @@ pub data Shown (beside : ℕ) (c : List ℕ) : Type 0 where
   withMap : (group : ℕ) (bytes : List ℕ) (total : ℕ) (m : List ℕ) → length m ≡ 32768
       → besideOf beside c ≡ mapBeside (mapRead group bytes total m) → Shown beside c
 
--- that, with its largest count
+-- of the map of group size g and a total, whose bytes are b: m is what the memory for its counts held, and c what it holds then
+pub record SideRead (g : ℕ) (b : List ℕ) (total : ℕ) (m : List ℕ) (s : MapSide) (c : List ℕ) : Type 0 where
+  pub beside : besideOf (s .beside) c ≡ mapBeside (mapRead g b total m)
+  pub number : s .number ≡ mapRead g b total m .answer .number
+
+-- what stands beside the sheet, with its largest count
 pub record SideShown (s : MapSide) (c : List ℕ) : Type 0 where
   pub shown : Shown (s .beside) c
   pub few : s .beside ≤ 2

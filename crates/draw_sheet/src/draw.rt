@@ -1,9 +1,14 @@
 // The second pass: the picture, a row at a time.
+use crate::PROGRAM;
 use crate::advance::Ahead;
 use crate::advance::advance;
 use crate::advance::ahead_of;
 use crate::advance::is_last;
-use crate::output::print_part;
+use crate::parts::RowsOut;
+use crate::parts::print_end;
+use crate::parts::print_front;
+use crate::parts::print_row;
+use command::say::hint;
 use png_writer::adler::Sums;
 use png_writer::adler::add_row;
 use png_writer::adler::begin_sums;
@@ -27,7 +32,7 @@ ghost use Rattle.sheet_picture.specs.Colour.{palette};
 ghost use Rattle.sheet_picture.specs.View.{rangeOf, ViewFits, IndicesOf, heightsBy};
 ghost use Rattle.draw_sheet.specs.View.{ViewMade};
 ghost use Rattle.draw_sheet.specs.Ahead.{leastIn};
-ghost use Rattle.draw_sheet.specs.Drawn.{FrontOut, RowOut, EndOut, RowPut};
+ghost use Rattle.draw_sheet.specs.Drawn.{RowPut};
 
 // The bytes of a row's part of the picture, and the sums with that row.
 pub struct RowPart {
@@ -37,6 +42,7 @@ pub struct RowPart {
 
 // to, to_name      where the picture goes
 // file, name       the sheet, which stands at its start
+// rows             how many rows it had when it was measured
 // colours          the palette
 // crcs, indices    the tables of png_writer and sheet_picture
 // counts           the map's
@@ -47,6 +53,7 @@ pub fn draw_picture(
     to_name: &[u8],
     file: i32,
     name: &[u8],
+    rows: u64,
     view: View,
     colours: &[u8],
     crcs: &[u32],
@@ -73,12 +80,15 @@ pub fn draw_picture(
         colours,
         crcs,
     );
-    if print_front(to, to_name, view, counts, &out[..n]) {
+    let front = print_front(to, to_name, view, counts, &out[..n]);
+    if front.written {
         draw_rows(
             to,
             to_name,
             file,
             name,
+            rows,
+            front.rows,
             view,
             crcs,
             indices,
@@ -91,13 +101,15 @@ pub fn draw_picture(
     }
 }
 
-// No contract can say that reading moves the input's next bytes, fewer than asked only at its end, and that writing moves the parts'
-// bytes: only that is left to tests.
+// The rows behind the front, and the end. No contract can say that reading moves the input's next bytes, fewer than asked only at its
+// end, nor which bytes were read before: that each part is of this sheet is this loop's and those of `advance`.
 fn draw_rows(
     to: i32,
     to_name: &[u8],
     file: i32,
     name: &[u8],
+    rows: u64,
+    front: RowsOut,
     view: View,
     crcs: &[u32],
     indices: &[u8],
@@ -114,10 +126,12 @@ fn draw_rows(
     requires { ⌜ 32772 ≤ length (now table) ⌝ }
     requires { ⌜ 16384 ≤ length (now content) ⌝ }
     requires { ⌜ 65536 ≤ length (now out) ⌝ }
+    requires { ⌜ front .next ≡ 0 ⌝ }
 {
     let height = picture_height(view);
     let mut ahead = ahead_of(false, false, 0, begin());
     let mut sums = begin_sums();
+    let mut drawn = front;
     let mut y = 0;
     while y < height {
         ahead = advance(file, name, bytes, table, content, ahead, y / view.times);
@@ -126,7 +140,9 @@ fn draw_rows(
         }
         let part = put_part(view, y, ahead, content, indices, counts, crcs, out, sums);
         let n = part.count;
-        if print_row(to, to_name, view, counts, y, &out[..n]) {
+        let printed = print_row(to, to_name, view, counts, drawn, &out[..n]);
+        if printed.written {
+            drawn = printed.rows;
             sums = part.sums;
             y += 1;
         } else {
@@ -134,7 +150,20 @@ fn draw_rows(
         }
     }
     let n = put_end(out, sums, crcs);
-    print_end(to, to_name, view, counts, &out[..n]);
+    print_end(to, to_name, view, counts, drawn, &out[..n]);
+    say_changed(name, rows, ahead);
+}
+
+// Where the sheet had another number of rows when it was measured, that is said: the picture is of neither.
+fn say_changed(name: &[u8], rows: u64, ahead: Ahead) {
+    let at = ahead.at;
+    if at.rows != rows {
+        hint(
+            &PROGRAM,
+            name,
+            b"the sheet is not what it was when it was read first",
+        );
+    }
 }
 
 // Row y of the picture: its part of the file at the front of `out`.
@@ -167,24 +196,4 @@ fn put_part(
     let sums = add_row(sums, &out[14..end]);
     let count = put_row(out, end - 14, crcs);
     RowPart { count, sums }
-}
-
-// Write a part of the picture; nothing else goes out. The view, the counts and the row's number say what the part must be; nothing
-// else is done with them.
-fn print_front(to: i32, to_name: &[u8], view: View, counts: &[u8], part: &[u8]) -> bool
-    requires { ⌜ FrontOut view (now counts) (now part) ⌝ }
-{
-    print_part(to, to_name, part)
-}
-
-fn print_row(to: i32, to_name: &[u8], view: View, counts: &[u8], y: u32, part: &[u8]) -> bool
-    requires { ⌜ RowOut view (now counts) y (now part) ⌝ }
-{
-    print_part(to, to_name, part)
-}
-
-fn print_end(to: i32, to_name: &[u8], view: View, counts: &[u8], part: &[u8]) -> bool
-    requires { ⌜ EndOut view (now counts) (now part) ⌝ }
-{
-    print_part(to, to_name, part)
 }

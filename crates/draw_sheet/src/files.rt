@@ -37,6 +37,16 @@ fn draw_beside(wish: Wish, counts: &mut [u8])
     if side.failed {
         return;
     }
+    draw_named(wish, side, counts);
+    if 0 <= side.file {
+        close(side.file);
+    }
+}
+
+fn draw_named(wish: Wish, side: MapSide, counts: &[u8])
+    requires { ⌜ WishFits wish ⌝ }
+    requires { ⌜ SideShown side (now counts) ⌝ }
+{
     let sheet = wish.sheet;
     if sheet == 0 {
         draw_input(STDIN_FILENO, b"-", wish, side, counts);
@@ -68,9 +78,7 @@ fn side_named(name: &[u8], group: u32, total: u64, counts: &mut [u8]) -> MapSide
     if file < 0 {
         return side_without(true);
     }
-    let side = take_side(file, name, group, total, counts);
-    close(file);
-    side
+    take_side(file, name, group, total, counts)
 }
 
 fn draw_file(name: &[u8], wish: Wish, side: MapSide, counts: &[u8])

@@ -7,6 +7,7 @@ mod files;
 mod map;
 mod measure;
 mod output;
+mod parts;
 mod passes;
 mod words;
 

@@ -13,27 +13,30 @@ ghost use lib.ListN.{length};
 ghost use Rattle.text.specs.Text.{ascii};
 ghost use Rattle.text.specs.Lines.{refusedLine};
 ghost use Rattle.text.specs.Put.{Put};
-ghost use Rattle.draw_sheet.specs.Map.{SideShown};
+ghost use Rattle.draw_sheet.specs.Map.{SideShown, SideRead};
 
 // failed   whether the map could not be read, which is said on standard error
 // beside   what stands beside the sheet: 0 nothing, 1 the counts, 2 a map that is refused
 // most     the largest count, at least 1
 // number   the number by which the map is refused, else 0
+// file     the map's descriptor, which is still open; below 0 where there is none
 pub struct MapSide {
     pub failed: bool,
     pub beside: u32,
     pub most: u32,
     pub number: u32,
+    pub file: i32,
 }
 
 pub fn side_without(failed: bool) -> MapSide
-    ensures { λ r. ⌜ r ≡ record { failed = failed; beside = 0; most = 1; number = 0 } ⌝ }
+    ensures { λ r. ⌜ r .beside ≡ 0 ⌝ }
 {
     MapSide {
         failed,
         beside: 0,
         most: 1,
         number: 0,
+        file: -1,
     }
 }
 
@@ -48,12 +51,14 @@ pub fn take_side(file: i32, name: &[u8], group: u32, total: u64, counts: &mut [u
         return side_without(true);
     }
     let n = filled.count;
-    side_of(&bytes[..n], group, total, counts)
+    side_of(file, &bytes[..n], group, total, counts)
 }
 
-fn side_of(bytes: &[u8], group: u32, total: u64, counts: &mut [u8]) -> MapSide
+// By the map's bytes.
+fn side_of(file: i32, bytes: &[u8], group: u32, total: u64, counts: &mut [u8]) -> MapSide
     requires { ⌜ length (now counts) ≡ 32768 ⌝ }
-    ensures { λ r. ⌜ SideShown r (now (counts .exit)) ⌝ }
+    ensures shown { λ r. ⌜ SideShown r (now (counts .exit)) ⌝ }
+    ensures read { λ r. ⌜ SideRead group (now (bytes .entry)) total (now (counts .entry)) r (now (counts .exit)) ⌝ }
 {
     let answer = read_map(group, bytes, total, counts);
     let number = answer.number;
@@ -63,6 +68,7 @@ fn side_of(bytes: &[u8], group: u32, total: u64, counts: &mut [u8]) -> MapSide
             beside: 2,
             most: 1,
             number,
+            file,
         };
     }
     MapSide {
@@ -70,6 +76,7 @@ fn side_of(bytes: &[u8], group: u32, total: u64, counts: &mut [u8]) -> MapSide
         beside: 1,
         most: most_of(counts),
         number: 0,
+        file,
     }
 }
 

@@ -19,10 +19,12 @@ ghost use Rattle.draw_sheet.specs.Measure.{widthWith, PassEnds, BrokenBy
 
 // failed          whether reading failed, which is said on standard error
 // width, height   the extent of the sheet, in heights
+// rows            how many rows it has before its end or its fault
 pub struct Measured {
     pub failed: bool,
     pub width: u32,
     pub height: u32,
+    pub rows: u64,
 }
 
 // How the records ended.
@@ -50,7 +52,7 @@ pub fn measure(
     let passed = pass_records(file, name, bytes, table, content);
     let step = passed.step;
     if step.failed {
-        return measured_as(true, 1, 1);
+        return measured_as(true, 1, 1, 0);
     }
     let taken = step.taken;
     say_verdict(&bytes[..taken], step);
@@ -58,13 +60,26 @@ pub fn measure(
     let at = step.next;
     let state = at.state;
     if read.number == 0 {
-        return measured_as(false, larger(1, passed.width), larger(1, state.least_row));
+        return measured_as(
+            false,
+            larger(1, passed.width),
+            larger(1, state.least_row),
+            at.rows,
+        );
     }
-    measure_behind(file, name, bytes, taken, passed.width, state.least_row)
+    measure_behind(
+        file,
+        name,
+        bytes,
+        taken,
+        passed.width,
+        state.least_row,
+        at.rows,
+    )
 }
 
 // The same where a record is refused, of which the bytes that are held stand at the front of `bytes`. The rows before it are at
-// most so wide, and least is the number behind the last of them.
+// most so wide, least is the number behind the last of them, and `rows` is how many they are.
 fn measure_behind(
     file: i32,
     name: &[u8],
@@ -72,6 +87,7 @@ fn measure_behind(
     taken: usize,
     width: u32,
     least: u32,
+    rows: u64,
 ) -> Measured
     requires { ⌜ 32778 ≤ length (now bytes) ⌝ }
     requires { ⌜ taken ≤ 32778 ⌝ }
@@ -82,18 +98,24 @@ fn measure_behind(
 {
     let claimed = take_claims(file, name, bytes, taken);
     if claimed.failed {
-        return measured_as(true, 1, 1);
+        return measured_as(true, 1, 1, 0);
     }
-    measured_as(false, larger(16, width), larger(least + 16, claimed.height))
+    measured_as(
+        false,
+        larger(16, width),
+        larger(least + 16, claimed.height),
+        rows,
+    )
 }
 
-fn measured_as(failed: bool, width: u32, height: u32) -> Measured
-    ensures { λ r. ⌜ r ≡ record { failed = failed; width = width; height = height } ⌝ }
+fn measured_as(failed: bool, width: u32, height: u32, rows: u64) -> Measured
+    ensures { λ r. ⌜ r ≡ record { failed = failed; width = width; height = height; rows = rows } ⌝ }
 {
     Measured {
         failed,
         width,
         height,
+        rows,
     }
 }
 

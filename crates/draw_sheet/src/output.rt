@@ -1,11 +1,8 @@
 // Where the picture goes.
 use crate::PROGRAM;
-use command::close;
-use command::open;
 use command::open_output;
 use command::say::complain;
 use command::say::hint;
-use command::word_at;
 use libc::SEEK_SET;
 use libc::STDOUT_FILENO;
 use text::same::same_bytes;
@@ -32,10 +29,10 @@ pub fn is_terminal() -> bool {
     false
 }
 
-// A descriptor for the picture, whose file is made or overwritten; below 0 where it is the sheet itself or, by the place of its name,
-// the map, or cannot be opened, which is said on standard error. What is there is held until then, so that whoever reads a named pipe
-// waits for the picture. `file` is left anywhere.
-pub fn open_picture(to_name: &[u8], file: i32, map: usize) -> i32 {
+// A descriptor for the picture, whose file is made or overwritten; below 0 where it is the sheet or the map, or cannot be opened,
+// which is said on standard error. What is there is held until then, so that whoever reads a named pipe waits for the picture.
+// `file` and `map`, the descriptors of the two, are left anywhere; `map` is below 0 where there is none.
+pub fn open_picture(to_name: &[u8], file: i32, map: i32) -> i32 {
     let there = os::open_update(to_name);
     if there < 0 {
         return open_output(&PROGRAM, to_name);
@@ -45,42 +42,27 @@ pub fn open_picture(to_name: &[u8], file: i32, map: usize) -> i32 {
     to
 }
 
-fn open_free(there: i32, to_name: &[u8], file: i32, map: usize) -> i32 {
-    if is_taken(there, to_name, file, map) {
+fn open_free(there: i32, to_name: &[u8], file: i32, map: i32) -> i32 {
+    if same_from_start(there, file) {
+        hint(&PROGRAM, to_name, b"this is the sheet itself");
+        return -1;
+    }
+    if is_map(there, map) {
+        hint(&PROGRAM, to_name, b"this is the map itself");
         return -1;
     }
     open_output(&PROGRAM, to_name)
 }
 
-// Whether what is there is the sheet or the map: neither is ever overwritten, under whatever name.
-fn is_taken(there: i32, to_name: &[u8], file: i32, map: usize) -> bool {
-    if same_from_start(there, file) {
-        hint(&PROGRAM, to_name, b"this is the sheet itself");
-        return true;
-    }
-    if map == 0 {
+fn is_map(there: i32, map: i32) -> bool {
+    if map < 0 {
         return false;
     }
-    let mut word = io::buffer();
-    let n = word_at(map, &mut word);
-    is_map(there, to_name, &word[..n])
+    same_from_start(there, map)
 }
 
-fn is_map(there: i32, to_name: &[u8], name: &[u8]) -> bool {
-    let file = open(&PROGRAM, name);
-    if file < 0 {
-        return false;
-    }
-    let same = same_from_start(there, file);
-    close(file);
-    if same {
-        hint(&PROGRAM, to_name, b"this is the map itself");
-        return true;
-    }
-    false
-}
-
-// Whether two descriptors have the same bytes from their start. What has no place to go back to, such as a pipe, has none.
+// Whether two descriptors have the same bytes from their start. What has no place to go back to, such as a pipe, has none, and an
+// empty file is the same as none.
 fn same_from_start(a: i32, b: i32) -> bool {
     if libc::lseek(a, 0, SEEK_SET) == 0 {
         if libc::lseek(b, 0, SEEK_SET) == 0 {

@@ -65,7 +65,19 @@ fn first_pass(
     }
     say_map(side);
     let view = view_of(wish, side, measured, counts);
-    second_pass(file, name, start, wish, view, counts, bytes, table, content);
+    second_pass(
+        file,
+        name,
+        start,
+        measured.rows,
+        wish.out,
+        side.file,
+        view,
+        counts,
+        bytes,
+        table,
+        content,
+    );
 }
 
 // The counts are the map's; nothing is done with them.
@@ -87,12 +99,15 @@ fn view_of(wish: Wish, side: MapSide, measured: Measured, counts: &[u8]) -> View
     }
 }
 
-// start is the place of the sheet's first byte.
+// start is the place of the sheet's first byte, `rows` how many rows were read from there, and `map` the map's descriptor, below 0
+// where there is none.
 fn second_pass(
     file: i32,
     name: &[u8],
     start: i64,
-    wish: Wish,
+    rows: u64,
+    out: usize,
+    map: i32,
     view: View,
     counts: &[u8],
     bytes: &mut [u8],
@@ -104,7 +119,6 @@ fn second_pass(
     requires { ⌜ 32772 ≤ length (now table) ⌝ }
     requires { ⌜ 16384 ≤ length (now content) ⌝ }
 {
-    let out = wish.out;
     if out == 0 {
         draw_to(
             STDOUT_FILENO,
@@ -112,6 +126,7 @@ fn second_pass(
             file,
             name,
             start,
+            rows,
             view,
             counts,
             bytes,
@@ -127,7 +142,8 @@ fn second_pass(
         file,
         name,
         start,
-        wish.map,
+        rows,
+        map,
         view,
         counts,
         bytes,
@@ -142,7 +158,8 @@ fn draw_out(
     file: i32,
     name: &[u8],
     start: i64,
-    map: usize,
+    rows: u64,
+    map: i32,
     view: View,
     counts: &[u8],
     bytes: &mut [u8],
@@ -164,6 +181,7 @@ fn draw_out(
         file,
         name,
         start,
+        rows,
         view,
         counts,
         bytes,
@@ -180,6 +198,7 @@ fn draw_to(
     file: i32,
     name: &[u8],
     start: i64,
+    rows: u64,
     view: View,
     counts: &[u8],
     bytes: &mut [u8],
@@ -201,6 +220,7 @@ fn draw_to(
             to_name,
             file,
             name,
+            rows,
             view,
             &colours,
             &crcs,

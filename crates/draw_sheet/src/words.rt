@@ -3,8 +3,7 @@ use crate::PROGRAM;
 use crate::USAGE;
 use crate::files::draw_files;
 use crate::help;
-use command::argument::Argument;
-use command::argument::argument_of;
+use command::is_input;
 use command::number::number_from;
 use command::number::option_number;
 use command::option::count_words;
@@ -12,7 +11,6 @@ use command::option::value_of;
 use command::option::word_place;
 use command::say::hint;
 use command::say::refuse_at;
-use command::word_at;
 use libc::STDERR_FILENO;
 use text::read::Decimal;
 ghost use mathlib.Core.Path.{_≡_};
@@ -114,9 +112,7 @@ fn wish_of(times: u32, grey: GreyWords, map: MapWords) -> Wish
 // `-` is standard output.
 fn out_place() -> usize {
     let i = value_of(&USAGE, b"-o");
-    let mut word = io::buffer();
-    let n = word_at(i, &mut word);
-    if let Argument::Input = argument_of(&word[..n]) {
+    if is_input(i) {
         return 0;
     }
     i
@@ -194,6 +190,11 @@ fn read_map_words() -> MapWords {
     if total == 0 {
         return lacking_words();
     }
+    if is_input(name) {
+        if is_input(word_place(&USAGE, 0)) {
+            return same_input();
+        }
+    }
     read_map_numbers(name, group, total)
 }
 
@@ -211,6 +212,15 @@ fn lacking_words() -> MapWords {
         &PROGRAM,
         b"--map, --group and --total",
         b"all three are needed",
+    );
+    map_words(false, 0, 0, 0)
+}
+
+fn same_input() -> MapWords {
+    hint(
+        &PROGRAM,
+        b"standard input",
+        b"the sheet and the map cannot both come from it",
     );
     map_words(false, 0, 0, 0)
 }

@@ -5,10 +5,12 @@ use crate::convert::convert_input;
 use crate::help;
 use crate::table::fill_table;
 use command::close;
+use command::is_input;
 use command::open;
 use command::option::count_words;
 use command::option::value_of;
 use command::option::word_place;
+use command::say::hint;
 use command::say::refuse_at;
 use command::word_at;
 use libc::STDERR_FILENO;
@@ -16,7 +18,26 @@ use libc::STDIN_FILENO;
 ghost use Prim.Native.Nat.{_≤_};
 ghost use lib.ListN.{length};
 
-pub fn convert_words() {
+// The picture and the table cannot both come from standard input.
+pub fn take_words() {
+    let table = value_of(&USAGE, b"--table");
+    if table != 0 {
+        if is_input(table) {
+            if is_input(word_place(&USAGE, 0)) {
+                hint(
+                    &PROGRAM,
+                    b"standard input",
+                    b"the picture and the table cannot both come from it",
+                );
+                help(STDERR_FILENO);
+                return;
+            }
+        }
+    }
+    convert_words();
+}
+
+fn convert_words() {
     if 1 < count_words(&USAGE) {
         refuse_at(&PROGRAM, word_place(&USAGE, 1), b"only one file is taken");
         help(STDERR_FILENO);

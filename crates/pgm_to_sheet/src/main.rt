@@ -15,7 +15,7 @@ use command::say::complain;
 use command::say::print_version;
 use command::say::refuse_lacking;
 use command::say::refuse_option;
-use files::convert_words;
+use files::take_words;
 use libc::STDERR_FILENO;
 use libc::STDOUT_FILENO;
 
@@ -30,7 +30,7 @@ fn main() {
         Asked::Version => print_program(),
         Asked::Unknown(i) => refuse(i),
         Asked::Lacking(i) => refuse_short(i),
-        Asked::Words => convert_words(),
+        Asked::Words => take_words(),
     }
 }
 

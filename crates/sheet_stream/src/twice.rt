@@ -4,6 +4,7 @@ use command::say::complain;
 use libc::ESPIPE;
 use libc::SEEK_CUR;
 use libc::SEEK_SET;
+use libc::STDERR_FILENO;
 
 // Where a temporary file is made.
 const FOLDER: [u8; 4] = *b"/tmp";
@@ -37,6 +38,7 @@ pub fn again(program: &[u8], name: &[u8], file: i32, place: i64) -> bool {
 }
 
 fn copy_of(program: &[u8], name: &[u8], file: i32) -> i32 {
+    hold_standard();
     let mut path = *b"/tmp/sheet-XXXXXX";
     let copy = os::create_temp(&mut path);
     if copy < 0 {
@@ -54,6 +56,26 @@ fn copy_of(program: &[u8], name: &[u8], file: i32) -> i32 {
     }
     libc::close(copy);
     -1
+}
+
+// Holds the numbers of standard streams that are closed, for the temporary file is not to have one of them: what goes to standard
+// output or standard error would be written into it.
+fn hold_standard() {
+    if hold_next() {
+        if hold_next() {
+            hold_next();
+        }
+    }
+}
+
+// Whether there was one. It is held for reading, so that writing to it fails as it did.
+fn hold_next() -> bool {
+    let file = os::open_read(b"/dev/null");
+    if STDERR_FILENO < file {
+        libc::close(file);
+        return false;
+    }
+    0 <= file
 }
 
 // What is left of `file`, a block at a time, until a read brings less than a block. `blocks` is a number that no run uses up, so

@@ -15,13 +15,13 @@ use Rattle.draw_sheet.proofs.draw.draw_rows.Statement.{statement}
 use Rattle.draw_sheet.proofs.draw.draw_rows.Tie as tie
 
 abbrev Inv-loop : tie.InvT-loop
-Inv-loop to to-name file name view crcs indices counts bytes₀ table₀ content₀ out₀ height a₀ s₀ y₀ bytes table content out ahead sums y =
+Inv-loop to to-name file name rows view crcs indices counts bytes₀ table₀ content₀ out₀ height a₀ s₀ d₀ y₀ bytes table content out ahead sums drawn y =
     (length bytes ≡ length bytes₀) × (length table ≡ length table₀) × (length content ≡ length content₀) × (length out ≡ length out₀)
     × (y ≤ height) × CarriedFits (ahead .at) table × (ahead .count ≤ 8192)
-    × DrawnTo view counts ahead table content (y / view .times) y sums
+    × DrawnTo view counts ahead table content (y / view .times) y sums × (drawn .next ≡ y)
 
 abbrev μ-loop : tie.MeasureT-loop
-μ-loop to to-name file name view crcs indices counts bytes₀ table₀ content₀ out₀ height a₀ s₀ y₀ bytes table content out ahead sums y =
+μ-loop to to-name file name rows view crcs indices counts bytes₀ table₀ content₀ out₀ height a₀ s₀ d₀ y₀ bytes table content out ahead sums drawn y =
     height - y
 
 picture-height-requires : tie.Need-picture-height-requires Inv-loop μ-loop
@@ -47,6 +47,7 @@ loop-holds c =
     let begin = c .before .before .begin in
     let back = c .before .before .before .before .before .before .before .before in
     let args = back .before .before .before .before .before .args in
+    let pre = back .before .before .before .before .before .pre in
     let table = args .table .now in
     let content = args .content .now in
     let begun = rw (begin .ensures) at (ahead-of .ensures) in (
@@ -58,6 +59,7 @@ loop-holds c =
       rw begun (fits-first table),
       rw begun (omega arith),
       drawn-first (read-first table content (0 / args .view .times) begun) (begin-sums .ensures),
+      pre .1 .1 .1 .1 .1 .1 .1,
     )
 
 div-advance : tie.Need-div-advance Inv-loop μ-loop
@@ -149,7 +151,9 @@ print-row-requires c κs =
     let back = c .before .before .before .before .before .before .before .before in
     let advance = back .before .before .before .before .before .advance in
     let back2 = back .before .before .before .before .before .before .before .before in
+    let loop-test = back2 .before .before .loop-test in
     let loop = back2 .before .before .before .loop in
+    let height = back2 .before .before .before .before .before .before .before .picture-height in
     let back3 = back2 .before .before .before .before .before .before .before .before in
     let back4 = back3 .before .before .before .before .before .before .before .before in
     let pre = back4 .before .pre in
@@ -158,37 +162,38 @@ print-row-requires c κs =
     let drawn = drawn-onward (inv .7) (read .1 .1 .1 (if1 .left) (inv .7 .read)) in
     let known = read .1 .1 .0 (if1 .left) in
     let put = put-part .ensures .1 in
-    row-out drawn known put (pre .0)
+    (omega (arith, inv .8, loop-test .taken), rw (inv .8) (row-out drawn known put (pre .0)))
 
 add-y : tie.Need-add-y Inv-loop μ-loop
 add-y c =
     let back = c .before .before .before .before .before .before .before .before in
     let back2 = back .before .before .before .before .before .before .before .before in
-    let loop-test = back2 .before .before .before .before .before .loop-test in
+    let loop-test = back2 .before .before .before .before .before .before .loop-test in
     let back3 = back2 .before .before .before .before .before .before .before .before in
-    let height = back3 .before .before .picture-height in
+    let height = back3 .before .before .before .picture-height in
     omega (arith, loop-test .taken)
 
 loop-less : tie.Need-loop-less Inv-loop μ-loop
 loop-less c =
     let back = c .before .before .before .before .before .before .before .before in
     let back2 = back .before .before .before .before .before .before .before .before in
-    let loop-test = back2 .before .before .before .before .before .loop-test in
+    let loop-test = back2 .before .before .before .before .before .before .loop-test in
     omega (arith, loop-test .taken)
 
 loop-again : tie.Need-loop-again Inv-loop μ-loop
 loop-again c =
-    let put-part = c .before .before .before .before .before .before .put-part in
+    let print-row = c .before .before .before .print-row in
+    let put-part = c .before .before .before .before .before .before .before .put-part in
     let back = c .before .before .before .before .before .before .before .before in
-    let if1 = back .before .if1 in
-    let advance = back .before .before .before .before .before .before .before .before .advance in
+    let if1 = back .before .before .if1 in
     let back2 = back .before .before .before .before .before .before .before .before in
-    let loop-test = back2 .before .before .before .before .before .loop-test in
-    let loop = back2 .before .before .before .before .before .before .loop in
+    let advance = back2 .before .advance in
+    let loop-test = back2 .before .before .before .before .before .before .loop-test in
+    let loop = back2 .before .before .before .before .before .before .before .loop in
     let back3 = back2 .before .before .before .before .before .before .before .before in
     let back4 = back3 .before .before .before .before .before .before .before .before in
-    let args = back4 .before .before .before .before .args in
-    let pre = back4 .before .before .before .before .pre in
+    let args = back4 .before .before .before .before .before .args in
+    let pre = back4 .before .before .before .before .before .pre in
     let inv = loop .inv in
     let read = advance .ensures in
     let drawn = drawn-onward (inv .7) (read .1 .1 .1 (if1 .left) (inv .7 .read)) in
@@ -205,6 +210,7 @@ loop-again c =
       read .0,
       read .1 .0,
       drawn-onward next (onward-later (next .read) later),
+      omega (arith, print-row .ensures, inv .8),
     )
 
 same-length-5 : tie.Need-same-length-5 Inv-loop μ-loop
@@ -280,7 +286,11 @@ print-end-requires c κs =
     let pre = back2 .before .before .before .before .pre in
     let inv = loop .inv in
     let height = picture-height .ensures (args .counts .now) in
-    end-out (pre .0) (inv .7) (omega (arith, inv .4, loop-test .left, height)) (put-end .ensures .0)
+    let end = end-out (pre .0) (inv .7) (omega (arith, inv .4, loop-test .left, height)) (put-end .ensures .0) in
+    (omega (arith, inv .8, inv .4, loop-test .left, height), end)
+
+say-changed-requires : tie.Need-say-changed-requires Inv-loop μ-loop
+say-changed-requires c κs = search needs
 
 same-length-9 : tie.Need-same-length-9 Inv-loop μ-loop
 same-length-9 c = search needs
@@ -331,6 +341,7 @@ draw-rows-spec =
     slice-reshare-prefix-print-end
     slice-aggregate-print-end
     print-end-requires
+    say-changed-requires
     same-length-9
     same-length-10
     same-length-11

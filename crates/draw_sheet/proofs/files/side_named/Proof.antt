@@ -19,9 +19,6 @@ returns c = side-none (c .side-without .ensures) (c .before .before .before .bef
 take-side-requires : tie.Need-take-side-requires
 take-side-requires c κs = search needs
 
-close-requires : tie.Need-close-requires
-close-requires c κs = search needs
-
 same-length : tie.Need-same-length
 same-length c = search needs
 
@@ -37,6 +34,5 @@ side-named-spec =
     side-without-requires
     returns
     take-side-requires
-    close-requires
     same-length
     returns-2)

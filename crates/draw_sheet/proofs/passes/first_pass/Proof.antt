@@ -37,11 +37,11 @@ view-of-requires c κs =
 
 second-pass-requires : tie.Need-second-pass-requires
 second-pass-requires c κs =
-    let view-of = c .before .before .before .view-of in
+    let view-of = c .before .before .before .before .view-of in
     let back = c .before .before .before .before .before .before .before .before in
-    let measure = back .before .before .before .before .measure in
+    let measure = back .before .before .before .before .before .measure in
     let back2 = back .before .before .before .before .before .before .before .before in
-    let pre = back2 .before .before .before .before .before .before .pre in
+    let pre = back2 .before .before .before .before .before .before .before .pre in
     let room = pre .1 .1 in
     let kept = measure .kept in
     (view-of .ensures, (omega (arith, kept, room .0), (omega (arith, kept, room .1 .0), omega (arith, kept, room .1 .1))))

@@ -1,23 +1,18 @@
--- What is said of how a sheet ends: the last line of its listing. `held` is the bytes that its last step read. Definitions only;
--- their laws are in Verdict/Laws.antt. Assumes nothing.
+-- What is known where a sheet ends, by the step that saw it. `held` is the bytes that this step read. Definitions only; their laws,
+-- by which the last line of the sheet's listing is known (sheet_listing, `EndLine`), are in Verdict/Laws.antt. Assumes nothing.
 use Prim.Native.Nat.{ℕ}
 use mathlib.Core.Path.{_≡_}
-use mathlib.Core.List.{List, _++_}
-use lib.ListN.{length}
-use Rattle.sheet_format.specs.Sheet.{sheetRead, rowNumbers}
-use Rattle.sheet_listing.specs.Listing.{lastOf}
+use mathlib.Core.List.{List}
+use Rattle.sheet_format.specs.Stream.{heldOf, Carried, ended, nextOf, Carries}
 use Rattle.sheet_stream.specs.declared.step.SheetStep.{SheetStep}
 pub mod Laws
 
--- for some bytes that were taken before, a step says what the sheet of all of them comes to
+-- for some bytes that were taken before, accepted records to their end, the sheet ends with those that are held, as the step says
 pub record SheetEnds (held : List ℕ) (s : SheetStep) : Type 0 where
   pub taken : List ℕ
-  pub number : sheetRead (taken ++ held) .number ≡ s .read .number
-  pub place : sheetRead (taken ++ held) .place ≡ s .read .at
-  pub index : length (sheetRead (taken ++ held) .records) ≡ s .next .index
-  pub rows : length (rowNumbers (sheetRead (taken ++ held) .records)) ≡ s .next .rows
-
--- l is the last line of that sheet's listing
-pub record Verdict (held l : List ℕ) : Type 0 where
-  pub taken : List ℕ
-  pub line : l ≡ lastOf (sheetRead (taken ++ held))
+  pub carried : Carried
+  pub carries : Carries taken carried
+  pub whole : held ≡ heldOf held
+  pub ends : nextOf carried held ≡ ended (s .read .number) (s .read .at)
+  pub index : carried .index ≡ s .next .index
+  pub rows : carried .rows ≡ s .next .rows

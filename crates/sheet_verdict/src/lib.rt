@@ -2,7 +2,8 @@
 use libc::STDERR_FILENO;
 use sheet_listing::list_end;
 use sheet_stream::step::SheetStep;
-ghost use Rattle.sheet_verdict.specs.Verdict.{SheetEnds, Verdict};
+ghost use Rattle.sheet_listing.specs.Turns.{EndLine};
+ghost use Rattle.sheet_verdict.specs.Verdict.{SheetEnds};
 
 // `held` is the bytes that the step read, the last that were; nothing is done with them but to say what the line must be.
 pub fn say_verdict(held: &[u8], step: SheetStep)
@@ -18,7 +19,7 @@ pub fn say_verdict(held: &[u8], step: SheetStep)
 
 // Nothing else is said of how a sheet ends.
 fn print_verdict(held: &[u8], line: &[u8]) -> bool
-    requires { ⌜ Verdict (now held) (now line) ⌝ }
+    requires { ⌜ EndLine (now held) (now line) ⌝ }
 {
     io::write_all(STDERR_FILENO, line)
 }

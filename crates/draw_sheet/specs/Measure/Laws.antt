@@ -14,7 +14,7 @@ use Rattle.sheet_format.specs.Context.{newSheet}
 use Rattle.sheet_format.specs.Kind.{Payload, aTable, aRow, aLine, noPayload, isRow}
 use Rattle.sheet_format.specs.Record.{recordSpan}
 use Rattle.sheet_format.specs.Reading.{answerBytes, recordJudged}
-use Rattle.sheet_format.specs.Sheet.{SheetRecord, SheetRead, rowOf, storedRows, records, sheetRead, rowNumbers}
+use Rattle.sheet_format.specs.Sheet.{SheetRecord, rowOf, storedRows, records, sheetRead}
 use Rattle.sheet_format.specs.Sheet.Laws.{records-end}
 use Rattle.sheet_format.specs.Stream.{heldOf, holdsOf, Carried, contextBy, ended, nextOf}
 use Rattle.sheet_format.specs.Stream.Laws.{nextOf-held, isRow-row}
@@ -176,13 +176,13 @@ module _ {b : List ℕ} {p : Carried} {w e bit : ℕ} (end : PassEnds b p w e bi
 -- and its verdict
 pub pass-said : (table : List ℕ) {b : List ℕ} {s : SheetStep} {w : ℕ}
     → PassEnds b (carriedBy (s .next) table) w (s .read .number) (s .read .at) → SheetEnds b s
-pass-said table {b} end =
-    let sheet = read-is end b (sym (end .held)) in
-    let at = end .passing .carries in
+pass-said table {s = s} end =
     record {
       taken = end .passing .taken;
-      number = ap (λ (r : SheetRead). r .number) sheet;
-      place = ap (λ (r : SheetRead). r .place) sheet;
-      index = ap (λ (r : SheetRead). length (r .records)) sheet ∙ sym (at .index);
-      rows = ap (λ (r : SheetRead). length (rowNumbers (r .records))) sheet ∙ sym (at .rows);
+      carried = carriedBy (s .next) table;
+      carries = end .passing .carries;
+      whole = end .held;
+      ends = end .ends;
+      index = refl;
+      rows = refl;
     }

@@ -7,7 +7,7 @@ use lib.ListN.{replicate}
 use lib.Seq.{length-take-le}
 use Rattle.sheet_listing.specs.Line.{lastLine}
 use Rattle.sheet_listing.specs.Listed.Given.{given-line, given-within}
-use Rattle.sheet_verdict.specs.Verdict.Laws.{ends-verdict}
+use Rattle.sheet_verdict.specs.Verdict.Laws.{ends-line}
 use borrow.Author.Needs.{needs}
 use Rattle.sheet_verdict.proofs.say_verdict.Statement.{statement}
 use Rattle.sheet_verdict.proofs.say_verdict.Tie as tie
@@ -24,18 +24,14 @@ cast-n c = search needs
 array-share-prefix-line : tie.Need-array-share-prefix-line
 array-share-prefix-line c =
     let end = c .before .before in
-    let step = end .before .before .before .before .before .args .step in
-    let last = lastLine (step .read .number) (step .read .at) (step .next .index) (step .next .rows) in
     let m : List ℕ = replicate 128 0 in
-    given-within last m (omega arith) (end .list-end .ensures .0) (end .list-end .ensures .1)
+    given-within _ m (omega arith) (end .list-end .ensures .0) (end .list-end .ensures .1)
 
 slice-aggregate-print-verdict : tie.Need-slice-aggregate-print-verdict
 slice-aggregate-print-verdict c =
     let end = c .before .before .before in
-    let step = end .before .before .before .before .before .args .step in
-    let last = lastLine (step .read .number) (step .read .at) (step .next .index) (step .next .rows) in
     let m : List ℕ = replicate 128 0 in
-    let within = given-within last m (omega arith) (end .list-end .ensures .0) (end .list-end .ensures .1) in
+    let within = given-within _ m (omega arith) (end .list-end .ensures .0) (end .list-end .ensures .1) in
     sym (length-take-le (end .list-end .result .count) (end .list-end .last .1 .1 .1 .1 .0) within)
 
 print-verdict-requires : tie.Need-print-verdict-requires
@@ -45,7 +41,7 @@ print-verdict-requires c κs =
     let step = start .args .step in
     let last = lastLine (step .read .number) (step .read .at) (step .next .index) (step .next .rows) in
     let m : List ℕ = replicate 128 0 in
-    ends-verdict (start .pre) (given-line last m (omega arith) (end .list-end .ensures .0) (end .list-end .ensures .1))
+    ends-line (start .pre) (given-line last m (omega arith) (end .list-end .ensures .0) (end .list-end .ensures .1))
 
 returns : tie.Need-returns
 returns c = search needs

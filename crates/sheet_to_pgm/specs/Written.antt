@@ -8,7 +8,9 @@ use Rattle.text.specs.Text.{ascii, field, fields}
 use Rattle.sheet_format.specs.declared.RecordRead.{RecordRead}
 use Rattle.sheet_format.specs.Kind.{isRow}
 use Rattle.sheet_format.specs.Kinds.{kindOf}
+use Rattle.sheet_format.specs.Reading.{recordJudged}
 use Rattle.sheet_format.specs.Sheet.{Heights, absent, present, heightsOf, storedRows, sheetRead}
+use Rattle.sheet_format.specs.Stream.{heldOf, Carried, contextBy, Carries}
 use Rattle.pgm_format.specs.Header.{pgmFront}
 use Rattle.pgm_format.specs.Samples.{samplesOf, linesBytes}
 use Rattle.pgm_format.specs.Shape.{LineFault, noFault, rowMissing, rowUnequal, paddedLine, paddedLines, Padding, noPadding, padWith}
@@ -53,7 +55,7 @@ pub record FaultFound (f : LineFault) : Type 0 where
   pub fault : sheetPgm noPadding (storedRows (sheetRead sheet .records)) ≡ atFault f
 
 -- ---- a picture
--- of some accepted sheet: c lines of w heights
+-- of some accepted sheet: c lines of w heights. Here as above, that it is the sheet that was read is the loop's (judge_sheet)
 pub record PictureFound (p : Pads) (w c : ℕ) : Type 0 where
   pub sheet : List ℕ
   pub accepted : sheetRead sheet .number ≡ 0
@@ -66,9 +68,15 @@ pub record PictureFront (p : Pads) (w c : ℕ) (text : List ℕ) : Type 0 where
   pub found : PictureFound p w c
   pub front : text ≡ pgmFront w c
 
--- for some bytes that were taken before those that are held, and whatever follows them, the sheet has this for its row n
+-- for some bytes that were taken before, accepted records to their end, those that are held are the sheet's next record, and it is
+-- accepted; row n, which could still come before it was read, is settled by it: the sheet has x there, whatever follows
 pub record RowSettled (held : List ℕ) (n : ℕ) (x : Heights) : Type 0 where
   pub taken : List ℕ
+  pub carried : Carried
+  pub carries : Carries taken carried
+  pub whole : held ≡ heldOf held
+  pub accepted : recordJudged (contextBy carried) held .number ≡ 0
+  pub later : carried .state .«least_row» ≤ n
   pub row : (rest : List ℕ) → heightsOf n (storedRows (sheetRead (taken ++ held ++ rest) .records)) ≡ x
 
 -- text is its line n, of w heights, and h where it lacks them

@@ -14,13 +14,14 @@ use Rattle.row_pixels.specs.Laws.{length-halves}
 use Rattle.text.specs.Text.{ascii, field, fields}
 use Rattle.sheet_format.specs.Kind.{isRow}
 use Rattle.sheet_format.specs.Kinds.{kindOf}
-use Rattle.sheet_format.specs.Sheet.{StoredRow, storedRows, sheetRead, absent, present}
+use Rattle.sheet_format.specs.Sheet.{StoredRow, Heights, absent, present, heightsOf, storedRows, sheetRead}
 use Rattle.sheet_format.specs.Theorems.StoredRows.{stored-within}
 use Rattle.sheet_format.specs.Size.{rowsWidth, rowsHeight}
 use Rattle.sheet_stream.specs.declared.progress.SheetProgress.{SheetProgress}
 use Rattle.sheet_stream.specs.declared.step.SheetStep.{SheetStep}
 use Rattle.sheet_stream.specs.Progress.{carriedBy, Underway}
 use Rattle.sheet_stream.specs.Step.{StepMade}
+use Rattle.sheet_stream.specs.Step.Laws.{step-accepted}
 use Rattle.sheet_stream.specs.Step.Rows.{rowless-next, row-least, row-next, row-there, gap-absent}
 use Rattle.sheet_stream.specs.AcceptedRecord.Laws.{step-next}
 use Rattle.pgm_format.specs.Header.{pgmFront}
@@ -179,22 +180,33 @@ present-written {h} {w} pixels few settled is =
     }
 
 -- ---- the record that was read last
-pub row-brought : {b : List ℕ} {p : SheetProgress} {table : List ℕ} {s : SheetStep} {table′ content′ : List ℕ}
-    → StepMade b p table s table′ content′ → s .last ≡ false → Underway (carriedBy p table)
-    → RowBrought b (p .state .«least_row») (s .read) content′
-row-brought step on at =
-    record {
-      next = step-next step on at;
-      low = λ row. row-least step on row;
-      own = λ row. record { taken = at .taken; row = λ rest. row-there step on row (at .carries) rest };
-      gap = λ row n low high. record { taken = at .taken; row = λ rest. gap-absent step on row (at .carries) rest n low high };
-    }
+module _ {b : List ℕ} {p : SheetProgress} {table : List ℕ} {s : SheetStep} {table′ content′ : List ℕ}
+    (step : StepMade b p table s table′ content′) (on : s .last ≡ false) (at : Underway (carriedBy p table)) where
+  settled : {n : ℕ} {x : Heights} → p .state .«least_row» ≤ n
+      → ((rest : List ℕ) → heightsOf n (storedRows (sheetRead (at .taken ++ b ++ rest) .records)) ≡ x) → RowSettled b n x
+  settled later row =
+      record {
+        taken = at .taken;
+        carried = carriedBy p table;
+        carries = at .carries;
+        whole = step .held;
+        accepted = step-accepted step on;
+        later = later;
+        row = row;
+      }
 
--- and the lines before the least row that may come next are out
-pub lines-next : {b : List ℕ} {p : SheetProgress} {table : List ℕ} {s : SheetStep} {table′ content′ : List ℕ}
-    → StepMade b p table s table′ content′ → s .last ≡ false → Underway (carriedBy p table)
-    → linesAfter (p .state .«least_row») (s .read) ≡ s .next .state .«least_row»
-lines-next {s = s} step on at =
-    by-test (isRow (kindOf (s .read .kind) .holds))
-    (λ row. rw row (sym (row-next step on row)))
-    (λ other. rw other (sym (rowless-next step on other (at .carries))))
+  pub row-brought : RowBrought b (p .state .«least_row») (s .read) content′
+  row-brought =
+      record {
+        next = step-next step on at;
+        low = λ row. row-least step on row;
+        own = λ row. settled (row-least step on row) (λ rest. row-there step on row (at .carries) rest);
+        gap = λ row n low high. settled low (λ rest. gap-absent step on row (at .carries) rest n low high);
+      }
+
+  -- and the lines before the least row that may come next are out
+  pub lines-next : linesAfter (p .state .«least_row») (s .read) ≡ s .next .state .«least_row»
+  lines-next =
+      by-test (isRow (kindOf (s .read .kind) .holds))
+      (λ row. rw row (sym (row-next step on row)))
+      (λ other. rw other (sym (rowless-next step on other (at .carries))))

@@ -40,9 +40,8 @@ returns c =
     let start = read .before .before .before .before .before .before in
     let args = start .args in
     let pre = start .pre in
-    let wrong = c .before .if1 .taken in
     let step = refused-made (args .at) (args .table .now) (args .bytes .now) (args .content .now) (pre .1 .0) (pre .1 .1 .1 .0)
-    (read .read-record .ensures) (pre .0) wrong (c .end .ensures) in (
+    (read .read-record .ensures) (pre .0) (λ e. omega (arith, e, c .before .if1 .taken)) (c .end .ensures) in (
       ap (λ (s : SheetStep). s .taken) (c .end .ensures),
       (rw (c .end .ensures) (pre .1 .1 .1 .1 .1), step),
     )

@@ -1,6 +1,6 @@
--- A reader of pictures, from the PNG specification, RFC 1950 and RFC 1951 alone: chunks of any kind and order, a zlib stream of
--- stored blocks of any lengths, scanlines without a filter. It knows nothing of how Png.antt cuts a picture up, and refuses (none)
--- what is not whole or does not match its checksum. Definitions only; their laws are in Reading/. Assumes nothing.
+-- A reader of pictures, from the PNG specification, RFC 1950 and RFC 1951 alone: IHDR, PLTE, then chunks of any kind, IEND last; a
+-- zlib stream of stored blocks of any lengths, scanlines without a filter. It knows nothing of how Png.antt cuts a picture up, and
+-- refuses (none) what is not whole or does not match its checksum. Definitions only; their laws are in Reading/. Assumes nothing.
 use Prim.Native.Nat.{ℕ, zero, suc, _+_, _*_, _/_, _%_}
 use mathlib.Core.Bool.{Bool, false, cond}
 use mathlib.Core.List.{List, [], _∷_, _++_}

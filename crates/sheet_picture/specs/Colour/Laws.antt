@@ -10,7 +10,7 @@ use lib.ListN.{length, length-append}
 use lib.Dec.{ltb, eqb}
 use borrow.Author.Tests.{eq-eqb, ne-eqb, lt-ltb, le-ltb}
 use Rattle.sheet_picture.specs.Colour.{Range, greys, belowRange, aboveRange, badBiasSpot, badPixelSpot, missing, firstGreen}
-use Rattle.sheet_picture.specs.Colour.{greyOf, heightIndex, countIndex, ownColour, greenColour, colourOf, coloursFrom}
+use Rattle.sheet_picture.specs.Colour.{greyOf, heightIndex, ownColour, greenColour, colourOf, coloursFrom}
 
 -- ---- the index of a height, case by case
 pub index-bad-pixel : (g : Range) (h : ℕ) → h ≡ 4095 → heightIndex g h ≡ badPixelSpot
@@ -50,10 +50,6 @@ pub count-few : (most c : ℕ) → 1 ≤ most → c ≤ most → (c * 71 + (most
 count-few most c some high =
     let inside : c * 71 + (most - 1) < 72 * most = omega arith in
     div-lt-iff-lt-mul {k = most} (omega arith) .1 inside
-
-pub index-small : (most c : ℕ) → 1 ≤ most → c ≤ most → countIndex most c < 256
-unfolding countIndex
-index-small most c some high = omega (arith, count-few most c some high)
 
 -- ---- colours, one after another
 -- the last of the six that are neither grey nor green

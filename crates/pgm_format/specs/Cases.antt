@@ -39,10 +39,13 @@ pgmCases =
     -- blanks and comments; a comment ends a number; of the blanks behind the last number one is the header's
     ∷ accepted "P5 # a 1\n \t003\r#\n2\n4095 " 3 2 24
     ∷ accepted "P5#\n3#\r2 4095\n\n\n" 3 2 14
+    ∷ accepted "P5\u{b}3\u{c}2 4095\u{c}" 3 2 12
     -- not P5, no separator, no number, 0, another largest value, no blank
     ∷ refused 17 ""
     ∷ refused 17 "P2 3 2 4095\n"
     ∷ refused 17 "P53 2 4095\n"
+    ∷ refused 17 "P5 3\u{8}2 4095\n"
+    ∷ refused 17 "P5 3\u{e}2 4095\n"
     ∷ refused 17 "P5 3 x 4095\n"
     ∷ refused 17 "P5 0 2 4095\n"
     ∷ refused 17 "P5 3 0 4095\n"

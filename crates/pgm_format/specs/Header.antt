@@ -22,9 +22,9 @@ unfoldable pub pgmFront : ℕ → ℕ → List ℕ
 pgmFront w r = fields (ascii "P5\n") w (ascii " ") r ++ ascii "\n4095\n"
 
 -- ---- separators: blanks, and comments from `#` to the end of the line
--- a tab, a newline, a carriage return, a blank
+-- a tab, a newline, a vertical tab, a form feed, a carriage return, a blank: 9 to 13, and 32
 unfoldable pub isBlank : ℕ → Bool
-isBlank b = cond (eqb b 32) true (cond (eqb b 10) true (cond (eqb b 13) true (eqb b 9)))
+isBlank b = cond (eqb b 32) true (cond (ltb b 9) false (ltb b 14))
 
 unfoldable pub endsLine : ℕ → Bool
 endsLine b = cond (eqb b 10) true (eqb b 13)

@@ -11,13 +11,10 @@ pub fn is_blank(b: u8) -> bool
     if b == 32 {
         return true;
     }
-    if b == 10 {
-        return true;
+    if b < 9 {
+        return false;
     }
-    if b == 13 {
-        return true;
-    }
-    b == 9
+    b < 14
 }
 
 fn ends_line(b: u8) -> bool

@@ -9,9 +9,9 @@ use crate::row::MAX_PIXELS;
 use crate::table::Table;
 
 /// Blanks.
-const BLANKS: [u8; 4] = [b'\t', b'\n', b'\r', b' '];
+const BLANKS: [u8; 6] = [b'\t', b'\n', 0x0b, 0x0c, b'\r', b' '];
 /// What a careless reader takes for more than a comment.
-const COMMENTS: [&str; 6] = ["", " a foot", "# 9 9", "P5 7 7 4095 ", " 4095", "\u{b}\u{c}"];
+const COMMENTS: [&str; 6] = ["", " a foot", "# 9 9", "P5 7 7 4095 ", " 4095", "\u{b}7\u{c}"];
 
 /// A picture in its parts.
 #[derive(Clone)]

@@ -49,7 +49,7 @@ fn fields(front: &[u8]) -> Option<([u32; 3], &[u8])> {
 }
 
 fn is_blank(byte: u8) -> bool {
-    matches!(byte, b'\t' | b'\n' | b'\r' | b' ')
+    matches!(byte, b'\t' | b'\n' | 0x0b | 0x0c | b'\r' | b' ')
 }
 
 /// After all blanks and comments. A comment goes on to the end of its line, or

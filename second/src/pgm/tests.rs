@@ -24,6 +24,8 @@ fn headers() {
     assert_eq!(header("P5 0003\t02\r\n4095 \n"), Ok((3, 2, 17)));
     assert_eq!(header("P5#a\n#b\r 3#\n2 # 9 \n#\r4095\nx"), Ok((3, 2, 26)));
     assert_eq!(header("P5 4096 65536 4095\t"), Ok((4096, 65536, 19)));
+    assert_eq!(header("P5\u{b}3\u{c}2 4095\u{b}"), Ok((3, 2, 12)));
+    assert_eq!(header("P5#\u{b}3\u{c}2 4095\n3 2 4095\u{c}"), Ok((3, 2, 22)));
 }
 
 #[test]
@@ -50,7 +52,8 @@ fn headers_that_are_none() {
         "P5 -3 2 4095 ",
         "P5 +3 2 4095 ",
         "P5 3,2 4095 ",
-        "P5 3 2\u{b}4095 ",
+        "P5 3 2\u{8}4095 ",
+        "P5 3 2\u{e}4095 ",
         "P5 3.0 2 4095 ",
         "P5 3 2 4294971391 ",
         "P5 3 2 18446744073709555711 ",

@@ -31,9 +31,8 @@ digit-no-gap d rest =
     rw (
       ne-eqb (digit d) 35 (λ e. omega arith),
       ne-eqb (digit d) 32 (λ e. omega arith),
-      ne-eqb (digit d) 10 (λ e. omega arith),
-      ne-eqb (digit d) 13 (λ e. omega arith),
-      ne-eqb (digit d) 9 (λ e. omega arith),
+      le-ltb (digit d) 9 (omega arith),
+      le-ltb (digit d) 14 (omega arith),
     )
 
 -- f of fuel are enough

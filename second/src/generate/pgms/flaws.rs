@@ -101,12 +101,12 @@ fn header(random: &mut Random, pgm: &mut Pgm, change: Change) -> Vec<u8> {
             pgm.magic = random.pick(&others).into();
         }
         NoSeparator => separators.clear(),
-        OtherSeparator => separators.push(random.pick(&[11, 12, 0, b',', b'/', 0xA0])),
+        OtherSeparator => separators.push(random.pick(&[8, 14, 0, b',', b'/', 0xA0])),
         NoNumber => *number = random.pick(&["", "-3", "+3", "x", "0x3", "#"]).to_string(),
         AxisZero => pgm.fields[random.below(2)].1 = random.pick(&["0", "000"]).to_string(),
         OtherMaxval => other_maxval(random, pgm),
         NoBlankAtEnd => {
-            let ends = [&b""[..], b"#\n", b"x", b"#x\r", b"\x0b", b"."];
+            let ends = [&b""[..], b"#\n", b"x", b"#x\r", b"\x08", b"\x0e", b"."];
             pgm.end = random.pick(&ends).to_vec();
             // A sample that is a blank, or a digit, would mend it.
             pgm.samples[0] |= 0x0f00;

@@ -1,5 +1,5 @@
 -- `pgm_reader::gap::is_blank` meets its contract. Assumes nothing.
-use borrow.Author.Tests.{eq-eqb, ne-eqb}
+use borrow.Author.Tests.{eq-eqb, ne-eqb, lt-ltb, le-ltb}
 use Rattle.pgm_format.specs.Header.{isBlank}
 use Rattle.pgm_reader.proofs.gap.is_blank.Statement.{statement}
 use Rattle.pgm_reader.proofs.gap.is_blank.Tie as tie
@@ -12,19 +12,13 @@ returns-2 : tie.Need-returns-2
 unfolding isBlank
 returns-2 c =
     let b = c .before .before .args .b in
-    rw (ne-eqb b 32 (c .before .if1 .left), eq-eqb b 10 (c .if2 .taken))
+    rw (ne-eqb b 32 (c .before .if1 .left), lt-ltb b 9 (c .if2 .taken))
 
 returns-3 : tie.Need-returns-3
 unfolding isBlank
 returns-3 c =
-    let b = c .before .before .before .args .b in
-    rw (ne-eqb b 32 (c .before .before .if1 .left), ne-eqb b 10 (c .before .if2 .left), eq-eqb b 13 (c .if3 .taken))
-
-returns-4 : tie.Need-returns-4
-unfolding isBlank
-returns-4 c =
-    let b = c .before .before .before .args .b in
-    rw (ne-eqb b 32 (c .before .before .if1 .left), ne-eqb b 10 (c .before .if2 .left), ne-eqb b 13 (c .if3 .left))
+    let b = c .before .before .args .b in
+    rw (ne-eqb b 32 (c .before .if1 .left), le-ltb b 9 (c .if2 .left))
 
 pub is-blank-spec : {M : Type 1} → statement M
-is-blank-spec = tie.close (tie.spec returns returns-2 returns-3 returns-4)
+is-blank-spec = tie.close (tie.spec returns returns-2 returns-3)

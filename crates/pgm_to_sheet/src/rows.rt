@@ -11,7 +11,7 @@ ghost use mathlib.Core.Bool.{true, false};
 ghost use Prim.Native.Nat.{_+_, _*_, _≤_, _<_};
 ghost use lib.ListN.{length, take, drop};
 ghost use Rattle.pgm_to_sheet.specs.declared.rows.RowTurn.{RowTurn};
-ghost use Rattle.pgm_to_sheet.specs.Picture.{Agrees, PictureStands, LineMade, LineAdded, PictureEnded};
+ghost use Rattle.pgm_to_sheet.specs.Picture.{RowHeld, PictureStands, LineMade, LineAdded, PictureEnded};
 
 // How the rows ended.
 // failed   whether reading or writing failed, which is said on standard error
@@ -30,7 +30,7 @@ pub struct Rows {
 // r        the rows written so far, and so the number of the next
 // No contract can say that reading moves the input's next bytes, fewer than asked only at its end, and that writing moves the record's
 // bytes: only that is left to tests. With it what is written is what the picture's conversion has. The bytes before row r stand in no
-// memory any more, but for those of the front: `LineAdded` and `PictureEnded` say that there are such.
+// memory any more, but for those of the front: `LineAdded` and `PictureEnded` say that there are such, the header's and those of r rows.
 pub fn convert_rows(
     file: i32,
     name: &[u8],
@@ -120,8 +120,8 @@ fn take_row(
     requires { ⌜ 32784 ≤ length (now out) ⌝ }
     ensures held { λ x. ⌜ x .held ≤ 2 * header .width ⌝ }
     ensures count { λ x. ⌜ x .count ≤ length (now (out .exit)) ⌝ }
-    ensures agrees { λ x. ⌜ Agrees (drop (header .start + 2 * header .width * r) (now (front .entry)))
-        (take (x .held) (now (row .exit))) ⌝ }
+    ensures row { λ x. ⌜ RowHeld (drop (header .start + 2 * header .width * r) (now (front .entry)))
+        (take (x .held) (now (row .exit))) (2 * header .width) ⌝ }
     ensures made { λ x. ⌜ LineMade (now (table .entry)) (header .width) r (take (x .held) (now (row .exit))) x (now (out .exit)) ⌝ }
 {
     let got = fill_row(

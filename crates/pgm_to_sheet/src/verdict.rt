@@ -3,7 +3,7 @@ use fits_reader::verdict::put_verdict;
 use libc::STDERR_FILENO;
 ghost use Rattle.pgm_to_sheet.specs.Picture.{PictureEnded, PictureVerdict};
 
-// Says the verdict of a conversion that ended so; `held` is the bytes that it held last, apart from the front.
+// Says the verdict of a conversion that ended so; `held` is the bytes that it held last, of a row that is refused.
 pub fn end(table: &[u8], front: &[u8], held: &[u8], number: u32, fault: u32, rows: u64)
     requires { ⌜ PictureEnded (now table) (now front) (now held) number fault rows ⌝ }
 {

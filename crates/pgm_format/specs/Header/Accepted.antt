@@ -1,14 +1,14 @@
--- What an accepted header says. Assumes nothing.
+-- What an accepted header says, and that a refused one says nothing more. Assumes nothing.
 use Prim.Native.Nat.{ℕ, _≤_, _<_}
 use native.Mathlib.Omega.{arith}
-use mathlib.Core.Path.{_≡_, refl, sym, _∙_}
+use mathlib.Core.Path.{_≡_, refl, sym, ap, _∙_}
 use mathlib.Core.Bool.{Bool, true, not}
 use mathlib.Core.List.{List}
 use lib.ListN.{length, take, getD, length-take, List·getD-eq-default}
 use lib.Dec.{ltb, eqb}
 use borrow.Author.Tests.{ltb-true, ltb-false, eqb-false, not-false}
 use Rattle.answer.specs.Outcome.{refuseIf, _orElse_}
-use Rattle.answer.specs.Outcome.Laws.{refuseIf-zero, lessNumber-zero, orElse-zero-left, orElse-zero-right, unless-number}
+use Rattle.answer.specs.Outcome.Laws.{refuseIf-zero, lessNumber-zero, orElse-zero-left, orElse-zero-right, unless-number, unless-refused}
 use Rattle.row_format.specs.Lists.Laws.{by-test, true-false}
 use Rattle.text.specs.Text.{ascii}
 use Rattle.text.specs.Same.{sameBytes}
@@ -48,11 +48,13 @@ fields-fit w r largest blank e =
     }
 
 -- ---- of the bytes that it ends in
+front-number : (s : List ℕ) → frontRead s .number ≡ frontNumber s
+unfolding frontRead
+front-number s = unless-number (λ (h : PgmHeader). h .number) noPgm (pgmOf s) (λ k. refl) (frontNumber s) refl
+
 module _ (s : List ℕ) (ok : frontRead s .number ≡ 0) where
   number : frontNumber s ≡ 0
-  unfolding frontRead
-  number =
-      sym (unless-number (λ (h : PgmHeader). h .number) noPgm (pgmOf s) (λ k. refl) (frontNumber s) refl) ∙ ok
+  number = sym (front-number s) ∙ ok
 
   pub front-is : frontRead s ≡ pgmOf s
   unfolding frontRead
@@ -82,3 +84,9 @@ pgm-accepted s ok =
       start-within = omega (arith, ends, length-take 65536 s);
       start-most = omega (arith, ends, length-take 65536 s);
     })
+
+pub pgm-refused : (s : List ℕ) → (pgmHeader s .number ≡ 0 → ⊥) → pgmHeader s ≡ noPgm (pgmHeader s .number)
+unfolding pgmHeader frontRead
+pgm-refused s bad =
+    let t = take 65536 s in
+    unless-refused (frontNumber t) noPgm (pgmOf t) (λ e. bad (front-number t ∙ e)) ∙ ap noPgm (sym (front-number t))

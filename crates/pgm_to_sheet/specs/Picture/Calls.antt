@@ -5,7 +5,6 @@ use native.Mathlib.Omega.{arith}
 use mathlib.Core.Path.{_≡_, refl, sym, ap, _∙_}
 use mathlib.Core.List.{List, [], _++_}
 use lib.ListN.{length, take, drop, length-append}
-use lib.Seq.{take-nil}
 use Rattle.bitstream.specs.Bits.{Below}
 use Rattle.answer.specs.declared.Answer.{Answer}
 use Rattle.answer.specs.Outcome.{Outcome, outcome, writes, answerOf, refusal}
@@ -26,8 +25,9 @@ use Rattle.pgm_format.specs.Header.Accepted.{pgm-accepted}
 use Rattle.pgm_format.specs.Conversion.{lineRefusal, beforeSamples, pgmRow}
 use Rattle.pgm_format.specs.Conversion.Call.{pgmRow-number, pgmRow-bytes, tableWritten-bytes, tableWritten-count}
 use Rattle.pgm_to_sheet.specs.declared.rows.RowTurn.{RowTurn}
-use Rattle.pgm_to_sheet.specs.Picture.{Agrees, PictureStands, TableWritten, LineAdded, PictureEnded, LinesBefore, LineMade}
-use Rattle.pgm_to_sheet.specs.Picture.Laws.{ended-refused, first-record, rowsTaken-none, ended-rows, rowsTaken-more, next-record}
+use Rattle.pgm_to_sheet.specs.Picture.{RowHeld, LineHeld, PictureStands, TableWritten, LinesBefore, LineAdded, LineMade, PictureEnded}
+use Rattle.pgm_to_sheet.specs.Picture.Laws.{ended-refused, no-header, first-record}
+use Rattle.pgm_to_sheet.specs.Picture.Laws.{rowsTaken-none, ended-rows, rowsTaken-more, next-record}
 
 -- ---- the table's
 checked-number : (tb : List ℕ) → checked tb .number ≡ tableNumber tb
@@ -38,7 +38,7 @@ checked-number tb =
 pub table-refused : (tb : List ℕ) {a : Answer} → a ≡ checked tb → (a .number ≡ 0 → ⊥) → PictureEnded tb [] [] (a .number) 0 0
 table-refused tb {a} is some =
     let number : a .number ≡ tableNumber tb = ap (λ (x : Answer). x .number) is ∙ checked-number tb in
-    ended-refused tb [] (given-first (tableNumber tb) (pgmHeader [] .number) number some) some
+    ended-refused [] no-header tb (given-first (tableNumber tb) (pgmHeader [] .number) number some) some
 
 pub table-checked : (tb : List ℕ) {a : Answer} → a ≡ checked tb → a .number ≡ 0 → checked tb ≡ answerOf 0 (a .count)
 table-checked tb {a} is none = sym is ∙ ap (λ (e : ℕ). answerOf e (a .count)) none
@@ -60,7 +60,7 @@ module _ (tb : List ℕ) (accepted : tableNumber tb ≡ 0) where
   pub header-refused : (front : List ℕ) {h : PgmHeader} → h ≡ pgmHeader front → (h .number ≡ 0 → ⊥)
       → PictureEnded tb front [] (h .number) 0 0
   header-refused front {h} is some =
-      ended-refused tb front (given-next accepted (ap (λ (x : PgmHeader). x .number) is)) some
+      ended-refused front (rw is at some) tb (given-next accepted (ap (λ (x : PgmHeader). x .number) is)) some
 
 -- ---- a row's
 counted : Outcome RecordWritten → Type 0
@@ -130,41 +130,39 @@ module _ {tb : List ℕ} {most : ℕ} {front : List ℕ} {h : PgmHeader} (stands
     all-ended most-rows =
         let last : r ≡ pgmHeader front .rows =
         omega (arith, most-rows, ap (λ (x : PgmHeader). x .rows) (stands .header), before .taken .within) in
-        let rest = drop (pgmHeader front .start + 2 * pgmHeader front .width * r) front in
-        ended-rows tb front tb-ok ok (before .image) r (before .taken) [] (take-nil (length rest)) 0
+        ended-rows tb front tb-ok ok (before .image) r (before .taken) [] 0
         (λ less. absurd (omega (arith, less, last))) (λ less. absurd (omega (arith, less, last))) (λ e. refl)
+        (λ less. absurd (omega (arith, less, last))) (λ e. refl)
 
     module _ (less : r < h .rows) {held m′ : List ℕ} {turn : RowTurn}
-        (follows : Agrees (drop (h .start + 2 * h .width * r) front) held) (few : length held ≤ 2 * h .width)
+        (row : RowHeld (drop (h .start + 2 * h .width * r) front) held (2 * h .width))
         (made : LineMade tb (h .width) r held turn m′) where
       less-here : r < pgmHeader front .rows
       less-here = rw (stands .header) at less
 
-      follows-here : Agrees (drop (pgmHeader front .start + 2 * pgmHeader front .width * r) front) held
-      follows-here = rw (stands .header) at follows
+      row-here : LineHeld front held r
+      row-here = rw (stands .header) at row
 
       number-here : turn .number ≡ lineRefusal (pgmHeader front .width) held
       number-here = made .number ∙ ap (λ (x : PgmHeader). lineRefusal (x .width) held) (stands .header)
 
       pub row-ended : (turn .number ≡ 0 → ⊥) → PictureEnded tb front held 0 (turn .number) r
       row-ended some =
-          ended-rows tb front tb-ok ok (before .image) r (before .taken) held follows-here (turn .number)
-          (λ less. number-here) (λ less. some) (λ e. absurd (omega (arith, e, less-here)))
+          ended-rows tb front tb-ok ok (before .image) r (before .taken) held (turn .number)
+          (λ less. number-here) (λ less. some) (λ e. absurd (omega (arith, e, less-here))) (λ less. row-here)
+          (λ e. absurd (omega (arith, e, less-here)))
 
       module _ (none : turn .number ≡ 0) where
         right : lineRefusal (pgmHeader front .width) held ≡ 0
         right = sym number-here ∙ none
 
-        few-here : length held ≤ 2 * pgmHeader front .width
-        few-here = rw (stands .header) at few
-
         pub before-more : LinesBefore front (r + 1)
         before-more = record {
           image = before .image ++ held;
-          taken = rowsTaken-more tb front tb-ok ok (before .image) r (before .taken) held follows-here less-here few-here right;
+          taken = rowsTaken-more tb front tb-ok ok (before .image) r (before .taken) held less-here row-here right;
         }
 
         pub row-next : LineAdded tb front held r (take (turn .count) m′)
         row-next =
             rw (made .bytes none, stands .header)
-            (next-record tb front tb-ok ok (before .image) r (before .taken) held follows-here less-here few-here right)
+            (next-record tb front tb-ok ok (before .image) r (before .taken) held less-here row-here right)

@@ -3,9 +3,9 @@ use Prim.Native.Nat.{ℕ, _+_, _*_, _≤_, _<_}
 use native.Mathlib.Nat.{zero-add, mul-zero, not-suc-le-zero}
 use native.Mathlib.Numerals.{add-one}
 use native.Mathlib.Omega.{arith}
-use mathlib.Core.Path.{_≡_, sym, ap, _∙_}
+use mathlib.Core.Path.{_≡_, refl, sym, ap, _∙_}
 use mathlib.Core.List.{List, [], _∷_, _++_, append-assoc, append-nil}
-use lib.ListN.{length, drop, length-append, length-drop}
+use lib.ListN.{length, take, length-append, length-drop}
 use lib.Seq.{take-at, drop-at, drop-append-le, length-take-le}
 use lib.Dec.{ltb}
 use borrow.Author.Tests.{ltb-true, ltb-false}
@@ -16,8 +16,10 @@ use Rattle.row_format.specs.Table.{tableNumber}
 use Rattle.fits_format.specs.Heights.{tableBytes, heightsRecords}
 use Rattle.fits_format.specs.Image.{bigEndian}
 use Rattle.fits_format.specs.Conversion.{headerRefused, afterHeader, rowAt}
-use Rattle.pgm_format.specs.Header.{pgmHeader, PgmAccepted}
-use Rattle.pgm_format.specs.Header.Accepted.{pgm-accepted}
+use Rattle.text.specs.Same.{sameBytes}
+use Rattle.pgm_format.specs.declared.PgmHeader.{PgmHeader}
+use Rattle.pgm_format.specs.Header.{frontNumber, frontRead, pgmHeader, PgmAccepted}
+use Rattle.pgm_format.specs.Header.Accepted.{pgm-accepted, pgm-refused}
 use Rattle.pgm_format.specs.Header.Alike.{pgm-alike}
 use Rattle.pgm_format.specs.Samples.{linesIn}
 use Rattle.pgm_format.specs.Samples.Laws.{length-linesIn, linesIn-front, linesIn-last}
@@ -25,18 +27,54 @@ use Rattle.pgm_format.specs.Conversion.{lineRefusal, lineRecord, lineRecords, p
 use Rattle.pgm_format.specs.Conversion.Rows.{UpToLine, line-there, lines-up-to, rows-are, bytes-are, number-is, number-none}
 use Rattle.pgm_format.specs.Conversion.Rows.{lineRefusal-front, heightsRecords-append}
 use Rattle.fits_reader.specs.Verdict.{verdictText}
-use Rattle.pgm_to_sheet.specs.Picture.{Agrees, headerBytes, TableWritten, LineAdded, PictureEnded, PictureVerdict, LinesTaken}
+use Rattle.pgm_to_sheet.specs.Picture.{Agrees, headerBytes, LineHeld, TableWritten, LinesTaken, LineAdded, PictureEnded, PictureVerdict}
 use Rattle.pgm_to_sheet.specs.Picture.Front.{agrees-front, agrees-more}
 
--- ---- a table or a header that is refused
-pub ended-refused : (tb front : List ℕ) {number : ℕ} → number ≡ tableNumber tb orElse pgmHeader front .number → (number ≡ 0 → ⊥)
-    → PictureEnded tb front [] number 0 0
-unfolding pgmConversion
-ended-refused tb front {number} is some = record {
-  before = front;
-  agrees = rw (append-nil front);
-  ends = rw (append-nil front, ← is, unless-refused number headerRefused _ some);
-}
+-- ---- a header that is refused says nothing more
+module _ (front : List ℕ) (bad : pgmHeader front .number ≡ 0 → ⊥) where
+  pub header-whole : headerBytes front ≡ front
+  unfolding headerBytes
+  header-whole = unless-refused (pgmHeader front .number) (λ e. front) (take (pgmHeader front .start) front) bad
+
+  pub no-rows : pgmHeader front .rows ≡ 0
+  no-rows = ap (λ (h : PgmHeader). h .rows) (pgm-refused front bad)
+
+  pub ended-refused : (tb : List ℕ) {number : ℕ} → number ≡ tableNumber tb orElse pgmHeader front .number → (number ≡ 0 → ⊥)
+      → PictureEnded tb front [] number 0 0
+  unfolding pgmConversion
+  ended-refused tb {number} is some =
+      let same : headerBytes front ++ [] ≡ front = append-nil (headerBytes front) ∙ header-whole in
+      record {
+        image = [];
+        taken = record {
+          within = omega arith;
+          size = sym (mul-zero (2 * pgmHeader front .width));
+          agrees = rw same;
+          right = λ i h. absurd (not-suc-le-zero h);
+        };
+        next = λ less. absurd (omega (arith, less, no-rows));
+        last = λ e. refl;
+        ends = rw (same, ← is, unless-refused number headerRefused _ some);
+      }
+
+-- as no bytes are
+pub no-header : pgmHeader [] .number ≡ 0 → ⊥
+unfolding sameBytes frontNumber frontRead pgmHeader
+no-header e = absurd (omega (arith, e))
+
+-- ---- a header that is accepted is so by its own bytes
+module _ (front : List ℕ) (ok : pgmHeader front .number ≡ 0) where
+  header-own : headerBytes front ≡ take (pgmHeader front .start) front
+  unfolding headerBytes
+  header-own = rw ok
+
+  header-size : length (headerBytes front) ≡ pgmHeader front .start
+  header-size = rw header-own (length-take-le (pgmHeader front .start) front (pgm-accepted front ok .start-within))
+
+  pub header-same : (x : List ℕ) → pgmHeader (headerBytes front ++ x) ≡ pgmHeader front
+  header-same x =
+      pgm-alike front (headerBytes front ++ x) ok
+      (take-at (headerBytes front) x (pgmHeader front .start) header-size ∙ header-own)
 
 -- ---- a header that is accepted, under a table that is
 module _ (tb front : List ℕ) (table : tableNumber tb ≡ 0) (ok : pgmHeader front .number ≡ 0) where
@@ -49,18 +87,12 @@ module _ (tb front : List ℕ) (table : tableNumber tb ≡ 0) (ok : pgmHeader fr
   accepted : PgmAccepted front (pgmHeader front)
   accepted = pgm-accepted front ok
 
-  header-size : length (headerBytes front) ≡ pgmHeader front .start
-  header-size = length-take-le (pgmHeader front .start) front (accepted .start-within)
-
   -- what follows the header's bytes is the picture
-  converted : (x : List ℕ) → pgmConversion tb (headerBytes front ++ x) ≡ afterHeader (tableBytes tb) (lineRecords tb w n 0 x)
+  pub converted : (x : List ℕ) → pgmConversion tb (headerBytes front ++ x) ≡ afterHeader (tableBytes tb) (lineRecords tb w n 0 x)
   unfolding pgmConversion
-  converted x =
-      let own : pgmHeader (headerBytes front ++ x) ≡ pgmHeader front =
-      pgm-alike front (headerBytes front ++ x) ok (take-at (headerBytes front) x (pgmHeader front .start) header-size) in
-      rw (own, table, ok, drop-at (headerBytes front) x (pgmHeader front .start) header-size)
+  converted x = rw (header-same front ok x, table, ok, drop-at (headerBytes front) x (pgmHeader front .start) (header-size front ok))
 
-  up-to : (x : List ℕ) → UpToLine tb w 0 n x (lineRecords tb w n 0 x)
+  pub up-to : (x : List ℕ) → UpToLine tb w 0 n x (lineRecords tb w n 0 x)
   up-to x = lines-up-to tb w (accepted .width-most) n 0 x
 
   -- a row that is not there is refused
@@ -105,7 +137,8 @@ module _ (tb front : List ℕ) (table : tableNumber tb ≡ 0) (ok : pgmHeader fr
   rowsTaken-none = record {
     within = omega arith;
     size = sym (mul-zero (2 * w));
-    agrees = rw (append-nil (headerBytes front)) (agrees-front (pgmHeader front .start) front (accepted .start-within));
+    agrees = rw (append-nil (headerBytes front), header-own front ok)
+        (agrees-front (pgmHeader front .start) front (accepted .start-within));
     right = λ i h. absurd (not-suc-le-zero h);
   }
 
@@ -115,7 +148,7 @@ module _ (tb front : List ℕ) (table : tableNumber tb ≡ 0) (ok : pgmHeader fr
     before = headerBytes front ++ image
 
     before-size : length before ≡ pgmHeader front .start + 2 * w * r
-    before-size = omega (arith, length-append (headerBytes front) image, header-size, taken .size)
+    before-size = omega (arith, length-append (headerBytes front) image, header-size front ok, taken .size)
 
     absent-next : r < n → lineRefusal w (rowAt w image r) ≡ 0 → ⊥
     absent-next h = absent-row (rowAt w image r) (omega (arith, length-drop (2 * w * r) image, taken .size))
@@ -126,14 +159,8 @@ module _ (tb front : List ℕ) (table : tableNumber tb ≡ 0) (ok : pgmHeader fr
     rows-before : pgmConversion tb before .rows ≡ r
     rows-before = converted-rows image r (taken .within) (taken .right) absent-next
 
-    module _ (here : List ℕ) (follows : Agrees (drop (pgmHeader front .start + 2 * w * r) front) here) where
-      -- the bytes that are held come behind those
-      held-agrees : Agrees front (before ++ here)
-      held-agrees = agrees-more front before here (taken .agrees) (rw before-size follows)
-
-      together : before ++ here ≡ headerBytes front ++ (image ++ here)
-      together = append-assoc (headerBytes front) image here
-
+    -- and then these bytes are held
+    module _ (here : List ℕ) where
       row-there : (i : ℕ) → i < r → 2 * w ≤ length (rowAt w image i)
       row-there i h = line-there w (rowAt w image i) (taken .right i h)
 
@@ -155,24 +182,30 @@ module _ (tb front : List ℕ) (table : tableNumber tb ≡ 0) (ok : pgmHeader fr
         stops : r < n → lineRefusal w (rowAt w (image ++ here) r) ≡ 0 → ⊥
         stops h z = some h (faulty h ∙ (rw new-row at z))
 
-        pub ended-rows : PictureEnded tb front here 0 e r
-        ended-rows = record {
-          before = before;
-          agrees = held-agrees;
+        pub ended-rows : (r < n → LineHeld front here r) → (r ≡ n → here ≡ []) → PictureEnded tb front here 0 e r
+        ended-rows next last = record {
+          image = image;
+          taken = taken;
+          next = next;
+          last = last;
           ends =
               let number : r < n → e ≡ lineRefusal w (rowAt w (image ++ here) r) = λ h. rw new-row (faulty h) in
               let bytes = converted-bytes (image ++ here) r (taken .within) old-right stops in
               let same : pgmConversion tb (headerBytes front ++ (image ++ here)) .bytes ≡ pgmConversion tb before .bytes =
               bytes ∙ rw old-lines (sym bytes-before) in
-              rw together
-              (converted-ends (image ++ here) r (taken .within) old-right stops e number whole
-              ∙ ap (λ (b : List ℕ). record { header = 0; fault = e; rows = r; bytes = b }) same);
+              converted-ends (image ++ here) r (taken .within) old-right stops e number whole
+              ∙ ap (λ (b : List ℕ). record { header = 0; fault = e; rows = r; bytes = b }) same;
         }
 
       -- the next is right
-      module _ (next : r < n) (few : length here ≤ 2 * w) (right : lineRefusal w here ≡ 0) where
+      module _ (next : r < n) (row : LineHeld front here r) (right : lineRefusal w here ≡ 0) where
         here-size : length here ≡ 2 * w
-        here-size = omega (arith, line-there w here right, few)
+        here-size = omega (arith, line-there w here right, row .most)
+
+        all-agrees : Agrees front (headerBytes front ++ (image ++ here))
+        all-agrees =
+            rw (append-assoc (headerBytes front) image here)
+            at (agrees-more front before here (taken .agrees) (rw before-size (row .agrees)))
 
         all-right : (i : ℕ) → i < r + 1 → lineRefusal w (rowAt w (image ++ here) i) ≡ 0
         all-right i h =
@@ -189,7 +222,7 @@ module _ (tb front : List ℕ) (table : tableNumber tb ≡ 0) (ok : pgmHeader fr
         rowsTaken-more = record {
           within = omega (arith, next);
           size = all-size;
-          agrees = rw together at held-agrees;
+          agrees = all-agrees;
           right = all-right;
         }
 
@@ -206,19 +239,19 @@ module _ (tb front : List ℕ) (table : tableNumber tb ≡ 0) (ok : pgmHeader fr
 
         pub next-record : LineAdded tb front here r (lineRecord tb w r here)
         next-record = record {
-          before = before;
-          agrees = held-agrees;
+          image = image;
+          taken = taken;
+          row = row;
           rows = rows-before;
           bytes =
               let stops : r + 1 < n → lineRefusal w (rowAt w (image ++ here) (r + 1)) ≡ 0 → ⊥ =
               λ h.
               absent-row (rowAt w (image ++ here) (r + 1)) (omega (arith, length-drop (2 * w * (r + 1)) (image ++ here), all-size)) in
               let bytes = converted-bytes (image ++ here) (r + 1) (omega (arith, next)) all-right stops in
-              rw together
-              (bytes
+              bytes
               ∙ ap (tableBytes tb ++_) records-next
               ∙ sym (append-assoc (tableBytes tb) (heightsRecords tb 0 (linesIn w r image)) (lineRecord tb w r here))
-              ∙ ap (_++ lineRecord tb w r here) (sym bytes-before));
+              ∙ ap (_++ lineRecord tb w r here) (sym bytes-before);
         }
 
 -- ---- the verdict

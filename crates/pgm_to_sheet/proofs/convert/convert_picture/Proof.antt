@@ -13,16 +13,6 @@ use Rattle.pgm_to_sheet.proofs.convert.convert_picture.Tie as tie
 table-ok : (c : tie.Start) → tableNumber (c .args .table .now) ≡ 0
 table-ok c = table-accepted (c .args .table .now) (c .pre .0)
 
--- and so is the header
-stands : (c : tie.Else1)
-    → let read = c .before in
-    let a = read .before .before .before .before .before .before .args in
-    PictureStands (a .table .now) (a .most) (a .front .now) (read .pgm-header .result)
-stands c =
-    let read = c .before in
-    let start = read .before .before .before .before .before .before in
-    record { table = start .pre .0; header = read .pgm-header .ensures; accepted = c .if1 .left }
-
 pgm-header-requires : tie.Need-pgm-header-requires
 pgm-header-requires c κs = search needs
 
@@ -37,6 +27,16 @@ end-requires c κs =
 
 returns : tie.Need-returns
 returns c = search needs
+
+-- and where the header is too, the picture stands
+stands : (c : tie.Else1)
+    → let read = c .before in
+    let a = read .before .before .before .before .before .before .args in
+    PictureStands (a .table .now) (a .most) (a .front .now) (read .pgm-header .result)
+stands c =
+    let read = c .before in
+    let start = read .before .before .before .before .before .before in
+    record { table = start .pre .0; header = read .pgm-header .ensures; accepted = c .if1 .left }
 
 put-table-requires : tie.Need-put-table-requires
 put-table-requires c κs =

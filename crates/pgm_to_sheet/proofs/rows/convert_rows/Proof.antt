@@ -1,9 +1,9 @@
 -- `pgm_to_sheet::rows::convert_rows` meets its contract. The loop's invariant: the memory keeps its lengths, and for some bytes r rows were
 -- taken, none of which is refused. The measure is the rows that are left. Assumes nothing.
-use Prim.Native.Nat.{_-_, _*_, _≤_}
+use Prim.Native.Nat.{_-_, _≤_}
 use native.Mathlib.Omega.{arith}
 use mathlib.Core.Path.{_≡_, refl, sym, ap}
-use lib.ListN.{length, take, length-take}
+use lib.ListN.{length}
 use lib.Seq.{length-take-le}
 use Rattle.row_format.specs.Lists.Laws.{true-false}
 use Rattle.pgm_to_sheet.specs.declared.rows.Rows.{Rows}
@@ -25,12 +25,6 @@ abbrev start : tie.After-take-row Inv-loop μ-loop → tie.Start Inv-loop μ-loo
 start c =
     let at-loop = c .before .before .before .before in
     at-loop .before .before .before .before .before .before
-
-few : (c : tie.After-take-row Inv-loop μ-loop)
-    → let held = c .take-row .result .held in
-    length (take held (c .take-row .last .1 .1 .1 .1 .1 .1 .1 .0)) ≤ 2 * start c .args .header .width
-few c =
-    omega (arith, length-take (c .take-row .result .held) (c .take-row .last .1 .1 .1 .1 .1 .1 .1 .0), c .take-row .ensures .0)
 
 room : (c : tie.After-take-row Inv-loop μ-loop) → c .take-row .result .held ≤ length (c .take-row .last .1 .1 .1 .1 .1 .1 .1 .0)
 room c =
@@ -77,7 +71,7 @@ returns-2 c =
     let did = turn .take-row .ensures .1 .1 in
     let wide = stands-fits (start turn .pre .0) .width-most in (
       omega (arith, turn .take-row .ensures .0, wide),
-      λ f. row-ended (start turn .pre .0) before less (did .0) (few turn) (did .1) (c .if2 .taken),
+      λ f. row-ended (start turn .pre .0) before less (did .0) (did .1) (c .if2 .taken),
     )
 
 slice-reshare-prefix-print-row : tie.Need-slice-reshare-prefix-print-row Inv-loop μ-loop
@@ -102,7 +96,7 @@ print-row-requires c κs =
     let before = turn .before .before .before .before .loop .inv .2 in
     let less = turn .before .before .before .loop-test .taken in
     let did = turn .take-row .ensures .1 .1 in
-    row-next (start turn .pre .0) before less (did .0) (few turn) (did .1) (c .before .before .if2 .left)
+    row-next (start turn .pre .0) before less (did .0) (did .1) (c .before .before .if2 .left)
 
 add-r : tie.Need-add-r Inv-loop μ-loop
 add-r c =
@@ -124,7 +118,7 @@ loop-again c =
     let kept = turn .take-row .kept in (
       omega (arith, kept),
       omega (arith, kept),
-      before-more (start turn .pre .0) before less (did .0) (few turn) (did .1) (c .before .before .before .before .if2 .left),
+      before-more (start turn .pre .0) before less (did .0) (did .1) (c .before .before .before .before .if2 .left),
     )
 
 unfinished-requires-2 : tie.Need-unfinished-requires-2 Inv-loop μ-loop

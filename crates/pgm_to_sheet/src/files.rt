@@ -49,11 +49,11 @@ fn convert_words() {
         return;
     }
     let n = filled.count;
-    convert_under(&table[..n]);
+    convert_named(&table[..n]);
 }
 
 // Under these bytes of a table.
-fn convert_under(table: &[u8])
+fn convert_named(table: &[u8])
     requires { ⌜ length (now table) ≤ 32773 ⌝ }
 {
     let place = word_place(&USAGE, 0);

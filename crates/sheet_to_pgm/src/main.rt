@@ -23,10 +23,10 @@ use words::write_words;
 pub const PROGRAM: [u8; 12] = *b"sheet_to_pgm";
 
 // The options and their values.
-pub const OPTIONS: [u8; 7] = *b"--pad H";
+pub const USAGE: [u8; 7] = *b"--pad H";
 
 fn main() {
-    match read_options(&OPTIONS) {
+    match read_options(&USAGE) {
         Asked::Help => print_help(),
         Asked::Version => print_program(),
         Asked::Unknown(i) => refuse(i),

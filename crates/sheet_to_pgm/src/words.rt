@@ -1,6 +1,6 @@
 // The words of a command line: a height for what is missing, and one file at most.
-use crate::OPTIONS;
 use crate::PROGRAM;
+use crate::USAGE;
 use crate::help;
 use crate::pads::Pads;
 use crate::passes::write_pgm;
@@ -19,12 +19,12 @@ ghost use Prim.Native.Nat.{_≤_};
 ghost use Rattle.sheet_to_pgm.specs.Written.{padHeight};
 
 pub fn write_words() {
-    if 1 < count_words(&OPTIONS) {
-        refuse_at(&PROGRAM, word_place(&OPTIONS, 1), b"only one file is taken");
+    if 1 < count_words(&USAGE) {
+        refuse_at(&PROGRAM, word_place(&USAGE, 1), b"only one file is taken");
         help(STDERR_FILENO);
         return;
     }
-    let i = value_of(&OPTIONS, b"--pad");
+    let i = value_of(&USAGE, b"--pad");
     if i == 0 {
         write_input(Pads::Refused);
         return;
@@ -45,12 +45,12 @@ pub fn write_words() {
 fn write_input(pads: Pads)
     requires { ⌜ padHeight pads ≤ 4095 ⌝ }
 {
-    if count_words(&OPTIONS) == 0 {
+    if count_words(&USAGE) == 0 {
         write_pgm(STDIN_FILENO, b"-", pads);
         return;
     }
     let mut word = io::buffer();
-    let n = word_at(word_place(&OPTIONS, 0), &mut word);
+    let n = word_at(word_place(&USAGE, 0), &mut word);
     write_file(&word[..n], pads);
 }
 

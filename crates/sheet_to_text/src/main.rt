@@ -18,10 +18,10 @@ use words::write_words;
 pub const PROGRAM: [u8; 13] = *b"sheet_to_text";
 
 // The options and their values.
-pub const OPTIONS: [u8; 10] = *b"--rows A-B";
+pub const USAGE: [u8; 10] = *b"--rows A-B";
 
 fn main() {
-    match read_options(&OPTIONS) {
+    match read_options(&USAGE) {
         Asked::Help => print_help(),
         Asked::Version => print_program(),
         Asked::Unknown(i) => refuse(i),

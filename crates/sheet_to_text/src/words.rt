@@ -1,6 +1,6 @@
 // The words of a command line: which rows, and one file at most.
-use crate::OPTIONS;
 use crate::PROGRAM;
+use crate::USAGE;
 use crate::help;
 use crate::range::RangeRead;
 use crate::range::RowRange;
@@ -17,12 +17,12 @@ use libc::STDERR_FILENO;
 use libc::STDIN_FILENO;
 
 pub fn write_words() {
-    if 1 < count_words(&OPTIONS) {
-        refuse_at(&PROGRAM, word_place(&OPTIONS, 1), b"only one file is taken");
+    if 1 < count_words(&USAGE) {
+        refuse_at(&PROGRAM, word_place(&USAGE, 1), b"only one file is taken");
         help(STDERR_FILENO);
         return;
     }
-    let i = value_of(&OPTIONS, b"--rows");
+    let i = value_of(&USAGE, b"--rows");
     if i == 0 {
         write_range(RowRange {
             first: 0,
@@ -50,12 +50,12 @@ fn write_rows(i: usize) {
 }
 
 fn write_range(range: RowRange) {
-    if count_words(&OPTIONS) == 0 {
+    if count_words(&USAGE) == 0 {
         write_text(STDIN_FILENO, b"-", range);
         return;
     }
     let mut word = io::buffer();
-    let n = word_at(word_place(&OPTIONS, 0), &mut word);
+    let n = word_at(word_place(&USAGE, 0), &mut word);
     write_file(&word[..n], range);
 }
 

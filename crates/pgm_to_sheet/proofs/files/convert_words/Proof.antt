@@ -55,13 +55,13 @@ returns-2 c = search needs
 array-share-prefix-table : tie.Need-array-share-prefix-table
 array-share-prefix-table c = search needs
 
-slice-aggregate-convert-under : tie.Need-slice-aggregate-convert-under
-slice-aggregate-convert-under c =
+slice-aggregate-convert-named : tie.Need-slice-aggregate-convert-named
+slice-aggregate-convert-named c =
     let filled = c .before .before .before .fill-table in
     sym (length-take-le (filled .result .count) (filled .last .1 .0) (omega (arith, filled .ensures .0, filled .kept)))
 
-convert-under-requires : tie.Need-convert-under-requires
-convert-under-requires c κs =
+convert-named-requires : tie.Need-convert-named-requires
+convert-named-requires c κs =
     let filled = c .before .before .before .fill-table in
     omega (arith, filled .ensures .0, length-take (filled .result .count) (filled .last .1 .0))
 
@@ -88,6 +88,6 @@ convert-words-spec =
     fill-table-requires
     returns-2
     array-share-prefix-table
-    slice-aggregate-convert-under
-    convert-under-requires
+    slice-aggregate-convert-named
+    convert-named-requires
     returns-3)

@@ -48,9 +48,24 @@ pub record SheetOver (p : Carried) (e : List ℕ) : Type 0 where
   pub place : ℕ
   pub ends : nextOf p e ≡ ended number place
 
+-- the bytes that are held are the last of t, behind those before them, or, where the sheet has ended, e
+abbrev pub HeldLast : Bool → List ℕ → List ℕ → List ℕ → List ℕ → Type 0
+HeldLast false before held t e = before ++ held ≡ t
+HeldLast true before held t e = (before ≡ t) × (held ≡ e)
+
+-- row n could still come after some bytes that were taken before, accepted records to their end; behind them the bytes that are
+-- held were read, of one record or none
+pub record HeldBy (held : List ℕ) (n : ℕ) (end : Bool) (t e : List ℕ) : Type 0 where
+  pub before : List ℕ
+  pub carried : Carried
+  pub carries : Carries before carried
+  pub whole : held ≡ heldOf held
+  pub later : carried .state .«least_row» ≤ n
+  pub last : HeldLast end before held t e
+
 -- ---- what is known of the rows from n on: of the last row that was read, whose heights stand in `content`, and of the numbers
--- before it
-pub record ReadTo (a : Ahead) (table content : List ℕ) (n : ℕ) : Type 0 where
+-- before it; the record that was read last stands in `bytes`
+pub record ReadTo (a : Ahead) (bytes table content : List ℕ) (n : ℕ) : Type 0 where
   pub taken : List ℕ
   pub last : List ℕ
   pub carries : Carries taken (carriedBy (a .at) table)
@@ -58,9 +73,10 @@ pub record ReadTo (a : Ahead) (table content : List ℕ) (n : ℕ) : Type 0 wher
   pub row : n < leastIn a → (rest : List ℕ)
       → heightsOf (leastIn a - 1) (rowsIn (taken ++ rest)) ≡ present (halvesOf (take (a .count) content))
   pub between : (m : ℕ) → n ≤ m → m + 1 < leastIn a → (rest : List ℕ) → heightsOf m (rowsIn (taken ++ rest)) ≡ absent
+  pub known : isKnown a n ≡ true → HeldBy (take (a .held) bytes) n (a .ended) taken last
 
 -- from w on the sheet was read on, or later rows are asked for: what may be the sheet now might be before
-pub record Onward {a : Ahead} {table content : List ℕ} {n : ℕ} (w : ReadTo a table content n) (a′ : Ahead) (table′ content′ : List ℕ)
-    (n′ : ℕ) : Type 0 where
-  pub now : ReadTo a′ table′ content′ n′
+pub record Onward {a : Ahead} {bytes table content : List ℕ} {n : ℕ} (w : ReadTo a bytes table content n) (a′ : Ahead)
+    (bytes′ table′ content′ : List ℕ) (n′ : ℕ) : Type 0 where
+  pub now : ReadTo a′ bytes′ table′ content′ n′
   pub narrows : (s : List ℕ) → MayBe (a′ .ended) (now .taken) (now .last) s → MayBe (a .ended) (w .taken) (w .last) s

@@ -1,7 +1,7 @@
--- What goes out in the second pass: the parts of a PNG. The sheet's bytes stand in no memory any more: each part is so for every sheet
--- that begins with the bytes that were taken and, where the sheet has ended, for that one. Definitions only; their laws are in Drawn/.
--- Assumes nothing.
-use Prim.Native.Nat.{ℕ}
+-- What goes out in the second pass: the parts of a PNG. Of the sheet's bytes only those that were read last stand in memory: each part
+-- is so for every sheet that begins with the bytes that were taken and, where the sheet has ended, for that one. Definitions only; their
+-- laws are in Drawn/. Assumes nothing.
+use Prim.Native.Nat.{ℕ, _/_}
 use mathlib.Core.Path.{_≡_}
 use mathlib.Core.Bool.{Bool, true}
 use mathlib.Core.List.{List, _++_}
@@ -17,7 +17,7 @@ use Rattle.sheet_picture.specs.Grid.{pictureRow, pictureWidth, pictureHeight, r
 use Rattle.sheet_picture.specs.View.{lookOf, extentOf}
 use Rattle.draw_sheet.specs.declared.advance.Ahead.{Ahead}
 use Rattle.draw_sheet.specs.declared.draw.RowPart.{RowPart}
-use Rattle.draw_sheet.specs.Ahead.{rowsIn, MayBe, SheetOver, ReadTo}
+use Rattle.draw_sheet.specs.Ahead.{rowsIn, MayBe, SheetOver, HeldBy, ReadTo}
 use Rattle.draw_sheet.specs.View.{ViewMade}
 pub mod Laws
 
@@ -60,9 +60,11 @@ pub record SheetSoFar : Type 0 where
 abbrev pub MayBeOf : SheetSoFar → List ℕ → Type 0
 MayBeOf r s = MayBe (r .ended) (r .taken) (r .last) s
 
-pub record RowOut (v : View) (c : List ℕ) (y : ℕ) (part : List ℕ) : Type 0 where
+-- row y: its row of the sheet could still come until the bytes that are held were read
+pub record RowOut (v : View) (c : List ℕ) (y : ℕ) (held part : List ℕ) : Type 0 where
   pub made : ViewMade v c
   pub reading : SheetSoFar
+  pub known : HeldBy held (y / v .times) (reading .ended) (reading .taken) (reading .last)
   pub row : (s : List ℕ) → MayBeOf reading s → part ≡ pngRow (rowDrawn v c s y)
 
 pub record EndOut (v : View) (c part : List ℕ) : Type 0 where
@@ -71,6 +73,6 @@ pub record EndOut (v : View) (c part : List ℕ) : Type 0 where
   pub end : (s : List ℕ) → MayBeOf reading s → part ≡ pngEnd (dataDrawn v c s (heightDrawn v c))
 
 -- ---- on the way: the rows before y are drawn, and these are the sums of their scanlines
-pub record DrawnTo (v : View) (c : List ℕ) (a : Ahead) (table content : List ℕ) (n y : ℕ) (sums : Sums) : Type 0 where
-  pub read : ReadTo a table content n
+pub record DrawnTo (v : View) (c : List ℕ) (a : Ahead) (bytes table content : List ℕ) (n y : ℕ) (sums : Sums) : Type 0 where
+  pub read : ReadTo a bytes table content n
   pub summed : (s : List ℕ) → MayBe (a .ended) (read .taken) (read .last) s → SumsOf sums (dataDrawn v c s y)

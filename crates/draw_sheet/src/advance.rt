@@ -15,21 +15,24 @@ ghost use Rattle.draw_sheet.specs.Ahead.{heightBytes, leastIn, isKnown, 
 // The last row that was read has the number before the least that may come next; its heights stand at the front of `content`.
 // failed   whether reading failed, which is said on standard error
 // ended    whether the sheet has ended
+// held     how many bytes were read last: a record, or what the sheet ended with; they stand at the front of `bytes`
 // count    the bytes of that row's heights
 // at       what is carried
 pub struct Ahead {
     pub failed: bool,
     pub ended: bool,
+    pub held: usize,
     pub count: usize,
     pub at: SheetProgress,
 }
 
-pub fn ahead_of(failed: bool, ended: bool, count: usize, at: SheetProgress) -> Ahead
-    ensures { λ r. ⌜ r ≡ record { failed = failed; ended = ended; count = count; at = at } ⌝ }
+pub fn ahead_of(failed: bool, ended: bool, held: usize, count: usize, at: SheetProgress) -> Ahead
+    ensures { λ r. ⌜ r ≡ record { failed = failed; ended = ended; held = held; count = count; at = at } ⌝ }
 {
     Ahead {
         failed,
         ended,
+        held,
         count,
         at,
     }
@@ -51,11 +54,13 @@ pub fn advance(
     requires { ⌜ 16384 ≤ length (now content) ⌝ }
     requires { ⌜ CarriedFits (ahead .at) (now table) ⌝ }
     requires { ⌜ ahead .count ≤ 8192 ⌝ }
+    requires { ⌜ ahead .held ≤ 32778 ⌝ }
     ensures fits { λ r. ⌜ CarriedFits (r .at) (now (table .exit)) ⌝ }
     ensures within { λ r. ⌜ r .count ≤ 8192 ⌝ }
+    ensures held { λ r. ⌜ r .held ≤ 32778 ⌝ }
     ensures known { λ r. ⌜ (r .failed ≡ false → isKnown r n ≡ true) ⌝ }
-    ensures onward { λ r. ⌜ (r .failed ≡ false → (w : ReadTo ahead (now (table .entry)) (now (content .entry)) n)
-        → Onward w r (now (table .exit)) (now (content .exit)) n) ⌝ }
+    ensures onward { λ r. ⌜ (r .failed ≡ false → (w : ReadTo ahead (now (bytes .entry)) (now (table .entry)) (now (content .entry)) n)
+        → Onward w r (now (bytes .exit)) (now (table .exit)) (now (content .exit)) n) ⌝ }
 {
     let mut now = ahead;
     while now.at.index < u64::MAX {
@@ -71,7 +76,7 @@ pub fn advance(
         }
         now = next;
     }
-    ahead_of(true, false, 0, now.at)
+    ahead_of(true, false, 0, 0, now.at)
 }
 
 fn is_known(ahead: Ahead, n: u32) -> bool
@@ -113,22 +118,23 @@ fn take_next(
     requires { ⌜ isKnown ahead n ≡ false ⌝ }
     ensures fits { λ r. ⌜ CarriedFits (r .at) (now (table .exit)) ⌝ }
     ensures within { λ r. ⌜ r .count ≤ 8192 ⌝ }
+    ensures held { λ r. ⌜ r .held ≤ 32778 ⌝ }
     ensures index { λ r. ⌜ (r .failed ≡ false → r .ended ≡ false → r .at .index ≡ ahead .at .index + 1) ⌝ }
-    ensures onward { λ r. ⌜ (r .failed ≡ false → (w : ReadTo ahead (now (table .entry)) (now (content .entry)) n)
-        → Onward w r (now (table .exit)) (now (content .exit)) n) ⌝ }
+    ensures onward { λ r. ⌜ (r .failed ≡ false → (w : ReadTo ahead (now (bytes .entry)) (now (table .entry)) (now (content .entry)) n)
+        → Onward w r (now (bytes .exit)) (now (table .exit)) (now (content .exit)) n) ⌝ }
 {
     let at = ahead.at;
     let step = take_record(&PROGRAM, name, file, bytes, table, content, at);
     let next = step.next;
     if step.failed {
-        return ahead_of(true, false, 0, next);
+        return ahead_of(true, false, 0, 0, next);
     }
     if step.last {
-        return ahead_of(false, true, 0, next);
+        return ahead_of(false, true, step.taken, 0, next);
     }
     let read = step.read;
     let count = height_bytes(read.kind, read.count);
-    ahead_of(false, false, count, next)
+    ahead_of(false, false, step.taken, count, next)
 }
 
 // The bytes of a row's heights.

@@ -129,7 +129,7 @@ fn draw_rows(
     requires { ⌜ front .next ≡ 0 ⌝ }
 {
     let height = picture_height(view);
-    let mut ahead = ahead_of(false, false, 0, begin());
+    let mut ahead = ahead_of(false, false, 0, 0, begin());
     let mut sums = begin_sums();
     let mut drawn = front;
     let mut y = 0;
@@ -139,8 +139,9 @@ fn draw_rows(
             return;
         }
         let part = put_part(view, y, ahead, content, indices, counts, crcs, out, sums);
+        let held = ahead.held;
         let n = part.count;
-        let printed = print_row(to, to_name, view, counts, drawn, &out[..n]);
+        let printed = print_row(to, to_name, view, counts, drawn, &bytes[..held], &out[..n]);
         if printed.written {
             drawn = printed.rows;
             sums = part.sums;

@@ -18,8 +18,8 @@ pub struct Printed {
     pub rows: RowsOut,
 }
 
-// Each writes a part of the picture; nothing else goes out. The view, the counts and the row's number say what the part must be;
-// nothing else is done with them.
+// Each writes a part of the picture; nothing else goes out. The view, the counts, the row's number and `held`, the bytes of the
+// record that was read last, say what the part must be; nothing else is done with them.
 pub fn print_front(to: i32, to_name: &[u8], view: View, counts: &[u8], part: &[u8]) -> Printed
     requires { ⌜ FrontOut view (now counts) (now part) ⌝ }
     ensures { λ r. ⌜ r .rows .next ≡ 0 ⌝ }
@@ -37,10 +37,11 @@ pub fn print_row(
     view: View,
     counts: &[u8],
     rows: RowsOut,
+    held: &[u8],
     part: &[u8],
 ) -> Printed
     requires { ⌜ rows .next < 4294967295 ⌝ }
-    requires { ⌜ RowOut view (now counts) (rows .next) (now part) ⌝ }
+    requires { ⌜ RowOut view (now counts) (rows .next) (now held) (now part) ⌝ }
     ensures { λ r. ⌜ r .rows .next ≡ rows .next + 1 ⌝ }
 {
     let written = print_part(to, to_name, part);

@@ -9,7 +9,7 @@ use mathlib.Core.Bool.{Bool, true, false}
 use mathlib.Core.List.{List, [], _++_, append-assoc}
 use lib.ListN.{take}
 use lib.Dec.{ltb, eqb}
-use borrow.Author.Tests.{ne-eqb, eqb-true, eqb-false, le-ltb, ltb-false}
+use borrow.Author.Tests.{ne-eqb, eqb-true, eqb-false, le-ltb, lt-ltb, ltb-true, ltb-false}
 use Rattle.bitstream.specs.Bits.{halvesOf}
 use Rattle.row_format.specs.Lists.Laws.{by-test, true-false}
 use Rattle.sheet_format.specs.Kind.{Payload, aTable, aRow, aLine, noPayload, isRow}
@@ -19,13 +19,15 @@ use Rattle.sheet_format.specs.Stream.Settled.{heights-none}
 use Rattle.sheet_format.specs.Stream.Taken.{carries-none, carries-ended}
 use Rattle.sheet_stream.specs.declared.progress.SheetProgress.{SheetProgress}
 use Rattle.sheet_stream.specs.declared.step.SheetStep.{SheetStep}
+use Rattle.sheet_stream.specs.Progress.{carriedBy}
 use Rattle.sheet_stream.specs.Progress.Laws.{progressFirst}
 use Rattle.sheet_stream.specs.Step.{StepMade}
 use Rattle.sheet_stream.specs.Step.Laws.{step-ended, step-carries}
 use Rattle.sheet_stream.specs.Step.Rows.{rowless-next, row-next, row-count, row-there, gap-absent}
 use Rattle.sheet_picture.specs.View.{heightsBy}
 use Rattle.draw_sheet.specs.declared.advance.Ahead.{Ahead}
-use Rattle.draw_sheet.specs.Ahead.{rowsIn, heightBytes, leastIn, isKnown, BeginsSheet, MayBe, SheetOver, ReadTo, Onward}
+use Rattle.draw_sheet.specs.Ahead.{rowsIn, heightBytes, leastIn, isKnown, BeginsSheet, MayBe, SheetOver}
+use Rattle.draw_sheet.specs.Ahead.{HeldLast, HeldBy, ReadTo, Onward}
 
 -- ---- the bytes of a row's heights
 pub height-row : (s : Payload) (k : ℕ) → isRow s ≡ true → heightBytes s k ≡ 2 * k
@@ -67,7 +69,26 @@ open-known : (a : Ahead) (n : ℕ) → isKnown a n ≡ true → leastIn a ≤ n 
 open-known a n known least =
     by-test (a .ended) (λ e. e) (λ e. true-false (rw e at known) (le-ltb n (leastIn a) least))
 
-module _ {a : Ahead} {table content : List ℕ} {n : ℕ} (w : ReadTo a table content n) where
+-- where a later row is known, row n is
+known-before : (a : Ahead) {n m : ℕ} → n ≤ m → isKnown a m ≡ true → isKnown a n ≡ true
+known-before a {n} {m} later known =
+    by-test (a .ended) (λ e. rw e) (λ e.
+    let less : m < leastIn a = ltb-true m (leastIn a) (rw e at known) in
+    rw e (lt-ltb n (leastIn a) (omega arith)))
+
+-- where row n could still come, a later one could
+held-later : {held : List ℕ} {n m : ℕ} {end : Bool} {t e : List ℕ} → n ≤ m → HeldBy held n end t e → HeldBy held m end t e
+held-later later h =
+    record {
+      before = h .before;
+      carried = h .carried;
+      carries = h .carries;
+      whole = h .whole;
+      later = omega (arith, h .later);
+      last = h .last;
+    }
+
+module _ {a : Ahead} {bytes table content : List ℕ} {n : ℕ} (w : ReadTo a bytes table content n) where
   below : n < leastIn a → (rest : List ℕ)
       → heightsOf n (rowsIn (w .taken ++ rest)) ≡ heightsBy (eqb (leastIn a) (n + 1)) (halvesOf (take (a .count) content))
   below less rest =
@@ -90,7 +111,7 @@ module _ {a : Ahead} {table content : List ℕ} {n : ℕ} (w : ReadTo a table co
       rw (is, ne-eqb (leastIn a) (n + 1) (λ e. omega arith)) (over-none (w .carries) (w .over ended) n least))
 
   -- ---- later rows
-  pub onward-later : {m : ℕ} → n ≤ m → Onward w a table content m
+  pub onward-later : {m : ℕ} → n ≤ m → Onward w a bytes table content m
   onward-later later =
       record {
         now = record {
@@ -100,16 +121,17 @@ module _ {a : Ahead} {table content : List ℕ} {n : ℕ} (w : ReadTo a table co
           over = w .over;
           row = λ less rest. w .row (omega arith) rest;
           between = λ k least less rest. w .between k (omega arith) less rest;
+          known = λ k. held-later later (w .known (known-before a later k));
         };
         narrows = λ s h. h;
       }
 
   -- ---- reading on
-  pub onward-none : Onward w a table content n
+  pub onward-none : Onward w a bytes table content n
   onward-none = record { now = w; narrows = λ s h. h }
 
-  pub onward-more : {a′ a″ : Ahead} {table′ content′ table″ content″ : List ℕ} {m k : ℕ} (o : Onward w a′ table′ content′ m)
-      → Onward (o .now) a″ table″ content″ k → Onward w a″ table″ content″ k
+  pub onward-more : {a′ a″ : Ahead} {bytes′ table′ content′ bytes″ table″ content″ : List ℕ} {m k : ℕ}
+      (o : Onward w a′ bytes′ table′ content′ m) → Onward (o .now) a″ bytes″ table″ content″ k → Onward w a″ bytes″ table″ content″ k
   onward-more o next = record { now = next .now; narrows = λ s h. o .narrows s (next .narrows s h) }
 
   -- a record more, where row n is not known yet
@@ -121,12 +143,23 @@ module _ {a : Ahead} {table content : List ℕ} {n : ℕ} (w : ReadTo a table co
     least : leastIn a ≤ n
     least = ltb-false n (leastIn a) (rw unended at unknown)
 
+    held-next : (e : Bool) {held t l : List ℕ} → held ≡ b → HeldLast e (w .taken) b t l → HeldBy held n e t l
+    held-next e same last =
+        rw same (record {
+          before = w .taken;
+          carried = carriedBy (a .at) table;
+          carries = w .carries;
+          whole = step .held;
+          later = least;
+          last = last;
+        })
+
     narrower : {t : List ℕ} → BeginsSheet (w .taken) t → MayBe (a .ended) (w .taken) (w .last) t
     narrower h = rw unended h
 
-    pub onward-ended : s .last ≡ true → {f : Bool} {k : ℕ} {a′ : Ahead}
-        → a′ ≡ record { failed = f; ended = true; count = k; at = s .next } → Onward w a′ table′ content′ n
-    onward-ended last is =
+    pub onward-ended : s .last ≡ true → {bytes′ : List ℕ} {f : Bool} {h k : ℕ} {a′ : Ahead} → take h bytes′ ≡ b
+        → a′ ≡ record { failed = f; ended = true; held = h; count = k; at = s .next } → Onward w a′ bytes′ table′ content′ n
+    onward-ended last same is =
         rw (is, step .still last .0, step .still last .1) (record {
           now = record {
             taken = w .taken;
@@ -135,13 +168,21 @@ module _ {a : Ahead} {table content : List ℕ} {n : ℕ} (w : ReadTo a table co
             over = λ e. record { held = step .held; number = _; place = _; ends = step-ended step last };
             row = λ less rest. absurd (omega (arith, least));
             between = λ m h less rest. absurd (omega (arith, least));
+            known = λ k. held-next true same (refl, refl);
           };
           narrows = λ t h. narrower (record { rest = b; is = h });
         })
 
     module _ (on : s .last ≡ false) where
       abbrev after : Ahead
-      after = record { failed = false; ended = false; count = heightBytes (holdsOf (s .read)) (s .read .count); at = s .next }
+      after =
+          record {
+            failed = false;
+            ended = false;
+            held = s .taken;
+            count = heightBytes (holdsOf (s .read)) (s .read .count);
+            at = s .next;
+          }
 
       row-after : n < leastIn after → (rest : List ℕ)
           → heightsOf (leastIn after - 1) (rowsIn (w .taken ++ b ++ rest)) ≡ present (halvesOf (take (after .count) content′))
@@ -158,8 +199,8 @@ module _ {a : Ahead} {table content : List ℕ} {n : ℕ} (w : ReadTo a table co
           (λ is. gap-absent step on is (w .carries) rest m (omega (arith, least)) (omega (arith, row-next step on is)))
           (λ other. absurd (omega (arith, least, rowless-next step on other (w .carries))))
 
-      pub onward-on : {a′ : Ahead} → a′ ≡ after → Onward w a′ table′ content′ n
-      onward-on is =
+      pub onward-on : {bytes′ : List ℕ} {a′ : Ahead} → take (s .taken) bytes′ ≡ b → a′ ≡ after → Onward w a′ bytes′ table′ content′ n
+      onward-on same is =
           rw is (record {
             now = record {
               taken = w .taken ++ b;
@@ -168,14 +209,15 @@ module _ {a : Ahead} {table content : List ℕ} {n : ℕ} (w : ReadTo a table co
               over = λ e. true-false e refl;
               row = row-after;
               between = between-after;
+              known = λ k. held-next false same refl;
             };
             narrows = λ t h. narrower (begins-more (w .taken) b h);
           })
 
 -- ---- at the start nothing is read
-pub read-first : (table content : List ℕ) (n : ℕ) {f : Bool} {k : ℕ} {a : Ahead}
-    → a ≡ record { failed = f; ended = false; count = k; at = progressFirst } → ReadTo a table content n
-read-first table content n is =
+pub read-first : (bytes table content : List ℕ) (n : ℕ) {f : Bool} {h k : ℕ} {a : Ahead}
+    → a ≡ record { failed = f; ended = false; held = h; count = k; at = progressFirst } → ReadTo a bytes table content n
+read-first bytes table content n is =
     rw is (record {
       taken = [];
       last = [];
@@ -183,4 +225,5 @@ read-first table content n is =
       over = λ e. true-false e refl;
       row = λ less rest. absurd (omega arith);
       between = λ m from less rest. absurd (omega arith);
+      known = λ k. true-false k (le-ltb n 0 (omega arith));
     })

@@ -31,8 +31,8 @@ use Rattle.draw_sheet.specs.View.{ViewMade}
 use Rattle.draw_sheet.specs.Drawn.{widthDrawn, heightDrawn, rowDrawn, dataDrawn}
 use Rattle.draw_sheet.specs.Drawn.{RowPut, FrontOut, SheetSoFar, RowOut, EndOut, DrawnTo}
 
-abbrev soFar : {a : Ahead} {table content : List ℕ} {n : ℕ} → ReadTo a table content n → SheetSoFar
-soFar {a} {table} w =
+abbrev soFar : {a : Ahead} {bytes table content : List ℕ} {n : ℕ} → ReadTo a bytes table content n → SheetSoFar
+soFar {a} {table = table} w =
     record {
       taken = w .taken;
       carried = carriedBy (a .at) table;
@@ -105,29 +105,36 @@ module _ {v : View} {c : List ℕ} where
   front-out made wide tall colours put = record { made = made; front = rw (← wide, ← tall, ← colours) (put-front put) }
 
   -- ---- nothing is drawn yet
-  pub drawn-first : {a : Ahead} {table content : List ℕ} {n : ℕ} {sums : Sums} → ReadTo a table content n → SumsOf sums []
-      → DrawnTo v c a table content n 0 sums
+  pub drawn-first : {a : Ahead} {bytes table content : List ℕ} {n : ℕ} {sums : Sums} → ReadTo a bytes table content n → SumsOf sums []
+      → DrawnTo v c a bytes table content n 0 sums
   unfolding imageData rowsFrom
   drawn-first w none = record { read = w; summed = λ s may. none }
 
   -- ---- the sheet is read on, or later rows are asked for
-  pub drawn-onward : {a a′ : Ahead} {table content table′ content′ : List ℕ} {n m y : ℕ} {sums : Sums}
-      (d : DrawnTo v c a table content n y sums) → Onward (d .read) a′ table′ content′ m → DrawnTo v c a′ table′ content′ m y sums
+  pub drawn-onward : {a a′ : Ahead} {bytes table content bytes′ table′ content′ : List ℕ} {n m y : ℕ} {sums : Sums}
+      (d : DrawnTo v c a bytes table content n y sums) → Onward (d .read) a′ bytes′ table′ content′ m
+      → DrawnTo v c a′ bytes′ table′ content′ m y sums
   drawn-onward d o = record { read = o .now; summed = λ s may. d .summed s (o .narrows s may) }
 
   -- ---- row y is known, and is put into memory
-  module _ {a : Ahead} {table content : List ℕ} {y : ℕ} {sums : Sums} (d : DrawnTo v c a table content (y / v .times) y sums)
-      (known : isKnown a (y / v .times) ≡ true) {r : RowPart} {out : List ℕ}
+  module _ {a : Ahead} {bytes table content : List ℕ} {y : ℕ} {sums : Sums}
+      (d : DrawnTo v c a bytes table content (y / v .times) y sums) (known : isKnown a (y / v .times) ≡ true) {r : RowPart} {out : List ℕ}
       (put : (ys : List StoredRow)
       → heightsOf (y / v .times) ys ≡ heightsBy (eqb (leastIn a) (y / v .times + 1)) (halvesOf (take (a .count) content))
       → RowPut v c ys y sums r out) where
     put-sheet : (s : List ℕ) → MayBe (a .ended) (d .read .taken) (d .read .last) s → RowPut v c (rowsIn s) y sums r out
     put-sheet s may = put (rowsIn s) (row-known (d .read) known s may)
 
-    pub row-out : ViewMade v c → RowOut v c y (take (r .count) out)
-    row-out made = record { made = made; reading = soFar (d .read); row = λ s may. put-sheet s may .part }
+    pub row-out : ViewMade v c → RowOut v c y (take (a .held) bytes) (take (r .count) out)
+    row-out made =
+        record {
+          made = made;
+          reading = soFar (d .read);
+          known = d .read .known known;
+          row = λ s may. put-sheet s may .part;
+        }
 
-    pub drawn-next : DrawnTo v c a table content (y / v .times) (y + 1) (r .sums)
+    pub drawn-next : DrawnTo v c a bytes table content (y / v .times) (y + 1) (r .sums)
     drawn-next =
         record {
           read = d .read;
@@ -136,7 +143,8 @@ module _ {v : View} {c : List ℕ} where
         }
 
   -- ---- all rows are drawn
-  pub end-out : {a : Ahead} {table content : List ℕ} {n y : ℕ} {sums : Sums} → ViewMade v c → DrawnTo v c a table content n y sums
+  pub end-out : {a : Ahead} {bytes table content : List ℕ} {n y : ℕ} {sums : Sums} → ViewMade v c
+      → DrawnTo v c a bytes table content n y sums
       → y ≡ heightDrawn v c → {r : ℕ} {m m′ : List ℕ} → ((d : List ℕ) → SumsOf sums d → Put m 0 (pngEnd d) r m′) → EndOut v c (take r m′)
   end-out {sums = sums} made d all put =
       record {

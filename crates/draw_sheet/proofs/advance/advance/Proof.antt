@@ -15,7 +15,8 @@ use Rattle.draw_sheet.proofs.advance.advance.Tie as tie
 abbrev Inv-loop : tie.InvT-loop
 Inv-loop file name bytes₀ table₀ content₀ n now₀ bytes table content now =
     (length bytes ≡ length bytes₀) × (length table ≡ length table₀) × (length content ≡ length content₀)
-    × CarriedFits (now .at) table × (now .count ≤ 8192) × ((w : ReadTo now₀ table₀ content₀ n) → Onward w now table content n)
+    × CarriedFits (now .at) table × (now .count ≤ 8192) × (now .held ≤ 32778)
+    × ((w : ReadTo now₀ bytes₀ table₀ content₀ n) → Onward w now bytes table content n)
 
 abbrev μ-loop : tie.MeasureT-loop
 μ-loop file name bytes₀ table₀ content₀ n now₀ bytes table content now = 18446744073709551615 - now .at .index
@@ -23,7 +24,7 @@ abbrev μ-loop : tie.MeasureT-loop
 loop-holds : tie.Need-loop-holds Inv-loop μ-loop
 loop-holds c =
     let pre = c .before .before .before .before .pre in
-    (refl, refl, refl, pre .1 .1 .1 .0, pre .1 .1 .1 .1, λ w. onward-none w)
+    (refl, refl, refl, pre .1 .1 .1 .0, pre .1 .1 .1 .1 .0, pre .1 .1 .1 .1 .1, λ w. onward-none w)
 
 is-known-requires : tie.Need-is-known-requires Inv-loop μ-loop
 is-known-requires c κs = search needs
@@ -43,7 +44,7 @@ returns c =
     let is-known = c .before .is-known in
     let loop = c .before .before .before .before .loop in
     let known = sym (is-known .ensures) ∙ if2 .taken in
-    (loop .inv .3, (loop .inv .4, (λ f. known, λ f w. loop .inv .5 w)))
+    (loop .inv .3, (loop .inv .4, (loop .inv .5, (λ f. known, λ f w. loop .inv .6 w))))
 
 take-next-requires : tie.Need-take-next-requires Inv-loop μ-loop
 take-next-requires c κs =
@@ -72,7 +73,8 @@ returns-2 : tie.Need-returns-2 Inv-loop μ-loop
 returns-2 c =
     let if3 = c .if3 in
     let take-next = c .before .before .before .before .before .before .before .take-next in
-    (take-next .ensures .0, (take-next .ensures .1 .0, (λ f. true-false (if3 .taken) f, λ f. true-false (if3 .taken) f)))
+    let next = take-next .ensures in
+    (next .0, (next .1 .0, (next .1 .1 .0, (λ f. true-false (if3 .taken) f, λ f. true-false (if3 .taken) f))))
 
 same-length-7 : tie.Need-same-length-7 Inv-loop μ-loop
 same-length-7 c = search needs
@@ -90,8 +92,9 @@ returns-3 c =
     let back = c .before .before .before .before .before .before .before .before in
     let loop = back .before .before .before .before .before .before .before .before .loop in
     let next = take-next .ensures in
-    let before = loop .inv .5 in
-    (next .0, (next .1 .0, (λ f. rw (if4 .taken), λ f w. onward-more w (before w) (next .1 .1 .1 f (before w .now)))))
+    let before = loop .inv .6 in
+    let onward = next .1 .1 .1 .1 in
+    (next .0, (next .1 .0, (next .1 .1 .0, (λ f. rw (if4 .taken), λ f w. onward-more w (before w) (onward f (before w .now))))))
 
 loop-less : tie.Need-loop-less Inv-loop μ-loop
 loop-less c =
@@ -100,7 +103,7 @@ loop-less c =
     let take-next = c .before .before .before .before .before .before .before .before .take-next in
     let back = c .before .before .before .before .before .before .before .before in
     let if1 = back .before .before .before .before .before .before .if1 in
-    omega (arith, take-next .ensures .1 .1 .0 (if3 .left) (if4 .left), if1 .taken)
+    omega (arith, take-next .ensures .1 .1 .1 .0 (if3 .left) (if4 .left), if1 .taken)
 
 loop-again : tie.Need-loop-again Inv-loop μ-loop
 loop-again c =
@@ -116,7 +119,8 @@ loop-again c =
       omega (arith, inv .2, kept),
       next .0,
       next .1 .0,
-      λ w. onward-more w (inv .5 w) (next .1 .1 .1 (if3 .left) (inv .5 w .now)),
+      next .1 .1 .0,
+      λ w. onward-more w (inv .6 w) (next .1 .1 .1 .1 (if3 .left) (inv .6 w .now)),
     )
 
 ahead-of-requires : tie.Need-ahead-of-requires Inv-loop μ-loop
@@ -135,7 +139,7 @@ returns-4 : tie.Need-returns-4 Inv-loop μ-loop
 returns-4 c =
     let ahead-of = c .ahead-of in
     let loop = c .before .before .before .loop in
-    rw (ahead-of .ensures) (loop .inv .3, (omega arith, (λ f. true-false refl f, λ f. true-false refl f)))
+    rw (ahead-of .ensures) (loop .inv .3, (omega arith, (omega arith, (λ f. true-false refl f, λ f. true-false refl f))))
 
 pub advance-spec : {M : Type 1} → statement M
 advance-spec =

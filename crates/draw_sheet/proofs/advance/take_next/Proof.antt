@@ -31,7 +31,7 @@ returns c =
     let ahead-of = c .ahead-of in
     let back = c .before .before .before .before .before .before .before .before in
     let take-record = back .before .take-record in
-    rw (ahead-of .ensures) (take-record .ensures .1 .0, (omega arith, (λ f. true-false refl f, λ f. true-false refl f)))
+    rw (ahead-of .ensures) (take-record .ensures .1 .0, (omega arith, (omega arith, (λ f. true-false refl f, λ f. true-false refl f))))
 
 ahead-of-requires-2 : tie.Need-ahead-of-requires-2
 ahead-of-requires-2 c κs = search needs
@@ -56,8 +56,10 @@ returns-2 c =
     let pre = back2 .before .before .before .before .pre in
     let step = taken .ensures .1 .1 (if1 .left) in
     let unknown = pre .1 .1 .1 .1 .1 in
+    let held = taken .ensures .0 in
+    let last = if2 .taken in
     rw (ahead-of2 .ensures)
-    (taken .ensures .1 .0, (omega arith, (λ f e. true-false refl e, λ f w. onward-ended w unknown step (if2 .taken) refl)))
+    (taken .ensures .1 .0, (omega arith, (held, (λ f e. true-false refl e, λ f w. onward-ended w unknown step last refl refl))))
 
 height-bytes-requires : tie.Need-height-bytes-requires
 height-bytes-requires c κs = search needs
@@ -86,9 +88,10 @@ returns-3 c =
     let pre = back2 .before .before .before .before .before .before .pre in
     let step = taken .ensures .1 .1 (if1 .left) in
     let unknown = pre .1 .1 .1 .1 .1 in
+    let held = taken .ensures .0 in
     let on = if2 .left in
     rw (ahead-of3 .ensures, height-bytes .ensures)
-    (taken .ensures .1 .0, (heights-few step on, (λ f e. next-index step on, λ f w. onward-on w unknown step on refl)))
+    (taken .ensures .1 .0, (heights-few step on, (held, (λ f e. next-index step on, λ f w. onward-on w unknown step on refl refl))))
 
 pub take-next-spec : {M : Type 1} → statement M
 take-next-spec =

@@ -18,7 +18,7 @@ abbrev Inv-loop : tie.InvT-loop
 Inv-loop to to-name file name rows view crcs indices counts bytes₀ table₀ content₀ out₀ height a₀ s₀ d₀ y₀ bytes table content out ahead sums drawn y =
     (length bytes ≡ length bytes₀) × (length table ≡ length table₀) × (length content ≡ length content₀) × (length out ≡ length out₀)
     × (y ≤ height) × CarriedFits (ahead .at) table × (ahead .count ≤ 8192)
-    × DrawnTo view counts ahead table content (y / view .times) y sums × (drawn .next ≡ y)
+    × (ahead .held ≤ 32778) × DrawnTo view counts ahead bytes table content (y / view .times) y sums × (drawn .next ≡ y)
 
 abbrev μ-loop : tie.MeasureT-loop
 μ-loop to to-name file name rows view crcs indices counts bytes₀ table₀ content₀ out₀ height a₀ s₀ d₀ y₀ bytes table content out ahead sums drawn y =
@@ -48,6 +48,7 @@ loop-holds c =
     let back = c .before .before .before .before .before .before .before .before in
     let args = back .before .before .before .before .before .args in
     let pre = back .before .before .before .before .before .pre in
+    let bytes = args .bytes .now in
     let table = args .table .now in
     let content = args .content .now in
     let begun = rw (begin .ensures) at (ahead-of .ensures) in (
@@ -58,7 +59,8 @@ loop-holds c =
       omega arith,
       rw begun (fits-first table),
       rw begun (omega arith),
-      drawn-first (read-first table content (0 / args .view .times) begun) (begin-sums .ensures),
+      rw begun (omega arith),
+      drawn-first (read-first bytes table content (0 / args .view .times) begun) (begin-sums .ensures),
       pre .1 .1 .1 .1 .1 .1 .1,
     )
 
@@ -78,7 +80,7 @@ advance-requires c κs =
     let inv = loop .inv in
     let room = pre .1 .1 .1 in (
       omega (arith, inv .0, room .0),
-      (omega (arith, inv .1, room .1 .0), (omega (arith, inv .2, room .1 .1 .0), (inv .5, inv .6))),
+      (omega (arith, inv .1, room .1 .0), (omega (arith, inv .2, room .1 .1 .0), (inv .5, (inv .6, inv .7)))),
     )
 
 same-length : tie.Need-same-length Inv-loop μ-loop
@@ -123,16 +125,29 @@ put-part-requires c κs =
 
 slice-reshare-prefix-print-row : tie.Need-slice-reshare-prefix-print-row Inv-loop μ-loop
 slice-reshare-prefix-print-row c =
-    let part = c .before .before .put-part in
     let back = c .before .before .before .before .before .before .before .before in
+    let advance = back .before .before .before .before .advance in
     let back2 = back .before .before .before .before .before .before .before .before in
     let loop = back2 .before .before .loop in
     let back3 = back2 .before .before .before .before .before .before .before .before in
     let pre = back3 .before .before .before .before .before .before .before .before .pre in
-    omega (arith, part .ensures .0, part .kept, loop .inv .3, pre .1 .1 .1 .1 .1 .1)
+    omega (arith, advance .ensures .1 .1 .0, advance .kept, loop .inv .0, pre .1 .1 .1 .0)
 
 slice-aggregate-print-row : tie.Need-slice-aggregate-print-row Inv-loop μ-loop
 slice-aggregate-print-row c =
+    let back = c .before .before .before .before .before .before .before .before in
+    let advance = back .before .before .before .before .before .advance in
+    let back2 = back .before .before .before .before .before .before .before .before in
+    let loop = back2 .before .before .before .loop in
+    let back3 = back2 .before .before .before .before .before .before .before .before in
+    let back4 = back3 .before .before .before .before .before .before .before .before in
+    let pre = back4 .before .pre in
+    let most = advance .ensures .1 .1 .0 in
+    let room = pre .1 .1 .1 .0 in
+    sym (length-take-le (advance .result .held) (advance .last .1 .1 .0) (omega (arith, most, advance .kept, loop .inv .0, room)))
+
+slice-reshare-prefix-print-row-2 : tie.Need-slice-reshare-prefix-print-row-2 Inv-loop μ-loop
+slice-reshare-prefix-print-row-2 c =
     let part = c .before .before .before .put-part in
     let back = c .before .before .before .before .before .before .before .before in
     let back2 = back .before .before .before .before .before .before .before .before in
@@ -140,64 +155,75 @@ slice-aggregate-print-row c =
     let back3 = back2 .before .before .before .before .before .before .before .before in
     let back4 = back3 .before .before .before .before .before .before .before .before in
     let pre = back4 .before .pre in
+    omega (arith, part .ensures .0, part .kept, loop .inv .3, pre .1 .1 .1 .1 .1 .1)
+
+slice-aggregate-print-row-2 : tie.Need-slice-aggregate-print-row-2 Inv-loop μ-loop
+slice-aggregate-print-row-2 c =
+    let part = c .before .before .before .before .put-part in
+    let back = c .before .before .before .before .before .before .before .before in
+    let back2 = back .before .before .before .before .before .before .before .before in
+    let loop = back2 .before .before .before .before .loop in
+    let back3 = back2 .before .before .before .before .before .before .before .before in
+    let back4 = back3 .before .before .before .before .before .before .before .before in
+    let pre = back4 .before .before .pre in
     let most = part .ensures .0 in
     let room = pre .1 .1 .1 .1 .1 .1 in
     sym (length-take-le (part .result .count) (part .last .1 .1 .1 .1 .1 .1 .1 .0) (omega (arith, most, part .kept, loop .inv .3, room)))
 
 print-row-requires : tie.Need-print-row-requires Inv-loop μ-loop
 print-row-requires c κs =
-    let put-part = c .before .before .before .put-part in
-    let if1 = c .before .before .before .before .before .before .if1 in
+    let put-part = c .before .before .before .before .put-part in
+    let if1 = c .before .before .before .before .before .before .before .if1 in
     let back = c .before .before .before .before .before .before .before .before in
-    let advance = back .before .before .before .before .before .advance in
+    let advance = back .before .before .before .before .before .before .advance in
     let back2 = back .before .before .before .before .before .before .before .before in
-    let loop-test = back2 .before .before .loop-test in
-    let loop = back2 .before .before .before .loop in
-    let height = back2 .before .before .before .before .before .before .before .picture-height in
+    let loop-test = back2 .before .before .before .loop-test in
+    let loop = back2 .before .before .before .before .loop in
+    let height = back2 .before .before .before .before .before .before .before .before .picture-height in
     let back3 = back2 .before .before .before .before .before .before .before .before in
     let back4 = back3 .before .before .before .before .before .before .before .before in
-    let pre = back4 .before .pre in
+    let pre = back4 .before .before .pre in
     let inv = loop .inv in
     let read = advance .ensures in
-    let drawn = drawn-onward (inv .7) (read .1 .1 .1 (if1 .left) (inv .7 .read)) in
-    let known = read .1 .1 .0 (if1 .left) in
+    let drawn = drawn-onward (inv .8) (read .1 .1 .1 .1 (if1 .left) (inv .8 .read)) in
+    let known = read .1 .1 .1 .0 (if1 .left) in
     let put = put-part .ensures .1 in
-    (omega (arith, inv .8, loop-test .taken), rw (inv .8) (row-out drawn known put (pre .0)))
+    (omega (arith, inv .9, loop-test .taken), rw (inv .9) (row-out drawn known put (pre .0)))
 
 add-y : tie.Need-add-y Inv-loop μ-loop
 add-y c =
     let back = c .before .before .before .before .before .before .before .before in
     let back2 = back .before .before .before .before .before .before .before .before in
-    let loop-test = back2 .before .before .before .before .before .before .loop-test in
+    let loop-test = back2 .before .before .before .before .before .before .before .loop-test in
     let back3 = back2 .before .before .before .before .before .before .before .before in
-    let height = back3 .before .before .before .picture-height in
+    let height = back3 .before .before .before .before .picture-height in
     omega (arith, loop-test .taken)
 
 loop-less : tie.Need-loop-less Inv-loop μ-loop
 loop-less c =
     let back = c .before .before .before .before .before .before .before .before in
     let back2 = back .before .before .before .before .before .before .before .before in
-    let loop-test = back2 .before .before .before .before .before .before .loop-test in
+    let loop-test = back2 .before .before .before .before .before .before .before .loop-test in
     omega (arith, loop-test .taken)
 
 loop-again : tie.Need-loop-again Inv-loop μ-loop
 loop-again c =
     let print-row = c .before .before .before .print-row in
-    let put-part = c .before .before .before .before .before .before .before .put-part in
+    let put-part = c .before .before .before .before .before .before .before .before .put-part in
     let back = c .before .before .before .before .before .before .before .before in
-    let if1 = back .before .before .if1 in
+    let if1 = back .before .before .before .if1 in
     let back2 = back .before .before .before .before .before .before .before .before in
-    let advance = back2 .before .advance in
-    let loop-test = back2 .before .before .before .before .before .before .loop-test in
-    let loop = back2 .before .before .before .before .before .before .before .loop in
+    let advance = back2 .before .before .advance in
+    let loop-test = back2 .before .before .before .before .before .before .before .loop-test in
+    let loop = back2 .before .before .before .before .before .before .before .before .loop in
     let back3 = back2 .before .before .before .before .before .before .before .before in
     let back4 = back3 .before .before .before .before .before .before .before .before in
-    let args = back4 .before .before .before .before .before .args in
-    let pre = back4 .before .before .before .before .before .pre in
+    let args = back4 .before .before .before .before .before .before .args in
+    let pre = back4 .before .before .before .before .before .before .pre in
     let inv = loop .inv in
     let read = advance .ensures in
-    let drawn = drawn-onward (inv .7) (read .1 .1 .1 (if1 .left) (inv .7 .read)) in
-    let known = read .1 .1 .0 (if1 .left) in
+    let drawn = drawn-onward (inv .8) (read .1 .1 .1 .1 (if1 .left) (inv .8 .read)) in
+    let known = read .1 .1 .1 .0 (if1 .left) in
     let put = put-part .ensures .1 in
     let kept = advance .kept in
     let next = drawn-next drawn known put in
@@ -209,40 +235,41 @@ loop-again c =
       omega (arith, loop-test .taken),
       read .0,
       read .1 .0,
+      read .1 .1 .0,
       drawn-onward next (onward-later (next .read) later),
-      omega (arith, print-row .ensures, inv .8),
+      omega (arith, print-row .ensures, inv .9),
     )
 
 same-length-5 : tie.Need-same-length-5 Inv-loop μ-loop
 same-length-5 c =
     let back = c .before .before .before .before .before .before .before .before in
-    let advance = back .before .before .before .before .before .before .before .advance in
+    let advance = back .before .before .before .before .before .before .before .before .advance in
     let back2 = back .before .before .before .before .before .before .before .before in
-    let loop = back2 .before .before .before .before .before .loop in
+    let loop = back2 .before .before .before .before .before .before .loop in
     omega (arith, advance .kept, loop .inv .0)
 
 same-length-6 : tie.Need-same-length-6 Inv-loop μ-loop
 same-length-6 c =
     let back = c .before .before .before .before .before .before .before .before in
-    let advance = back .before .before .before .before .before .before .before .advance in
+    let advance = back .before .before .before .before .before .before .before .before .advance in
     let back2 = back .before .before .before .before .before .before .before .before in
-    let loop = back2 .before .before .before .before .before .loop in
+    let loop = back2 .before .before .before .before .before .before .loop in
     omega (arith, advance .kept, loop .inv .1)
 
 same-length-7 : tie.Need-same-length-7 Inv-loop μ-loop
 same-length-7 c =
     let back = c .before .before .before .before .before .before .before .before in
-    let advance = back .before .before .before .before .before .before .before .advance in
+    let advance = back .before .before .before .before .before .before .before .before .advance in
     let back2 = back .before .before .before .before .before .before .before .before in
-    let loop = back2 .before .before .before .before .before .loop in
+    let loop = back2 .before .before .before .before .before .before .loop in
     omega (arith, advance .kept, loop .inv .2)
 
 same-length-8 : tie.Need-same-length-8 Inv-loop μ-loop
 same-length-8 c =
-    let put-part = c .before .before .before .before .before .put-part in
+    let put-part = c .before .before .before .before .before .before .put-part in
     let back = c .before .before .before .before .before .before .before .before in
     let back2 = back .before .before .before .before .before .before .before .before in
-    let loop = back2 .before .before .before .before .before .loop in
+    let loop = back2 .before .before .before .before .before .before .loop in
     omega (arith, put-part .kept, loop .inv .3)
 
 returns-2 : tie.Need-returns-2 Inv-loop μ-loop
@@ -286,8 +313,8 @@ print-end-requires c κs =
     let pre = back2 .before .before .before .before .pre in
     let inv = loop .inv in
     let height = picture-height .ensures (args .counts .now) in
-    let end = end-out (pre .0) (inv .7) (omega (arith, inv .4, loop-test .left, height)) (put-end .ensures .0) in
-    (omega (arith, inv .8, inv .4, loop-test .left, height), end)
+    let end = end-out (pre .0) (inv .8) (omega (arith, inv .4, loop-test .left, height)) (put-end .ensures .0) in
+    (omega (arith, inv .9, inv .4, loop-test .left, height), end)
 
 say-changed-requires : tie.Need-say-changed-requires Inv-loop μ-loop
 say-changed-requires c κs = search needs
@@ -328,6 +355,8 @@ draw-rows-spec =
     put-part-requires
     slice-reshare-prefix-print-row
     slice-aggregate-print-row
+    slice-reshare-prefix-print-row-2
+    slice-aggregate-print-row-2
     print-row-requires
     add-y
     loop-less

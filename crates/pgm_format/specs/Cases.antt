@@ -62,8 +62,8 @@ pgmCases =
     ∷ []
 
 pub header-cases-right : map (λ (c : PgmCase). pgmHeader (c .text)) pgmCases ≡ map (λ (c : PgmCase). c .read) pgmCases
-unfolding isDigit digitsValue sameBytes isBlank endsLine separates comments gapFrom digitBytes fieldValue fieldBytes fieldsNumber frontNumber
-    frontRead pgmHeader
+unfolding isDigit digitsValue sameBytes isBlank endsLine separates comments gapFrom digitBytes fieldValue fieldBytes fieldsNumber
+    frontNumber frontRead pgmHeader
 header-cases-right = refl
 
 -- ---- samples: 766 and 4095

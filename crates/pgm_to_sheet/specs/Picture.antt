@@ -24,7 +24,7 @@ abbrev pub Agrees : List ℕ → List ℕ → Type 0
 Agrees front taken = take (length front) taken ≡ take (length taken) front
 
 -- of a row of so many bytes: no more than those, and no less than the front has of them; rest is the front from the row's place on
-pub record RowHeld (rest held : List ℕ) (span : ℕ) : Type 0 where
+pub record SpanHeld (rest held : List ℕ) (span : ℕ) : Type 0 where
   pub most : length held ≤ span
   pub least : min span (length rest) ≤ length held
   pub agrees : Agrees rest held
@@ -50,7 +50,7 @@ pub record LinesTaken (front image : List ℕ) (r : ℕ) : Type 0 where
 abbrev pub LineHeld : List ℕ → List ℕ → ℕ → Type 0
 LineHeld front held r =
     let h = pgmHeader front in
-    RowHeld (drop (h .start + 2 * h .width * r) front) held (2 * h .width)
+    SpanHeld (drop (h .start + 2 * h .width * r) front) held (2 * h .width)
 
 -- ---- what is written
 -- the first record: converting the header's bytes alone writes it and nothing else

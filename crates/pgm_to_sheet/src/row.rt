@@ -7,7 +7,7 @@ use pgm_format::PgmHeader;
 ghost use mathlib.Core.Path.{_≡_};
 ghost use Prim.Native.Nat.{_+_, _*_, _≤_, min};
 ghost use lib.ListN.{length, take, drop};
-ghost use Rattle.pgm_to_sheet.specs.Picture.{RowHeld};
+ghost use Rattle.pgm_to_sheet.specs.Picture.{SpanHeld};
 
 // The place of row r in the file.
 pub fn row_place(header: PgmHeader, r: u32) -> usize
@@ -30,7 +30,7 @@ pub fn fill_row(
 ) -> Filled
     requires { ⌜ span ≤ length (now row) ⌝ }
     ensures within { λ r. ⌜ r .count ≤ span ⌝ }
-    ensures held { λ r. ⌜ RowHeld (drop place (now (front .entry))) (take (r .count) (now (row .exit))) span ⌝ }
+    ensures held { λ r. ⌜ SpanHeld (drop place (now (front .entry))) (take (r .count) (now (row .exit))) span ⌝ }
 {
     let n = copy_rest(front, place, span, row);
     let got = fill(&PROGRAM, name, file, &mut row[n..span]);

@@ -11,7 +11,7 @@ ghost use mathlib.Core.Bool.{true, false};
 ghost use Prim.Native.Nat.{_+_, _*_, _≤_, _<_};
 ghost use lib.ListN.{length, take, drop};
 ghost use Rattle.pgm_to_sheet.specs.declared.rows.RowTurn.{RowTurn};
-ghost use Rattle.pgm_to_sheet.specs.Picture.{RowHeld, PictureStands, LineMade, LineAdded, PictureEnded};
+ghost use Rattle.pgm_to_sheet.specs.Picture.{SpanHeld, PictureStands, LineMade, LineAdded, PictureEnded};
 
 // How the rows ended.
 // failed   whether reading or writing failed, which is said on standard error
@@ -120,7 +120,7 @@ fn take_row(
     requires { ⌜ 32784 ≤ length (now out) ⌝ }
     ensures held { λ x. ⌜ x .held ≤ 2 * header .width ⌝ }
     ensures count { λ x. ⌜ x .count ≤ length (now (out .exit)) ⌝ }
-    ensures row { λ x. ⌜ RowHeld (drop (header .start + 2 * header .width * r) (now (front .entry)))
+    ensures row { λ x. ⌜ SpanHeld (drop (header .start + 2 * header .width * r) (now (front .entry)))
         (take (x .held) (now (row .exit))) (2 * header .width) ⌝ }
     ensures made { λ x. ⌜ LineMade (now (table .entry)) (header .width) r (take (x .held) (now (row .exit))) x (now (out .exit)) ⌝ }
 {

@@ -77,23 +77,23 @@ module _ (s : List ℕ) (at g d : ℕ) (gap : g ≡ gapBytes (drop at s)) (digit
   field-number e = rw (← gap, ne-eqb g 0 e, drop-drop g at s, ← digits)
 
 -- ---- a number is judged by what is kept of it up to 65537, which no header may have
-abbrev pub kept : ℕ → ℕ
-kept n = min n 65537
+abbrev pub fieldKept : ℕ → ℕ
+fieldKept n = min n 65537
 
-kept-same : (n k : ℕ) → k < 65537 → eqb (kept n) k ≡ eqb n k
+kept-same : (n k : ℕ) → k < 65537 → eqb (fieldKept n) k ≡ eqb n k
 kept-same n k h =
     by-test (eqb n k)
-    (λ t. rw t (eq-eqb (kept n) k (omega (arith, eqb-true n k t))))
-    (λ t. rw t (ne-eqb (kept n) k (λ e. eqb-false n k t (omega (arith, e)))))
+    (λ t. rw t (eq-eqb (fieldKept n) k (omega (arith, eqb-true n k t))))
+    (λ t. rw t (ne-eqb (fieldKept n) k (λ e. eqb-false n k t (omega (arith, e)))))
 
-kept-less : (k n : ℕ) → k < 65537 → ltb k (kept n) ≡ ltb k n
+kept-less : (k n : ℕ) → k < 65537 → ltb k (fieldKept n) ≡ ltb k n
 kept-less k n h =
     by-test (ltb k n)
-    (λ t. rw t (lt-ltb k (kept n) (omega (arith, ltb-true k n t))))
-    (λ t. rw t (le-ltb k (kept n) (omega (arith, ltb-false k n t))))
+    (λ t. rw t (lt-ltb k (fieldKept n) (omega (arith, ltb-true k n t))))
+    (λ t. rw t (le-ltb k (fieldKept n) (omega (arith, ltb-false k n t))))
 
 fields-kept : (w r largest : ℕ) (blank : Bool)
-    → fieldsNumber (kept w) (kept r) (kept largest) blank ≡ fieldsNumber w r largest blank
+    → fieldsNumber (fieldKept w) (fieldKept r) (fieldKept largest) blank ≡ fieldsNumber w r largest blank
 unfolding fieldsNumber
 fields-kept w r largest blank =
     rw (
@@ -107,9 +107,9 @@ fields-kept w r largest blank =
 -- ---- the three fields
 pub record FieldsRead (s : List ℕ) (w r largest end : ℕ) (blank : Bool) : Type 0 where
   pub begins : sameBytes (take 2 s) (ascii "P5") ≡ true
-  pub width : w ≡ kept (fieldAt 2 s)
-  pub rows : r ≡ kept (fieldAt (rowsPlace s) s)
-  pub most : largest ≡ kept (fieldAt (largestPlace s) s)
+  pub width : w ≡ fieldKept (fieldAt 2 s)
+  pub rows : r ≡ fieldKept (fieldAt (rowsPlace s) s)
+  pub most : largest ≡ fieldKept (fieldAt (largestPlace s) s)
   pub ends : end ≡ blankPlace s
   pub closed : blank ≡ isBlank (getD s end 0)
 

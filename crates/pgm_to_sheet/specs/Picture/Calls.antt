@@ -25,7 +25,7 @@ use Rattle.pgm_format.specs.Header.Accepted.{pgm-accepted}
 use Rattle.pgm_format.specs.Conversion.{lineRefusal, beforeSamples, pgmRow}
 use Rattle.pgm_format.specs.Conversion.Call.{pgmRow-number, pgmRow-bytes, tableWritten-bytes, tableWritten-count}
 use Rattle.pgm_to_sheet.specs.declared.rows.RowTurn.{RowTurn}
-use Rattle.pgm_to_sheet.specs.Picture.{RowHeld, LineHeld, PictureStands, TableWritten, LinesBefore, LineAdded, LineMade, PictureEnded}
+use Rattle.pgm_to_sheet.specs.Picture.{SpanHeld, LineHeld, PictureStands, TableWritten, LinesBefore, LineAdded, LineMade, PictureEnded}
 use Rattle.pgm_to_sheet.specs.Picture.Laws.{ended-refused, no-header, first-record}
 use Rattle.pgm_to_sheet.specs.Picture.Laws.{rowsTaken-none, ended-rows, rowsTaken-more, next-record}
 
@@ -135,7 +135,7 @@ module _ {tb : List ℕ} {most : ℕ} {front : List ℕ} {h : PgmHeader} (stands
         (λ less. absurd (omega (arith, less, last))) (λ e. refl)
 
     module _ (less : r < h .rows) {held m′ : List ℕ} {turn : RowTurn}
-        (row : RowHeld (drop (h .start + 2 * h .width * r) front) held (2 * h .width))
+        (row : SpanHeld (drop (h .start + 2 * h .width * r) front) held (2 * h .width))
         (made : LineMade tb (h .width) r held turn m′) where
       less-here : r < pgmHeader front .rows
       less-here = rw (stands .header) at less

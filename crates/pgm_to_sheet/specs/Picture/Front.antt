@@ -9,7 +9,7 @@ use lib.Dec.{ltb}
 use borrow.Author.Tests.{ltb-true, ltb-false}
 use borrow.Rule.Slice.PartMut.{putMid, take-put}
 use Rattle.row_format.specs.Lists.Laws.{by-test}
-use Rattle.pgm_to_sheet.specs.Picture.{Agrees, RowHeld}
+use Rattle.pgm_to_sheet.specs.Picture.{Agrees, SpanHeld}
 
 -- a part of the front does
 pub agrees-front : (k : ℕ) (front : List ℕ) → k ≤ length front → Agrees front (take k front)
@@ -62,7 +62,7 @@ agrees-filled front held span n is some few same =
 
 -- a row's memory m, whose first n bytes are from the front, after count bytes more came
 pub held-filled : (front m y : List ℕ) (span n count : ℕ) → n ≡ min span (length front) → n + count ≤ span → n ≤ length m
-    → take n m ≡ take n front → RowHeld front (take (n + count) (putMid n (span - n) m y)) span
+    → take n m ≡ take n front → SpanHeld front (take (n + count) (putMid n (span - n) m y)) span
 held-filled front m y span n count is most there same =
     let all = putMid n (span - n) m y in
     let held = take (n + count) all in

@@ -15,13 +15,13 @@ use Rattle.draw_sheet.proofs.draw.draw_rows.Statement.{statement}
 use Rattle.draw_sheet.proofs.draw.draw_rows.Tie as tie
 
 abbrev Inv-loop : tie.InvT-loop
-Inv-loop to to-name file name rows view crcs indices counts bytes₀ table₀ content₀ out₀ height a₀ s₀ d₀ y₀ bytes table content out ahead sums drawn y =
-    (length bytes ≡ length bytes₀) × (length table ≡ length table₀) × (length content ≡ length content₀) × (length out ≡ length out₀)
+Inv-loop to name₀ file name rows view crcs indices counts b₀ t₀ c₀ o₀ height a₀ s₀ d₀ y₀ bytes table content out ahead sums drawn y =
+    (length bytes ≡ length b₀) × (length table ≡ length t₀) × (length content ≡ length c₀) × (length out ≡ length o₀)
     × (y ≤ height) × CarriedFits (ahead .at) table × (ahead .count ≤ 8192)
     × (ahead .held ≤ 32778) × DrawnTo view counts ahead bytes table content (y / view .times) y sums × (drawn .next ≡ y)
 
 abbrev μ-loop : tie.MeasureT-loop
-μ-loop to to-name file name rows view crcs indices counts bytes₀ table₀ content₀ out₀ height a₀ s₀ d₀ y₀ bytes table content out ahead sums drawn y =
+μ-loop to name₀ file name rows view crcs indices counts b₀ t₀ c₀ o₀ height a₀ s₀ d₀ y₀ bytes table content out ahead sums drawn y =
     height - y
 
 picture-height-requires : tie.Need-picture-height-requires Inv-loop μ-loop

@@ -5,7 +5,7 @@ use mathlib.Core.Path.{_≡_, ap, _∙_}
 use lib.ListN.{length, drop, length-drop}
 use borrow.Rule.Slice.PartAt.{part-to-end}
 use Rattle.pgm_format.specs.Header.{gapBytes, digitBytes}
-use Rattle.pgm_format.specs.Header.Laws.{kept, field-none, field-end, field-number}
+use Rattle.pgm_format.specs.Header.Laws.{fieldKept, field-none, field-end, field-number}
 use Rattle.pgm_reader.proofs.field.Laws.{kept-digits}
 use borrow.Author.Needs.{needs}
 use Rattle.pgm_reader.proofs.field.field_at.Statement.{statement}
@@ -66,7 +66,7 @@ returns c =
     let digits = counted .digit-bytes .result in
     let a = counted .before .before .before .before .before .args in
     let f = found counted in (
-      ap kept (field-none (a .bytes .now) (a .at) gap digits (f .0) (f .1) (c .if1 .taken)),
+      ap fieldKept (field-none (a .bytes .now) (a .at) gap digits (f .0) (f .1) (c .if1 .taken)),
       (field-end (a .bytes .now) (a .at) gap digits (f .0) (f .1), f .2),
     )
 
@@ -93,7 +93,7 @@ returns-2 c =
     let number = field-number (a .bytes .now) (a .at) gap digits (f .0) (f .1) (c .before .before .if1 .left) in (
       (rw size at (c .unsigned-digits .ensures))
           ∙ (rw (← f .1) at (kept-digits 65537 0 (drop (a .at + gap) (a .bytes .now))))
-          ∙ ap kept number,
+          ∙ ap fieldKept number,
       (field-end (a .bytes .now) (a .at) gap digits (f .0) (f .1), f .2),
     )
 

@@ -79,11 +79,7 @@ fn judge(words: &mut [u32], longest: u32, escape: u32) -> Answer
 fn well_sized(table: &[u8]) -> bool
     ensures { λ r. ⌜ SizeJudged (now (table .entry)) r ⌝ }
 {
-    let words = table.len() / 4;
-    if table.len() % 4 != 0 {
-        return false;
-    }
-    if words < 6 {
+    if table.len() < 24 {
         return false;
     }
     let size = table_size(table) as u64;
@@ -94,7 +90,7 @@ fn well_sized(table: &[u8]) -> bool
     if 8187 < low + size {
         return false;
     }
-    words as u64 == 6 + size
+    table.len() as u64 == 24 + 4 * size
 }
 
 // Whether a string word is in order: its length is 1 to 27 and no bit is set above the string.

@@ -1,18 +1,17 @@
--- `shift::bit_of` is the lowest bit of a quotient by a power. Assumes nothing.
-use native.Mathlib.Omega.{arith}
-use lib.Pow.{pow-pos}
+-- `shift::bit_of` asks what a mask of the bit leaves. Assumes nothing.
 use borrow.Author.Needs.{needs}
+use Rattle.bitstream.proofs.shift.Laws.{clear, set}
 use Rattle.bitstream.proofs.shift.bit_of.Statement.{statement}
 use Rattle.bitstream.proofs.shift.bit_of.Tie as tie
 
-power-requires : tie.Need-power-requires
-power-requires c κs = search needs
-
-div-result : tie.Need-div-result
-div-result c = omega (arith, pow-pos (c .before .args .k))
+power-by-table-requires : tie.Need-power-by-table-requires
+power-by-table-requires c κs = search needs
 
 returns : tie.Need-returns
-returns c = rw (c .power .ensures)
+returns c = let start = c .before .before in clear (start .args .v) (start .args .k) (c .if1 .taken) (c .before .power-by-table .ensures)
+
+returns-2 : tie.Need-returns-2
+returns-2 c = let start = c .before .before in set (start .args .v) (start .args .k) (c .if1 .left) (c .before .power-by-table .ensures)
 
 pub bit-of-spec : {M : Type 1} → statement M
-bit-of-spec = tie.close (tie.spec power-requires div-result returns)
+bit-of-spec = tie.close (tie.spec power-by-table-requires returns returns-2)

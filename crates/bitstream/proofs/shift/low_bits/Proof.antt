@@ -1,18 +1,22 @@
--- `shift::low_bits` is a remainder by a power. Assumes nothing.
+-- `shift::low_bits` keeps the bits below a power. Assumes nothing.
 use native.Mathlib.Omega.{arith}
-use lib.Pow.{pow-pos}
+use lib.Bits.{and-mask}
+use lib.Pow.{pow-pos, pow-lt}
 use borrow.Author.Needs.{needs}
 use Rattle.bitstream.proofs.shift.low_bits.Statement.{statement}
 use Rattle.bitstream.proofs.shift.low_bits.Tie as tie
 
-power-requires : tie.Need-power-requires
-power-requires c κs = search needs
+wide-power-requires : tie.Need-wide-power-requires
+wide-power-requires c κs = search needs
 
-rem-result : tie.Need-rem-result
-rem-result c = omega (arith, pow-pos (c .before .args .n))
+cast-result : tie.Need-cast-result
+cast-result c = omega (arith, c .wide-power .ensures, pow-lt (c .before .pre))
+
+sub-result : tie.Need-sub-result
+sub-result c = omega (arith, c .wide-power .ensures, pow-pos (c .before .args .n))
 
 returns : tie.Need-returns
-returns c = rw (c .power .ensures)
+returns c = rw (c .wide-power .ensures) (and-mask (c .before .args .v) (c .before .args .n))
 
 pub low-bits-spec : {M : Type 1} → statement M
-low-bits-spec = tie.close (tie.spec power-requires rem-result returns)
+low-bits-spec = tie.close (tie.spec wide-power-requires cast-result sub-result returns)

@@ -90,6 +90,7 @@ fn well_sized(table: &[u8]) -> bool
     if 8187 < low + size {
         return false;
     }
+    // whole words, and as many as named: one test, which keeps the check small enough to be put in line (docs/DECISIONS.md, 123)
     table.len() as u64 == 24 + 4 * size
 }
 

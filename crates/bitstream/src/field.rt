@@ -2,7 +2,7 @@
 use crate::byte::byte_at;
 use crate::byte::byte_or_zero;
 use crate::number::read_u32;
-use crate::shift::window;
+use crate::shift::window_in_byte;
 ghost use mathlib.Core.Path.{_≡_};
 ghost use Prim.Native.Nat.{_+_, _^_, _<_};
 ghost use lib.ListN.{take, drop};
@@ -12,7 +12,7 @@ ghost use Rattle.bitstream.specs.Bits.{numOf, bitsOf, numberOf};
 pub fn peek32(s: &[u8], at: usize) -> u32
     ensures { λ r. ⌜ r ≡ numOf (take 32 (drop at (bitsOf (now (s .entry))))) ⌝ }
 {
-    window(five_bytes(s, at / 8), (at % 8) as u32)
+    window_in_byte(five_bytes(s, at / 8), (at % 8) as u32)
 }
 
 // The number that five bytes from place i on hold: one load of four and one of the fifth, where they are there.

@@ -1,7 +1,7 @@
 // Bits moved, masked and taken by a count that varies, with neither a shift by that count nor a loop: products with powers of two
 // out of tables, masks, and shifts by fixed counts. A table is a `match`, which the compiler keeps as data; an array it would
-// build anew at each use. It knows the entries, and where an arm knows the count too it makes the shift again: so the tables have
-// indexes of their own, and none is the count itself in line. tests/shifts reads what came of it.
+// build anew at each use. It knows the entries and makes the shift of some forms again (docs/DECISIONS.md, 122): tests/shifts reads
+// what came of these.
 ghost use mathlib.Core.Path.{_≡_};
 ghost use Prim.Native.Nat.{_+_, _-_, _*_, _/_, _%_, _^_, _<_};
 
@@ -34,7 +34,7 @@ pub fn bit_of(v: u32, k: u32) -> u32
     requires { ⌜ k < 32 ⌝ }
     ensures { λ r. ⌜ r ≡ v / 2 ^ k % 2 ⌝ }
 {
-    if v & power_by_table(k) == 0 {
+    if v & power(k) == 0 {
         return 0;
     }
     1
@@ -45,64 +45,112 @@ pub fn window(v: u64, k: u32) -> u32
     requires { ⌜ k < 32 ⌝ }
     ensures { λ r. ⌜ r ≡ v / 2 ^ k % 2 ^ 32 ⌝ }
 {
-    if k < 8 {
-        // five bytes from a bit of the first on, as rows are read: one product
-        if v < 1099511627776 {
-            return (v * power_up_to_7(k) as u64 / 128 % 4294967296) as u32;
-        }
-    }
     let up = wide_power(32 - k);
     let high = v / 4294967296 * up;
     let low = v % 4294967296 * up / 4294967296;
     ((high + low) % 4294967296) as u32
 }
 
+// The same from a bit of the first byte on, as rows are read: one product.
+pub fn window_in_byte(v: u64, k: u32) -> u32
+    requires { ⌜ k < 8 ⌝ }
+    ensures { λ r. ⌜ r ≡ v / 2 ^ k % 2 ^ 32 ⌝ }
+{
+    let five_bytes = v % 1099511627776;
+    (five_bytes * power_up_to_7(k) as u64 / 128 % 4294967296) as u32
+}
+
 fn power_by_table(n: u32) -> u32
     requires { ⌜ n < 32 ⌝ }
     ensures { λ r. ⌜ r ≡ 2 ^ n ⌝ }
 {
-    let even = power_of_four(n / 2 % 16);
-    even + even * (n % 2)
+    let powers = two_powers(n / 2 % 16);
+    // 0 where n is even: of the ways to choose one of two, the one that leaves the caller small enough to be put in line
+    let odd = powers.odd * (n % 2);
+    if odd == 0 { powers.even } else { odd }
 }
 
-fn power_of_four(i: u32) -> u32
+// even   2 ^ (2 i)
+// odd    twice it
+struct Powers {
+    even: u32,
+    odd: u32,
+}
+
+fn two_powers(i: u32) -> Powers
     requires { ⌜ i < 16 ⌝ }
-    ensures { λ r. ⌜ r ≡ 2 ^ (2 * i) ⌝ }
+    ensures { λ r. ⌜ (r .even ≡ 2 ^ (2 * i)) × (r .odd ≡ 2 * 2 ^ (2 * i)) ⌝ }
 {
     match i {
-        0 => 1,
-        1 => 4,
-        2 => 16,
-        3 => 64,
-        4 => 256,
-        5 => 1024,
-        6 => 4096,
-        7 => 16384,
-        8 => 65536,
-        9 => 262144,
-        10 => 1048576,
-        11 => 4194304,
-        12 => 16777216,
-        13 => 67108864,
-        14 => 268435456,
-        _ => 1073741824,
+        0 => Powers { even: 1, odd: 2 },
+        1 => Powers { even: 4, odd: 8 },
+        2 => Powers { even: 16, odd: 32 },
+        3 => Powers { even: 64, odd: 128 },
+        4 => Powers {
+            even: 256,
+            odd: 512,
+        },
+        5 => Powers {
+            even: 1024,
+            odd: 2048,
+        },
+        6 => Powers {
+            even: 4096,
+            odd: 8192,
+        },
+        7 => Powers {
+            even: 16384,
+            odd: 32768,
+        },
+        8 => Powers {
+            even: 65536,
+            odd: 131072,
+        },
+        9 => Powers {
+            even: 262144,
+            odd: 524288,
+        },
+        10 => Powers {
+            even: 1048576,
+            odd: 2097152,
+        },
+        11 => Powers {
+            even: 4194304,
+            odd: 8388608,
+        },
+        12 => Powers {
+            even: 16777216,
+            odd: 33554432,
+        },
+        13 => Powers {
+            even: 67108864,
+            odd: 134217728,
+        },
+        14 => Powers {
+            even: 268435456,
+            odd: 536870912,
+        },
+        _ => Powers {
+            even: 1073741824,
+            odd: 2147483648,
+        },
     }
 }
 
-// The power that takes bit k to bit 7. The index is 5 k, which tells no arm what k is.
+// The power that takes bit k to bit 7.
 fn power_up_to_7(k: u32) -> u32
     requires { ⌜ k < 8 ⌝ }
     ensures { λ r. ⌜ r ≡ 2 ^ (7 - k) ⌝ }
 {
-    match k * 5 % 8 {
+    match k % 8 {
         0 => 128,
-        1 => 4,
+        1 => 64,
         2 => 32,
-        3 => 1,
+        3 => 16,
         4 => 8,
-        5 => 64,
+        5 => 4,
         6 => 2,
-        _ => 16,
+        _ => 1,
     }
 }
 

@@ -38,3 +38,10 @@ pub extern "C" fn leaf_window(v: u64, k: u32) -> u32
 {
     shift::window(v, k % 32)
 }
+
+#[no_mangle]
+pub extern "C" fn leaf_window_in_byte(v: u64, k: u32) -> u32
+    ensures { λ r. ⌜ r ≡ v / 2 ^ (k % 8) % 2 ^ 32 ⌝ }
+{
+    shift::window_in_byte(v, k % 8)
+}

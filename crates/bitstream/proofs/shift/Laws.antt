@@ -6,7 +6,7 @@ use native.Mathlib.Omega.{arith}
 use mathlib.Core.Path.{_≡_, refl, sym, ap, _∙_}
 use lib.Arith.{lt-of-le-ne}
 use lib.Bits.{bitAnd, and-high}
-use lib.Pow.{pow-pos, pow-add, pow-mono, split}
+use lib.Pow.{pow-pos, pow-add, pow-lt, pow-mono, split, field, mod-mod-pow}
 
 -- ---- a table's last arm: an index that is none of those before it
 abbrev pub NoneBelow : ℕ → ℕ → Type 0
@@ -24,37 +24,49 @@ last-index k {x} h r = omega (arith, none-below k x r)
 pub wide-entry : {i n : ℕ} → n < 64 → n % 64 ≡ i → 2 ^ i ≡ 2 ^ n
 wide-entry h e = ap (2 ^_) (sym e ∙ mod-eq-of-lt h)
 
-pub four-entry : {i j : ℕ} → i ≡ j → 2 ^ (2 * j) ≡ 2 ^ (2 * i)
-four-entry e = ap (λ (x : ℕ). 2 ^ (2 * x)) (sym e)
+pub two-entries : {i j : ℕ} → i ≡ j → (2 ^ (2 * j) ≡ 2 ^ (2 * i)) × (2 * 2 ^ (2 * j) ≡ 2 * 2 ^ (2 * i))
+two-entries e =
+    let entry = ap (λ (x : ℕ). 2 ^ (2 * x)) (sym e) in
+    (entry, ap (2 *_) entry)
 
--- five times the index, twice, is the index
-fives : (k : ℕ) → k < 8 → k * 5 % 8 * 5 % 8 ≡ k
-fives zero h = refl
-fives (suc zero) h = refl
-fives (suc (suc zero)) h = refl
-fives (suc (suc (suc zero))) h = refl
-fives (suc (suc (suc (suc zero)))) h = refl
-fives (suc (suc (suc (suc (suc zero))))) h = refl
-fives (suc (suc (suc (suc (suc (suc zero)))))) h = refl
-fives (suc (suc (suc (suc (suc (suc (suc zero))))))) h = refl
-fives (suc (suc (suc (suc (suc (suc (suc (suc k)))))))) h = absurd (omega arith)
+pub up-entry : {j k : ℕ} → k < 8 → k % 8 ≡ j → 2 ^ (7 - j) ≡ 2 ^ (7 - k)
+up-entry h e = ap (λ (x : ℕ). 2 ^ (7 - x)) (sym e ∙ mod-eq-of-lt h)
 
-pub up-entry : {j k : ℕ} → k < 8 → k * 5 % 8 ≡ j → 2 ^ (7 - j * 5 % 8) ≡ 2 ^ (7 - k)
-up-entry {j} {k} h e = ap (λ (x : ℕ). 2 ^ (7 - x)) (ap (λ (x : ℕ). x * 5 % 8) (sym e) ∙ fives k h)
-
--- ---- 2 ^ n of its even part
-doubled : (p b : ℕ) → b < 2 → p + p * b ≡ p * 2 ^ b
-doubled p zero h = omega arith
-doubled p (suc zero) h = omega arith
-doubled p (suc (suc b)) h = absurd (omega arith)
-
-pub even-odd : {n p : ℕ} → n < 32 → p ≡ 2 ^ (2 * (n / 2 % 16)) → p + p * (n % 2) ≡ 2 ^ n
-even-odd {n} {p} h e =
+-- ---- 2 ^ n of its even part p and its odd bit b: p where 2 p b is 0, and 2 p b where it is not
+even-part : {n : ℕ} → n < 32 → 2 ^ (2 * (n / 2 % 16)) * 2 ^ (n % 2) ≡ 2 ^ n
+even-part {n} h =
     let half : 2 * (n / 2 % 16) + n % 2 ≡ n = omega arith in
-    doubled p (n % 2) (omega arith)
-    ∙ ap (_* 2 ^ (n % 2)) e
-    ∙ sym (pow-add 2 (2 * (n / 2 % 16)) (n % 2))
-    ∙ ap (2 ^_) half
+    sym (pow-add 2 (2 * (n / 2 % 16)) (n % 2)) ∙ ap (2 ^_) half
+
+doubled-fits : (p b : ℕ) → b < 2 → p * 2 ^ b < 2 ^ 32 → 2 * p * b < 2 ^ 32
+doubled-fits p zero h l = omega arith
+doubled-fits p (suc zero) h l = omega arith
+doubled-fits p (suc (suc b)) h l = absurd (omega arith)
+
+not-doubled : (p b : ℕ) → b < 2 → 0 < p → 2 * p * b ≡ 0 → p ≡ p * 2 ^ b
+not-doubled p zero h l e = omega arith
+not-doubled p (suc zero) h l e = absurd (omega arith)
+not-doubled p (suc (suc b)) h l e = absurd (omega arith)
+
+doubled : (p b : ℕ) → b < 2 → (2 * p * b ≡ 0 → ⊥) → 2 * p * b ≡ p * 2 ^ b
+doubled p zero h n = absurd (n (omega arith))
+doubled p (suc zero) h n = omega arith
+doubled p (suc (suc b)) h n = absurd (omega arith)
+
+pub odd-fits : {n q : ℕ} → n < 32 → q ≡ 2 * 2 ^ (2 * (n / 2 % 16)) → q * (n % 2) < 2 ^ 32
+odd-fits {n} {q} h e =
+    rw e (doubled-fits (2 ^ (2 * (n / 2 % 16))) (n % 2) (omega arith) (rw (even-part h) (pow-lt h)))
+
+pub when-even :
+    {n p q : ℕ} → n < 32 → p ≡ 2 ^ (2 * (n / 2 % 16)) → q ≡ 2 * 2 ^ (2 * (n / 2 % 16)) → q * (n % 2) ≡ 0 → p ≡ 2 ^ n
+when-even {n} h d e z =
+    let even = 2 * (n / 2 % 16) in
+    d ∙ not-doubled (2 ^ even) (n % 2) (omega arith) (pow-pos even) (ap (_* (n % 2)) (sym e) ∙ z) ∙ even-part h
+
+pub when-odd : {n q : ℕ} → n < 32 → q ≡ 2 * 2 ^ (2 * (n / 2 % 16)) → (q * (n % 2) ≡ 0 → ⊥) → q * (n % 2) ≡ 2 ^ n
+when-odd {n} h e z =
+    let scaled = ap (_* (n % 2)) e in
+    scaled ∙ doubled (2 ^ (2 * (n / 2 % 16))) (n % 2) (omega arith) (λ w. z (scaled ∙ w)) ∙ even-part h
 
 -- ---- the quotient by 2 ^ k: times 2 ^ j, then k + j bits down
 quotient : (v j k : ℕ) → v * 2 ^ j / 2 ^ (k + j) ≡ v / 2 ^ k
@@ -73,20 +85,32 @@ halved v j k e =
     ∙ ap (λ (x : ℕ). (x + low) / 2 ^ k) (sym up)
     ∙ ap (_/ 2 ^ k) (split v 32))
 
--- what `window` makes of five bytes and its entry p
-pub five-fits : {v p : ℕ} (k : ℕ) → v < 1099511627776 → p ≡ 2 ^ (7 - k) → v * p < 2 ^ 64
-five-fits {v} {p} k h e =
+-- what `window_in_byte` makes of a number's first five bytes and its entry p
+pub five-fits : (v k : ℕ) {p : ℕ} → p ≡ 2 ^ (7 - k) → v % 1099511627776 * p < 2 ^ 64
+five-fits v k {p} e =
     let shift : 7 - k ≤ 7 = omega arith in
     let entry : p ≤ 128 = rw e (pow-mono shift) in
-    let bytes : v ≤ 1099511627776 = omega arith in
+    let bytes : v % 1099511627776 ≤ 1099511627776 = omega arith in
     omega (arith, mul-le-mul bytes entry)
 
-pub five-value : (v : ℕ) {p k : ℕ} → k < 8 → p ≡ 2 ^ (7 - k) → v * p / 128 ≡ v / 2 ^ k
+of-five : (v : ℕ) {k : ℕ} → k < 8 → v % 2 ^ 40 / 2 ^ k % 2 ^ 32 ≡ v / 2 ^ k % 2 ^ 32
+of-five v {k} h =
+    let all : 40 ≡ 40 - k + k = omega arith in
+    let rest : 40 - k ≡ 8 - k + 32 = omega arith in
+    ap (λ (x : ℕ). v % 2 ^ x / 2 ^ k % 2 ^ 32) all
+    ∙ ap (_% 2 ^ 32) (field v (40 - k) k)
+    ∙ ap (λ (x : ℕ). v / 2 ^ k % 2 ^ x % 2 ^ 32) rest
+    ∙ mod-mod-pow (v / 2 ^ k) (8 - k) 32
+
+pub five-value : (v : ℕ) {p k : ℕ} → k < 8 → p ≡ 2 ^ (7 - k) → v % 2 ^ 40 * p / 128 % 2 ^ 32 ≡ v / 2 ^ k % 2 ^ 32
 five-value v {p} {k} h e =
     let places : 7 ≡ k + (7 - k) = omega arith in
-    rw e (ap (λ (x : ℕ). v * 2 ^ (7 - k) / 2 ^ x) places ∙ quotient v (7 - k) k)
+    let low = v % 2 ^ 40 in
+    let product : low * p / 128 ≡ low / 2 ^ k
+    = rw e (ap (λ (x : ℕ). low * 2 ^ (7 - k) / 2 ^ x) places ∙ quotient low (7 - k) k) in
+    ap (_% 2 ^ 32) product ∙ of-five v h
 
--- and of any number and its entry p, each within 64 bits
+-- and `window` of any number and its entry p, each within 64 bits
 pub record Taken (v k p : ℕ) : Type 0 where
   pub high : v / 4294967296 * p < 2 ^ 64
   pub low : v % 4294967296 * p < 2 ^ 64

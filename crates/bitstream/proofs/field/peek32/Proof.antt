@@ -8,17 +8,17 @@ use Rattle.bitstream.proofs.field.peek32.Tie as tie
 five-bytes-requires : tie.Need-five-bytes-requires
 five-bytes-requires c κs = search needs
 
-cast-window : tie.Need-cast-window
-cast-window c = search needs
+cast-window-in-byte : tie.Need-cast-window-in-byte
+cast-window-in-byte c = search needs
 
-window-requires : tie.Need-window-requires
-window-requires c κs = search needs
+window-in-byte-requires : tie.Need-window-in-byte-requires
+window-in-byte-requires c κs = search needs
 
 returns : tie.Need-returns
 returns c =
     let args = c .before .before .before .args in
     let the-five-bytes = c .before .five-bytes in
-    c .window .ensures ∙ field-of-five (args .s .now) (args .at) (the-five-bytes .result) (the-five-bytes .ensures)
+    c .window-in-byte .ensures ∙ field-of-five (args .s .now) (args .at) (the-five-bytes .result) (the-five-bytes .ensures)
 
 pub peek32-spec : {M : Type 1} → statement M
-peek32-spec = tie.close (tie.spec five-bytes-requires cast-window window-requires returns)
+peek32-spec = tie.close (tie.spec five-bytes-requires cast-window-in-byte window-in-byte-requires returns)

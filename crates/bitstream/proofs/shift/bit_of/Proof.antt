@@ -4,14 +4,14 @@ use Rattle.bitstream.proofs.shift.Laws.{clear, set}
 use Rattle.bitstream.proofs.shift.bit_of.Statement.{statement}
 use Rattle.bitstream.proofs.shift.bit_of.Tie as tie
 
-power-by-table-requires : tie.Need-power-by-table-requires
-power-by-table-requires c κs = search needs
+power-requires : tie.Need-power-requires
+power-requires c κs = search needs
 
 returns : tie.Need-returns
-returns c = let start = c .before .before in clear (start .args .v) (start .args .k) (c .if1 .taken) (c .before .power-by-table .ensures)
+returns c = let start = c .before .before in clear (start .args .v) (start .args .k) (c .if1 .taken) (c .before .power .ensures)
 
 returns-2 : tie.Need-returns-2
-returns-2 c = let start = c .before .before in set (start .args .v) (start .args .k) (c .if1 .left) (c .before .power-by-table .ensures)
+returns-2 c = let start = c .before .before in set (start .args .v) (start .args .k) (c .if1 .left) (c .before .power .ensures)
 
 pub bit-of-spec : {M : Type 1} → statement M
-bit-of-spec = tie.close (tie.spec power-by-table-requires returns returns-2)
+bit-of-spec = tie.close (tie.spec power-requires returns returns-2)

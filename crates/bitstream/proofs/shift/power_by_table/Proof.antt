@@ -1,22 +1,24 @@
--- `shift::power_by_table` is a power of four, and twice it where n is odd. Assumes nothing.
-use lib.Pow.{pow-lt}
-use native.Mathlib.Omega.{arith}
+-- `shift::power_by_table` is a power of four, or twice it where n is odd. Assumes nothing.
 use borrow.Author.Needs.{needs}
-use Rattle.bitstream.proofs.shift.Laws.{even-odd}
+use Rattle.bitstream.proofs.shift.Laws.{odd-fits, when-even, when-odd}
 use Rattle.bitstream.proofs.shift.power_by_table.Statement.{statement}
 use Rattle.bitstream.proofs.shift.power_by_table.Tie as tie
 
-power-of-four-requires : tie.Need-power-of-four-requires
-power-of-four-requires c κs = search needs
+two-powers-requires : tie.Need-two-powers-requires
+two-powers-requires c κs = search needs
 
-mul-result : tie.Need-mul-result
-mul-result c = omega (arith, even-odd (c .before .pre) (c .power-of-four .ensures), pow-lt (c .before .pre))
-
-add-result : tie.Need-add-result
-add-result c = omega (arith, even-odd (c .before .pre) (c .power-of-four .ensures), pow-lt (c .before .pre))
+mul-odd : tie.Need-mul-odd
+mul-odd c = record { fits = odd-fits (c .before .before .pre) (c .before .two-powers .ensures .1) }
 
 returns : tie.Need-returns
-returns c = even-odd (c .before .pre) (c .power-of-four .ensures)
+returns c =
+    let powers = c .before .before .two-powers .ensures in
+    when-even (c .before .before .before .pre) (powers .0) (powers .1) (c .if1 .taken)
+
+returns-2 : tie.Need-returns-2
+returns-2 c =
+    let powers = c .before .before .two-powers .ensures in
+    when-odd (c .before .before .before .pre) (powers .1) (c .if1 .left)
 
 pub power-by-table-spec : {M : Type 1} → statement M
-power-by-table-spec = tie.close (tie.spec power-of-four-requires mul-result add-result returns)
+power-by-table-spec = tie.close (tie.spec two-powers-requires mul-odd returns returns-2)

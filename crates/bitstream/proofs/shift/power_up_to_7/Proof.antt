@@ -1,18 +1,13 @@
 -- `shift::power_up_to_7` is its table, entry by entry. Assumes nothing.
 use native.Mathlib.Omega.{arith}
-use borrow.Author.Needs.{needs}
 use Rattle.bitstream.proofs.shift.Laws.{up-entry, last-index}
 use Rattle.bitstream.proofs.shift.power_up_to_7.Statement.{statement}
 use Rattle.bitstream.proofs.shift.power_up_to_7.Tie as tie
-
-mul-match : tie.Need-mul-match
-mul-match c = search needs
 
 pub power-up-to-7-spec : {M : Type 1} → statement M
 power-up-to-7-spec =
     tie.close
     (tie.spec
-    mul-match
     (λ c. up-entry (c .before .pre) (c .match .keys1))
     (λ c. up-entry (c .before .pre) (c .match .keys2))
     (λ c. up-entry (c .before .pre) (c .match .keys3))

@@ -12,7 +12,7 @@
 
 enum { PIXELS = 8 };
 
-/* Heights with a bad spot, 4095, and a jump to 766 that the plain table has no codeword for. */
+/* Heights with a bad spot, 4095, and a jump to 766 that the plain table has no codeword for; the first is raw in any case. */
 static const uint16_t heights[PIXELS] = {204, 201, 210, 4095, 202, 766, 208, 200};
 
 static uint8_t table[TAHLIRUZ_PLAIN_TABLE_BYTES];
@@ -66,12 +66,12 @@ static int there_and_back(uint8_t *words, size_t words_len)
 /* Turns over the last bit of the third item: a refusal, with the place where that item begins. */
 static int refused_at_a_bit(uint8_t *words, size_t words_len)
 {
-    words[29 / 8] ^= 1u << 29 % 8;
+    words[33 / 8] ^= 1u << 33 % 8;
     struct tahliruz_unpacked answer = tahliruz_unpack(table, sizeof table, words, words_len, PIXELS,
                                                       row_again, sizeof row_again);
-    printf("with bit 29 turned over: refused %u at bit %u: %s\n", (unsigned)answer.number,
+    printf("with bit 33 turned over: refused %u at bit %u: %s\n", (unsigned)answer.number,
            (unsigned)answer.at, tahliruz_number_text(answer.number));
-    return answer.number == TAHLIRUZ_STEP_OUTSIDE && answer.at == 20;
+    return answer.number == TAHLIRUZ_STEP_OUTSIDE && answer.at == 24;
 }
 
 /* Lends one word where the row takes more: a refusal, and the word is as it was. */

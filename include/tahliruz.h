@@ -59,10 +59,10 @@ extern "C" {
 #endif
 
 /* The version of this header. While MAJOR is 0, a new MINOR may change structs and calls. */
-#define TAHLIRUZ_VERSION "0.2.2"
+#define TAHLIRUZ_VERSION "0.2.3"
 #define TAHLIRUZ_VERSION_MAJOR 0
 #define TAHLIRUZ_VERSION_MINOR 2
-#define TAHLIRUZ_VERSION_PATCH 2
+#define TAHLIRUZ_VERSION_PATCH 3
 
 /* Sizes that are always enough. */
 #define TAHLIRUZ_MAX_PIXELS 4096            /* the pixels of a row */
@@ -209,6 +209,13 @@ struct tahliruz_unpacked {
  * Count: the bits that the row takes. The row is in the first
  * 4 * ((count + 31) / 32) bytes of words; the unused bits of its last word are
  * 0. After a refusal words is as it was.
+ *
+ * The row's first height, its first pixel that is neither 4094 nor 4095, is
+ * raw, whether or not the table has it as a step from 0. A later height is a
+ * step where the table has it, from the last height before it that is a step, or
+ * from the first where none is; else it is raw. Up to version 0.2.2 the first
+ * height was a step from 0 where the table had that: such words are read as
+ * ever, and take other bits than the same row packed now.
  */
 struct tahliruz_answer tahliruz_pack(const uint8_t *table, size_t table_len,
                                      const uint8_t *pixels, size_t pixels_len,

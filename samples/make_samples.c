@@ -198,7 +198,8 @@ static void make_foot(const char *folder)
     make_torn(folder, rows);
 }
 
-/* A sheet of three rows, the last cut off after its second word: six whole items of 10 bits, and 4 bits of the seventh. */
+/* A sheet of three rows, the last cut off after its third word: the first height in 14 bits, eight whole items of 10 bits, and
+ * 2 bits of the tenth. */
 static void make_damaged(const char *folder)
 {
     FILE *f = create(folder, "damaged.sheet");
@@ -213,9 +214,9 @@ static void make_damaged(const char *folder)
         }
         tahliruz_write_record(TAHLIRUZ_KIND_PACKED, (uint32_t)y, pixels, sizeof pixels, plain, sizeof plain, state, record,
                               sizeof record);
-        record[0] = 2 + 4 + 8;
+        record[0] = 2 + 4 + 12;
         record[1] = 0;
-        fwrite(record, 1, 4 + 2 + 4 + 8, f);
+        fwrite(record, 1, 4 + 2 + 4 + 12, f);
     }
     finish(f);
 }

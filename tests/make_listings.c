@@ -287,6 +287,11 @@ static void good_sheets(void)
     done();
     sheet("table_alone.sheet");
     done();
+    /* the row `0 4095 0` with its first height raw, 14 + 3 + 1 bits, and as it was packed before document 02's ticket 5 */
+    sheet("first_height.sheet");
+    packed_bits(3, 3, "10 000000000000 110 0");
+    packed_bits(4, 3, "0 110 0");
+    done();
 }
 
 /* A sheet of 5,000 records, and what it is listed as. */

@@ -2,7 +2,8 @@
  * Words that are refused 6 to 10, and beside them what is refused by another number or is done: the number and the bit place
  * that unpacking, the item reader, and judging and reading their record answer. worked_faults.expected is what it must print;
  * a place is the sum of the lengths of the items before, of 14 bits a raw height and 3 a bad pixel. Of the plain table a step
- * has 10 bits and a bad bias 3, of the table gap, where no string begins with 1111, the step 0 has 1 and a bad bias 4.
+ * has 10 bits and a bad bias 3, of the table gap, where no string begins with 1111, the step 0 has 1 and a bad bias 4. Most
+ * first heights here are steps, as before document 02's ticket 5: they are read as ever.
  */
 #include <stdint.h>
 #include <stdio.h>
@@ -27,6 +28,8 @@ static const struct fault {
     { "0 766 0, and 30 bits of 0", 0, 4, 2, { 3139072, 2 } },
     { "0 766 0, and bit 41 set", 0, 3, 2, { 3139072, 514 } },
     { "0 766 0, and no bit set", 0, 3, 2, { 3139072, 2 } },
+    { "raw 0, 766, and 4 bits of a step", 0, 3, 1, { 50216961 } },
+    { "raw 0, 766 0, and bit 41 set", 0, 3, 2, { 50216961, 544 } },
     { "766 766, and a raw 4095", 0, 3, 2, { 4253027321, 63 } },
     { "766 4095 4094 3000, and a raw 4094", 0, 5, 2, { 3994995705, 65510 } },
     { "32 steps of 0, and no bits", 1, 33, 1, { 0 } },

@@ -127,6 +127,8 @@ int main(void)
     PLAIN(64, 0, 766, 0);
     PLAIN(64, 255);
     PLAIN(64, 256);
+    PLAIN(64, 0, 255);
+    PLAIN(64, 0, 256);
     PLAIN(64, 4093, 0, 0);
     PLAIN(64, 4095, 766, 766);
     PLAIN(64, 204, 201, 210, 4095, 202, 202, 200, 766, 208, 200, 202, 206, 201);
@@ -140,14 +142,15 @@ int main(void)
     room("2 to the 32", (uint64_t)1 << 32);
     room("0", 0);
     room("1", 1);
-    unpack("512 as 1", 512, 1, 16);
+    unpack("1 as 1", 1, 1, 16);
+    unpack("512 as 1, a first height by its step", 512, 1, 16);
     unpack("512 as 0", 512, 0, 16);
     unpack("512 as 1 into one byte", 512, 1, 1);
     unpack("512 as 4", 512, 4, 16);
     unpack("1536 as 1, an unused bit set", 1536, 1, 16);
     unpack("a step below 0", 510, 1, 16);
     unpack("a raw height of 4094", 4094 * 4 + 1, 1, 16);
-    unpack("a needless raw 0", 1, 1, 16);
+    unpack("raw 0, then a needless raw 0", 1 + (1 << 14), 2, 16);
     unpack("4097 pixels", 512, 4097, 16);
     return 0;
 }

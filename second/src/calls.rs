@@ -142,7 +142,7 @@ mod tests {
         assert_eq!(judged(1, 9, &plain_table(), start), Record { state: state(1, 0), ..table });
         let (row, ready) = ([0, 0, 254, 2, 0, 0], state(1, 5));
         let packed = Record { kind: 2, row: 5, count: 3, length: 18, ..Record::default() };
-        let packed = Record { bits: 34, words: 2, state: state(1, 6), ..packed };
+        let packed = Record { bits: 38, words: 2, state: state(1, 6), ..packed };
         assert_eq!(judged(2, 5, &row, ready), packed);
         let plain = Record { kind: 3, length: 16, bits: 0, words: 0, ..packed };
         assert_eq!(judged(3, 5, &row, ready), plain);
@@ -156,10 +156,10 @@ mod tests {
         let bare = |number| Record { number, ..Record::default() };
         assert_eq!(judge_record(Err(1), &[], given), bare(14));
         assert_eq!(judge_record(Err(1), &[2, 0, 0, 0, 9, 0], given), bare(15));
-        // The row 0 with a bit set behind it: the first unused bit is 10.
+        // The row 0 with a bit set behind it: the first unused bit is 14.
         let codec = Codec::open(&plain_table()).unwrap();
-        let row = [10, 0, 0, 0, 2, 0, 5, 0, 1, 0, 0, 2, 0, 128];
-        let unused = Record { at: 10, ..bare(10) };
+        let row = [10, 0, 0, 0, 2, 0, 5, 0, 1, 0, 1, 0, 0, 128];
+        let unused = Record { at: 14, ..bare(10) };
         assert_eq!(judge_record(Ok(&codec), &row, state(1, 0)), unused);
         assert_eq!(read_record(Ok(&codec), &row, state(1, 0), &mut [0; 2]), unused);
         assert_eq!(read_record(Ok(&codec), &row, state(1, 0), &mut []), bare(5));

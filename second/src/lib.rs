@@ -25,10 +25,12 @@ pub mod command;
 #[cfg(feature = "rows")]
 pub mod compared;
 pub mod conversion;
+pub mod departures;
 pub mod desk;
 #[cfg(feature = "check")]
 pub mod ffi;
 pub mod fits;
+pub mod former;
 pub mod generate;
 pub mod items;
 pub mod known;

@@ -83,9 +83,14 @@ mod tests {
 
     #[test]
     fn written_sheet() {
-        let sheet = [record(1, &plain_table()), packed(0, 2, 3992), packed(5, 1, 3065)].concat();
-        let text = "row 0 pixels 2 bits 13 words 1\nrow 5 pixels 1 bits 14 words 1\ndone rows 2\n";
-        assert_eq!(list_sheet(&sheet), TABLE_LINE.to_string() + text);
+        // In words of the rule and in those of the former one.
+        for (word, bits) in [(49969, 17), (3992, 13)] {
+            let rows = [packed(0, 2, word), packed(5, 1, 3065)].concat();
+            let sheet = [record(1, &plain_table()), rows].concat();
+            let first = format!("row 0 pixels 2 bits {bits} words 1\n");
+            let rest = "row 5 pixels 1 bits 14 words 1\ndone rows 2\n";
+            assert_eq!(list_sheet(&sheet), TABLE_LINE.to_string() + &first + rest);
+        }
     }
 
     #[test]
@@ -113,7 +118,8 @@ mod tests {
         assert_eq!(list_sheet(&sheet), TABLE_LINE.to_string() + "refused 14 at record 1\n");
     }
 
-    /// The row 0 766 0, of 34 bits in the words 3139072 and 2, changed.
+    /// The row 0 766 0, changed: by the former rule it has 34 bits in the words
+    /// 3139072 and 2, by the rule 38 in 50216961 and 32.
     #[test]
     fn refused_rows_have_a_bit() {
         let last = |pixels: u8, words: &[u32]| {
@@ -126,6 +132,10 @@ mod tests {
         assert_eq!(last(3, &[3139072 | 1 << 23, 2]), "row 6 pixels 3 bits 34 words 2/done rows 2");
         assert_eq!(last(3, &[3139072 | 0b1111_1111_1110 << 12, 2]), "refused 9 at record 2 bit 10");
         assert_eq!(last(3, &[3139072, 2 | 1 << 20]), "refused 10 at record 2 bit 34");
+        assert_eq!(last(3, &[50216961]), "refused 6 at record 2 bit 28");
+        assert_eq!(last(4, &[50216961, 32]), "refused 8 at record 2 bit 38");
+        assert_eq!(last(3, &[50216961 | 4094 << 2, 32]), "refused 9 at record 2 bit 0");
+        assert_eq!(last(3, &[50216961, 32 | 1 << 20]), "refused 10 at record 2 bit 38");
         assert_eq!(last(1, &[]), "refused 6 at record 2 bit 0");
         // Refusals that no row's reading gives have none.
         assert_eq!(last(3, &[3139072, 2, 0]), "refused 14 at record 2");

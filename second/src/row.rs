@@ -19,8 +19,20 @@ pub fn pack(table: &[u8], pixels: &[u8], words: &mut [u8]) -> (u32, u32) {
     }
 }
 
-/// Packs under a table that is already checked.
+/// Packs under a table that is already checked. A row's first height, the
+/// first pixel that is neither 4094 nor 4095, is always escaped: document 02,
+/// ticket 5.
 pub fn pack_under(table: &Table, pixels: &[u8], words: &mut [u8]) -> (u32, u32) {
+    pack_by(escaped, table, pixels, words)
+}
+
+/// Packs with the string that `first` gives for the first height.
+pub(crate) fn pack_by(
+    first: impl Fn(&Table, u16) -> Codeword,
+    table: &Table,
+    pixels: &[u8],
+    words: &mut [u8],
+) -> (u32, u32) {
     let (pixels, _) = pixels.as_chunks::<2>();
     if pixels.len() > MAX_PIXELS {
         return (TOO_MANY, 0);
@@ -34,7 +46,7 @@ pub fn pack_under(table: &Table, pixels: &[u8], words: &mut [u8]) -> (u32, u32) 
         return (PIXEL, 0);
     }
     let mut packer = Packer::new();
-    pack_row(table, row, &mut packer);
+    pack_row(first, table, row, &mut packer);
     let bits = packer.bits();
     // Packed aside first: a refused call must leave the lent memory alone.
     let packed = packer.finish();
@@ -63,29 +75,43 @@ pub fn room_under(table: &Table, n: u64) -> (u32, u32) {
     (DONE, (n as u32 * table.worst).div_ceil(32))
 }
 
-fn pack_row(table: &Table, row: &[u16], packer: &mut Packer) {
-    // None until some pixel of the row has become previous.
-    let mut previous: Option<i32> = None;
-    for &pixel in row {
-        match pixel {
-            PIXEL_SPOT => packer.put(table.codewords[BAD_PIXEL]),
-            BIAS_SPOT => packer.put(table.codewords[BAD_BIAS]),
-            _ => {
-                let height = i32::from(pixel);
-                if let Some(codeword) = table.entry_of(height - previous.unwrap_or(0)) {
-                    packer.put(codeword);
-                    previous = Some(height);
-                } else {
-                    packer.put(escaped(table.escape(), pixel));
-                    previous = previous.or(Some(height));
-                }
-            }
+fn pack_row(
+    first: impl Fn(&Table, u16) -> Codeword,
+    table: &Table,
+    row: &[u16],
+    packer: &mut Packer,
+) {
+    let spots = row.iter().take_while(|&&pixel| pixel >= BIAS_SPOT).count();
+    row[..spots].iter().for_each(|&pixel| packer.put(bad_spot(table, pixel)));
+    let Some((&pixel, later)) = row[spots..].split_first() else {
+        return;
+    };
+    packer.put(first(table, pixel));
+    // The first height becomes previous in any form.
+    let mut previous = i32::from(pixel);
+    for &pixel in later {
+        if pixel >= BIAS_SPOT {
+            packer.put(bad_spot(table, pixel));
+            continue;
+        }
+        let height = i32::from(pixel);
+        if let Some(codeword) = table.entry_of(height - previous) {
+            packer.put(codeword);
+            previous = height;
+        } else {
+            // A later height that is escaped does not become previous.
+            packer.put(escaped(table, pixel));
         }
     }
 }
 
+fn bad_spot(table: &Table, pixel: u16) -> Codeword {
+    table.codewords[if pixel == PIXEL_SPOT { BAD_PIXEL } else { BAD_BIAS }]
+}
+
 /// The escape and the height after it, as one string.
-fn escaped(escape: Codeword, pixel: u16) -> Codeword {
+pub(crate) fn escaped(table: &Table, pixel: u16) -> Codeword {
+    let escape = table.escape();
     let bits = escape.bits | u32::from(pixel) << escape.length;
     Codeword { bits, length: escape.length + HEIGHT_BITS }
 }
@@ -161,11 +187,15 @@ mod tests {
     fn written_cases() {
         let cases: [(&[u16], &[u32], u32); 6] = [
             (&[], &[], 0),
-            (&[0], &[512], 10),
-            (&[204, 4095], &[3992], 13),
+            // The escape 10 and twelve zeros.
+            (&[0], &[1], 14),
+            // 1 + 4 x 204, then 110 from bit 14.
+            (&[204, 4095], &[49969], 17),
             (&[766], &[3065], 14),
+            // The difference 0 is 0 000000001 from bit 14.
             (&[766, 766], &[8391673], 24),
-            (&[0, 766, 0], &[3139072, 2], 34),
+            // 1, 3065 from bit 14; the 1 of the difference 0 is bit 28 + 9.
+            (&[0, 766, 0], &[50216961, 32], 38),
         ];
         for (row, words, bits) in cases {
             let expected = (0, bits, words.to_vec());
@@ -176,13 +206,19 @@ mod tests {
     #[test]
     fn bit_counts() {
         let bits = |row: &[u16]| packed(&plain_table(), row, 8).1;
-        assert_eq!(bits(&[255]), 10);
+        assert_eq!(bits(&[255]), 14);
         assert_eq!(bits(&[256]), 14);
+        assert_eq!(bits(&[0, 255]), 14 + 10);
+        assert_eq!(bits(&[0, 256]), 14 + 14);
         assert_eq!(bits(&[4093, 0, 0]), 42);
-        assert_eq!(bits(&FIGURE_4), 127);
+        // Two heights are escaped and ten are differences.
+        assert_eq!(bits(&FIGURE_4), 14 + 10 * 10 + 3 + 14);
+        assert_eq!(bits(&FIGURE_4), 131);
         // Only the first height becomes previous by the escape.
-        assert_eq!(bits(&[4095, 766, 766]), 3 + 14 + 10);
-        assert_eq!(bits(&[10, 766, 766]), 10 + 14 + 14);
+        assert_eq!(bits(&[4095, 0, 0]), 3 + 14 + 10);
+        assert_eq!(bits(&[4094, 4095, 766, 766]), 3 + 3 + 14 + 10);
+        assert_eq!(bits(&[10, 766, 766]), 14 + 14 + 14);
+        assert_eq!(bits(&[4094, 4095]), 6);
     }
 
     #[test]
@@ -216,10 +252,10 @@ mod tests {
     fn memo_table_strings() {
         let row = [12, 14, 4095, 4094, 6, 1030, 21, 5];
         let text = |labels| bit_text(&memo_table(labels), &row);
-        // 12, +2, bad pixel, bad bias, -8, escape 1030, +15, -16
+        // escape 12, +2, bad pixel, bad bias, -8, escape 1030, +15, -16
         let strings = |pixel: &str, bias: &str| {
             let after = "01000 01001000 011000000010 0001110101 00011101001";
-            format!("01001001 1100 {pixel} {bias} {after}").replace(' ', "")
+            format!("01001000 001100000000 1100 {pixel} {bias} {after}").replace(' ', "")
         };
         let (zero, one) = ("000111010000", "000111010001");
         assert_eq!(text(Labels::Version11), strings(zero, one));
@@ -246,12 +282,14 @@ mod tests {
     fn incomplete_ends_count_for_nothing() {
         let mut memory = [9; 7];
         let pixels = [0, 0, 255];
-        assert_eq!(pack(&plain_table(), &pixels, &mut memory), (0, 10));
-        assert_eq!(memory, [0, 2, 0, 0, 9, 9, 9]);
+        assert_eq!(pack(&plain_table(), &pixels, &mut memory), (0, 14));
+        assert_eq!(memory, [1, 0, 0, 0, 9, 9, 9]);
         assert_eq!(pack(&plain_table(), &pixels, &mut memory[..3]), (ROOM, 0));
         let pixels = vec![0; 8193];
-        let mut memory = vec![0; 4 * 1280];
-        assert_eq!(pack(&plain_table(), &pixels, &mut memory), (0, 40960));
+        // 14 bits and 4095 times 10: 1281 words.
+        let mut memory = vec![0; 4 * 1281];
+        assert_eq!(pack(&plain_table(), &pixels, &mut memory), (0, 40964));
+        assert_eq!(pack(&plain_table(), &pixels, &mut memory[4..]), (ROOM, 0));
     }
 
     #[test]

@@ -10,7 +10,7 @@ use text::put::put_bytes;
 
 fn main() {
     let mut table = [0u8; 2072];
-    let words = [0x98u8, 0x0f, 0x00, 0x00];
+    let words = [0x31u8, 0xc3, 0x00, 0x00];
     plain_table(&mut table);
     print_items(&table, &words);
     print_items(b"", &words);

@@ -3,6 +3,7 @@ pub mod BitLaws
 pub mod Table
 pub mod Plain
 pub mod Row
+pub mod FirstHeight
 pub mod Place
 pub mod Reading
 pub mod Calls

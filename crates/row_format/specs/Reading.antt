@@ -4,13 +4,14 @@ use Prim.Native.Nat.{ℕ, zero, suc, _+_, _-_, _*_, _≤_, _<_}
 use mathlib.Core.Path.{_≡_}
 use mathlib.Core.Bool.{Bool, true, false, cond, not, _&&_, _||_}
 use mathlib.Core.List.{List, [], _∷_, _++_}
+use mathlib.Core.Logic.{_⊎_}
 use lib.ListN.{length, take, drop}
 use lib.Dec.{leb, ltb, eqb}
 use Rattle.bitstream.specs.Bits.{numOf, begins, wordsOf, stream, wordsFor}
 use Rattle.answer.specs.Outcome.{_orElse_, refuseIf, unless, Lent, roomNumber}
 use Rattle.row_format.specs.Lists.{any, least}
 use Rattle.row_format.specs.Table.{codewords, codewordAt, entryDifference, tableNumber, hasDifference}
-use Rattle.row_format.specs.Row.{Item, difference, badPixel, badBias, escape, State, fresh, previous, pixelOf, pixelsOf, after, afterAll, bits, byDifference, tooMany}
+use Rattle.row_format.specs.Row.{Item, difference, badPixel, badBias, escape, State, fresh, previous, differenceTo, pixelOf, pixelsOf, after, afterAll, bits, byDifference, tooMany}
 pub mod Laws
 
 -- the place of the first string that begins the rest; in an accepted table it is the only one
@@ -176,7 +177,7 @@ pub record StrayAt (m : Lent) (tb : List ℕ) (n : ℕ) (wb : List ℕ) (at : �
   pub set : stray at (stream wb) ≡ true
 
 -- ---- departures: an item departs from what packing would write for its pixel where packing writes that pixel by its
--- difference and the item is raw ("needless"), or the other way round
+-- difference and the item is raw (document 01: "needless"), or the other way round
 abbrev pub departs : List ℕ → State → Item → Bool
 departs t s (difference k) = not (byDifference t s (pixelOf s (difference k)))
 departs t s badPixel = false
@@ -187,3 +188,11 @@ departs t s (escape h) = byDifference t s h
 unfoldable pub anyDeparts : List ℕ → State → List Item → Bool
 anyDeparts t s [] = false
 anyDeparts t s (i ∷ is) = departs t s i || anyDeparts t (after s i) is
+
+-- the same in words, by what the table has and whether a height came before: a raw item that is not the first height and whose
+-- step the table has, or a first height by its step. Document 02, ticket 5: "a raw first height no longer counts as needless, and
+-- a table-coded first height now does count as a departure"
+abbrev pub Departure : List ℕ → State → Item → Type 0
+Departure t s i =
+    ((h : ℕ) × (i ≡ escape h) × (s ≡ fresh → ⊥) × (hasDifference t (differenceTo s h) ≡ true))
+    ⊎ ((k : ℕ) × (i ≡ difference k) × (s ≡ fresh))

@@ -1,6 +1,7 @@
--- Document 01, "A row": which item each pixel gets, and the bits of a row. Assumes nothing.
+-- Document 01, "A row", with the packing rule of document 02's ticket 5: which item each pixel gets, and the bits of a row.
+-- Assumes nothing.
 use Prim.Native.Nat.{ℕ, _+_, _-_, _*_}
-use mathlib.Core.Bool.{Bool, cond}
+use mathlib.Core.Bool.{Bool, false, cond}
 use mathlib.Core.List.{List, [], _∷_, _++_}
 use lib.ListN.{length}
 use lib.Dec.{ltb, eqb}
@@ -40,17 +41,23 @@ previous (past p) = p
 abbrev pub differenceTo : State → ℕ → ℕ
 differenceTo s p = p + 4093 - previous s
 
--- a height is written by its difference, and not raw: "If the table has the step"
+-- a height is written by its difference, and not raw. Document 02, ticket 5: "the first pixel that is neither 4094 nor 4095 is
+-- raw and becomes previous", so never where no pixel has become previous yet; after it, "If the table has the step"
 unfoldable pub byDifference : List ℕ → State → ℕ → Bool
-byDifference t s p = hasDifference t (differenceTo s p)
+byDifference t fresh p = false
+byDifference t (past q) p = hasDifference t (differenceTo (past q) p)
+
+-- the item of a pixel, a height by its difference where b says so
+abbrev pub itemBy : Bool → State → ℕ → Item
+itemBy b s p =
+    cond (eqb p 4095) badPixel
+    (cond (eqb p 4094) badBias
+    (cond b (difference (differenceTo s p))
+    (escape p)))
 
 -- "For each pixel in order one item is written"
 unfoldable pub itemFor : List ℕ → State → ℕ → Item
-itemFor t s p =
-    cond (eqb p 4095) badPixel
-    (cond (eqb p 4094) badBias
-    (cond (byDifference t s p) (difference (differenceTo s p))
-    (escape p)))
+itemFor t s p = itemBy (byDifference t s p) s p
 
 -- the pixel that an item stands for
 abbrev pub pixelOf : State → Item → ℕ
@@ -98,9 +105,13 @@ bits t (i ∷ is) = itemBits t i ++ bits t is
 unfoldable pub rowBits : List ℕ → List ℕ → List ℕ
 rowBits t ps = bits t (itemsFor t fresh ps)
 
--- a row's words, as bytes: its bits from bit 0 of word 0 on. "Unused bits of the last word are 0"
+-- bits in words, as bytes: from bit 0 of word 0 on. "Unused bits of the last word are 0"
+abbrev pub wordBytes : List ℕ → List ℕ
+wordBytes b = bytesOf (4 * wordsFor (length b)) b
+
+-- a row's words
 abbrev pub rowBytes : List ℕ → List ℕ → List ℕ
-rowBytes t ps = bytesOf (4 * wordsFor (length (rowBits t ps))) (rowBits t ps)
+rowBytes t ps = wordBytes (rowBits t ps)
 
 -- "2-byte pixels as little-endian bytes"
 abbrev pub pixelBytes : List ℕ → List ℕ

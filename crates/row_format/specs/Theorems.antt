@@ -1,8 +1,8 @@
 -- The theorems about tables, rows and the calls, in the words of the customer's demands, of document 01 and of document 02's
--- ticket 2, by which a refusal gives zero for every count and value but the place of 6 to 10; the files below prove them. tb, pb
--- and wb are the bytes of a table, of pixels and of words, t is a table's words, r is a run of bits, and m is the memory lent for
--- writing, as it was. A table is accepted where its verdict is 0. M is maxItemBits t, and an item's bits are those of itemBits t.
--- Assumes nothing.
+-- tickets 2, by which a refusal gives zero for every count and value but the place of 6 to 10, and 5, by which a row's first height
+-- is raw; the files below prove them. tb, pb and wb are the bytes of a table, of pixels and of words, t is a table's words, r is a
+-- run of bits, and m is the memory lent for writing, as it was. A table is accepted where its verdict is 0. M is maxItemBits t, and
+-- an item's bits are those of itemBits t. Assumes nothing.
 use Prim.Native.Nat.{ℕ, _+_, _*_, _/_, _^_, _≤_, _<_}
 use native.Mathlib.Nat.{le-trans}
 use mathlib.Core.Path.{_≡_, refl, sym, _∙_}
@@ -13,15 +13,16 @@ use lib.ListN.{length, take, drop, getD}
 use lib.IntN.{pos, negsuc, _-ℤ_}
 use lib.Signed.{_≤ℤ_}
 use lib.Dec.{ltb, eqb}
-use Rattle.bitstream.specs.Bits.{begins, wordsOf, halvesOf, stream, wordsFor, Below}
+use Rattle.bitstream.specs.Bits.{digits, begins, wordsOf, halvesOf, stream, wordsFor, Below}
 use Rattle.answer.specs.Outcome.{answerOf, refusal, lent, Kept, Within}
 use Rattle.row_format.specs.Lists.{any}
 use Rattle.row_format.specs.Place.{hasPlace}
 use Rattle.row_format.specs.Table.{lowLimit, tableSize, codewordAt, escapeLength, signedDifference, entryDifference, hasDifference, clash, verdict, tableNumber, Apart, Accepted, maxItemBits}
 use Rattle.row_format.specs.Table.Laws.{clash-false-apart, apart-clash-false, accepted, verdict-accepted, signed-differenceTo, length-codewordAt, escapeLength-least, codewordAt-least, codewordAt-most, codewordAt-only, maxItemBits-least, maxItemBits-most}
-use Rattle.row_format.specs.Row.{Item, difference, escape, State, fresh, previous, differenceTo, byDifference, itemFor, pixelOf, afterAll, itemBits, itemsFor, pixelsOf, bits, rowBits, rowBytes, pixelBytes}
-use Rattle.row_format.specs.Row.Laws.{itemFor-escape}
-use Rattle.row_format.specs.Reading.{inside, Fits, FitAll, bitsOfReading, readItem, done, stop, bitsOfRun, prependAll, readBy, readItems, stray, firstNumber, Readable, Reads, StoppedAt, StrayAt, departs, anyDeparts}
+use Rattle.row_format.specs.Row.{Item, difference, escape, State, fresh, past, previous, differenceTo, itemFor, pixelOf, afterAll, itemBits, itemsFor, pixelsOf, bits, rowBits, rowBytes, pixelBytes}
+use Rattle.row_format.specs.Row.Laws.{itemFor-escape, byDifference-lacks, length-itemsFor}
+use Rattle.row_format.specs.Reading.{inside, Fits, FitAll, bitsOfReading, readItem, done, stop, bitsOfRun, prependAll, readBy, readItems, stray, firstNumber, Readable, Reads, StoppedAt, StrayAt, departs, anyDeparts, Departure}
+use Rattle.row_format.specs.FirstHeight.{AllBad, FirstHeight, AllBadItems, formerBits, formerBytes}
 use Rattle.row_format.specs.Calls.{checked, Packable, packed, rowRefusal, rowRefused, rowWrote, unpacked, Accepts, bitsUsed, room}
 use Rattle.row_format.specs.Calls.Laws.{packed-number, packed-done}
 use Bounds.{readItem-uses, bitsUsed-most, bitsUsed-none, bitsUsed-run, length-rowBits}
@@ -32,7 +33,7 @@ use Locality.{unpacked-alike}
 use Room.{packed-five, packed-enough, room-done, packed-room-enough}
 use Tightness.{tight}
 use Standing.{RunStands, readItems-stands, stands-pixels}
-use Departures.{departs-needless, anyDeparts-needless}
+use Departures.{departs-exactly, anyDeparts-exactly}
 use OwnWords.{own-words, own-words-packed}
 use Memory.{packed-kept, packed-within, unpacked-kept, unpacked-within}
 use Numbers.{checked-in, room-in, packed-in, unpacked-in}
@@ -41,6 +42,8 @@ use BitsLeft.{bitsUsed-words}
 use Places.{unpacked-none, unpacked-stopped, stopped-unpacked, unpacked-stray, stray-unpacked, stray-used, unpacked-within-used}
 use Places.{stopped-before, stopped-before-used}
 use WordsEnd.{words-end}
+use FirstRaw.{heights-first, itemsFor-first, rowBits-first, first-raw, later-difference, fresh-exactly}
+use Former.{former-unpacked, former-longer, former-same, former-same-bad}
 pub mod Search
 pub mod Bounds
 pub mod Items
@@ -62,6 +65,8 @@ pub mod Stops
 pub mod Places
 pub mod WordsEnd
 pub mod Done
+pub mod FirstRaw
+pub mod Former
 
 -- ---- an accepted table
 -- a table is accepted exactly when what document 01 asks of one is true; the sentences one by one follow
@@ -139,8 +144,9 @@ pub row-onward : (t ps qs : List ℕ)
 row-onward t ps qs = itemsFor-append t fresh ps qs
 
 -- "a step that the table lacks must come back as the height itself"
-pub lacking-difference : (t : List ℕ) (s : State) (p : ℕ) → p ≤ 4093 → byDifference t s p ≡ false → itemFor t s p ≡ escape p
-lacking-difference = itemFor-escape
+pub lacking-difference : (t : List ℕ) (s : State) (p : ℕ) → p ≤ 4093 → hasDifference t (differenceTo s p) ≡ false
+    → itemFor t s p ≡ escape p
+lacking-difference t s p most lacks = itemFor-escape t s p most (byDifference-lacks t s p lacks)
 
 -- every pixel at most 4095 is the pixel that its item stands for
 pub items-pixels : (t ps : List ℕ) → any (ltb 4095) ps ≡ false → pixelsOf fresh (itemsFor t fresh ps) ≡ ps
@@ -198,20 +204,18 @@ pub read-stopped : (t : List ℕ) (n k : ℕ) (r : List ℕ) (e at u : ℕ) → 
     → readItems t (n + k) r ≡ stop e at u
 read-stopped = readItems-stop
 
--- "accepts a raw item although the table has the step": an item that may stand where it stands, as all do that are read,
--- departs from what packing would write exactly where it is raw and the table has the step
-pub item-departs : (t : List ℕ) (s : State) (i : Item) → Fits t s i
-    → (departs t s i ≡ true) ↔ ((h : ℕ) × (i ≡ escape h) × (byDifference t s h ≡ true))
-item-departs = departs-needless
+-- "accepts a raw item although the table has the step", and a first height by its step: an item that may stand where it stands,
+-- as all do that are read, departs from what packing would write exactly where it is a departure in words
+pub item-departs : (t : List ℕ) (s : State) (i : Item) → Fits t s i → (departs t s i ≡ true) ↔ Departure t s i
+item-departs = departs-exactly
 
--- and of such items none departs exactly when no raw item is needless in this sense where it stands, after the items js and
--- before the items ks
+-- and of such items none departs exactly when none is a departure where it stands, after the items js and before the items ks
 pub items-depart : (t : List ℕ) (s : State) (is : List Item) → FitAll t s is
     → (anyDeparts t s is ≡ false)
-    ↔ ((js ks : List Item) (h : ℕ) → is ≡ js ++ (escape h ∷ ks) → byDifference t (afterAll s js) h ≡ false)
-items-depart = anyDeparts-needless
+    ↔ ((js ks : List Item) (i : Item) → is ≡ js ++ (i ∷ ks) → Departure t (afterAll s js) i → ⊥)
+items-depart = anyDeparts-exactly
 
--- "The used words of an accepted reading are the very words packing would write exactly when no raw item was needless"
+-- "The used words of an accepted reading are the very words packing would write exactly when" no item departs
 pub used-words-own : (t : List ℕ) → verdict t ≡ 0 → (wb : List ℕ) → Below 256 wb → (n : ℕ) (is : List Item) (u : ℕ)
     → readItems t n (stream wb) ≡ done is u → stray u (stream wb) ≡ false
     → (take (4 * wordsFor u) wb ≡ rowBytes t (pixelsOf fresh is)) ↔ (anyDeparts t fresh is ≡ false)
@@ -312,7 +316,13 @@ words-alike = unpacked-alike
 pub row-bits-tight : (t : List ℕ) → verdict t ≡ 0 → hasDifference t 0 ≡ false → hasDifference t 8186 ≡ false
     → ((j : ℕ) → j < 3 + tableSize t → length (codewordAt t j) ≤ escapeLength t + 12)
     → (n : ℕ) → (ps : List ℕ) × (length ps ≡ n) × (any (ltb 4095) ps ≡ false) × (length (rowBits t ps) ≡ n * maxItemBits t)
-row-bits-tight t ok = tight t (accepted t ok)
+row-bits-tight t ok least most = tight t (accepted t ok) least
+
+-- by ticket 5 the second of these steps may be there: 4093 at a row's start is raw in any case
+pub row-bits-met : (t : List ℕ) → verdict t ≡ 0 → hasDifference t 0 ≡ false
+    → ((j : ℕ) → j < 3 + tableSize t → length (codewordAt t j) ≤ escapeLength t + 12)
+    → (n : ℕ) → (ps : List ℕ) × (length ps ≡ n) × (any (ltb 4095) ps ≡ false) × (length (rowBits t ps) ≡ n * maxItemBits t)
+row-bits-met t ok = tight t (accepted t ok)
 
 -- the two steps that it names, held as counts from -4093
 pub least-difference : signedDifference 0 ≡ negsuc 4092
@@ -374,6 +384,60 @@ module _ (tb wb : List ℕ) (n : ℕ) (m : List ℕ) where
       → unpacked tb wb n m ≡ rowRefused (32 * (length wb / 4)) 6 m
   place-end ok is fewer read =
       stopped-unpacked tb wb n m 6 (32 * (length wb / 4)) (words-end (lent (length m)) tb n wb ok is fewer read) .0
+
+-- ---- document 02, ticket 5: first height always raw
+-- a row of pixels at most 4095 has a first height, "the first pixel that is neither 4094 nor 4095", or none
+pub first-height : (ps : List ℕ) → any (ltb 4095) ps ≡ false → AllBad ps ⊎ FirstHeight ps
+first-height = heights-first
+
+-- the first height "is raw and becomes previous", under every table: its item, behind one for each pixel before it, is the escape
+-- of that very height, and the pixels after it are written from it
+pub first-height-raw : (t ps : List ℕ) (f : FirstHeight ps)
+    → (length (itemsFor t fresh (f .before)) ≡ length (f .before))
+    × (itemsFor t fresh ps ≡ itemsFor t fresh (f .before) ++ (escape (f .height) ∷ itemsFor t (past (f .height)) (f .rest)))
+first-height-raw t ps f = (length-itemsFor t fresh (f .before), itemsFor-first t ps f)
+
+-- so that a row's bits are those of the bad spots before it, the raw string, the height in 12 bits, and the bits of the rest
+pub first-height-bits : (t ps : List ℕ) (f : FirstHeight ps)
+    → rowBits t ps
+    ≡ bits t (itemsFor t fresh (f .before))
+    ++ ((codewordAt t 0 ++ digits 12 (f .height)) ++ bits t (itemsFor t (past (f .height)) (f .rest)))
+first-height-bits = rowBits-first
+
+-- "whether or not the table has its value as a step from 0": an item of a height by its case. The first is raw; a later one is
+-- its step where the table has that, and the height itself where not
+pub height-first : (t : List ℕ) (p : ℕ) → p ≤ 4093 → itemFor t fresh p ≡ escape p
+height-first = first-raw
+
+pub height-later : (t : List ℕ) (q p : ℕ) → p ≤ 4093 → hasDifference t (differenceTo (past q) p) ≡ true
+    → itemFor t (past q) p ≡ difference (differenceTo (past q) p)
+height-later = later-difference
+
+-- "first height", of items: no height has come yet exactly where the items so far are bad pixels and bad biases
+pub height-none : (js : List Item) → (afterAll fresh js ≡ fresh) ↔ AllBadItems js
+height-none = fresh-exactly
+
+-- "Old words are still read as before": a row that was packed by the rule before this ticket is read back as the same row, by
+-- exactly the bits that it took, whatever follows its words
+pub former-read : (tb pb rest m : List ℕ) → Below 256 pb → Packable tb (halvesOf pb) → length (halvesOf pb) ≤ length m / 2
+    → unpacked tb (formerBytes (wordsOf tb) (halvesOf pb) ++ rest) (length (halvesOf pb)) m
+    ≡ rowWrote (length (formerBits (wordsOf tb) (halvesOf pb))) (take (2 * length (halvesOf pb)) pb) m
+former-read = former-unpacked
+
+-- what the new rule costs: where the table has the first height as a step from 0, the row's bits now and that step's string are as
+-- many as its bits by the former rule and the raw string's with 12 more; else, and where it has no height, the bits are the same
+module _ (t ps : List ℕ) where
+  pub former-cost : (f : FirstHeight ps) → hasDifference t (differenceTo fresh (f .height)) ≡ true
+      → length (rowBits t ps) + length (itemBits t (difference (differenceTo fresh (f .height))))
+      ≡ length (formerBits t ps) + (escapeLength t + 12)
+  former-cost = former-longer t ps
+
+  pub former-alike : (f : FirstHeight ps) → hasDifference t (differenceTo fresh (f .height)) ≡ false
+      → rowBits t ps ≡ formerBits t ps
+  former-alike = former-same t ps
+
+  pub former-alike-bad : AllBad ps → rowBits t ps ≡ formerBits t ps
+  former-alike-bad = former-same-bad t ps
 
 -- ---- demand 1
 -- "each call .. answers with a number from document 01", and its order lists which

@@ -1,28 +1,30 @@
--- The theorems about records and sheets, in the words of document 01 and of document 02's ticket 2; the files below prove them. c
--- is what the sheet holds so far, r the sheet's bytes from a record's place on, h the heading and x the content that the record
--- writer is given, and m the memory lent for writing, as it was. The calls are given tb, the bytes of the sheet's table, and st,
--- a state of two numbers: contextOf tb st is what these say of c. Assumes nothing.
+-- The theorems about records and sheets, in the words of document 01 and of document 02's tickets 2 and 5; the files below prove
+-- them. c is what the sheet holds so far, r the sheet's bytes from a record's place on, h the heading and x the content that the
+-- record writer is given, and m the memory lent for writing, as it was. The calls are given tb, the bytes of the sheet's table, and
+-- st, a state of two numbers: contextOf tb st is what these say of c. Assumes nothing.
 use Prim.Native.Nat.{ℕ, _+_, _*_, _≤_, _<_}
 use mathlib.Core.Path.{_≡_}
 use mathlib.Core.Bool.{true, false}
 use mathlib.Core.List.{List, [], _∷_, _++_, List·Memᴰ}
 use mathlib.Core.Logic.{_↔_}
 use lib.ListN.{length, take, drop, getD}
-use lib.Dec.{eqb}
-use Rattle.bitstream.specs.Bits.{halvesOf, Below}
+use lib.Dec.{ltb, eqb}
+use Rattle.bitstream.specs.Bits.{wordsOf, halvesOf, Below}
 use Rattle.answer.specs.Outcome.{outcome, writes, Kept, Within}
 use Rattle.row_format.specs.Lists.{any}
 use Rattle.row_format.specs.Table.{tableNumber}
+use Rattle.row_format.specs.Row.{pixelBytes}
+use Rattle.row_format.specs.FirstHeight.{formerBits, formerBytes}
 use Rattle.row_format.specs.Place.{hasPlace}
 use Rattle.row_format.specs.Calls.{rowRefused}
 use Rattle.sheet_format.specs.declared.SheetState.{SheetState}
-use Rattle.sheet_format.specs.Context.{Heading, Context, newSheet, stateOf, contextOf}
+use Rattle.sheet_format.specs.Context.{Heading, Context, newSheet, stateOf, contextOf, tableFor}
 use Rattle.sheet_format.specs.Context.Laws.{stateOf-contextOf}
 use Rattle.sheet_format.specs.Kind.{aRow, aLine, tableKept, contentGiven}
-use Rattle.sheet_format.specs.Kind.Row.{pixelCount}
+use Rattle.sheet_format.specs.Kind.Row.{rowHeading, pixelCount, rowContent}
 use Rattle.sheet_format.specs.Kinds.{kindOf}
 use Rattle.sheet_format.specs.Record.{lengthField, kindField, bodyOf, lengthNumber, recordSpan}
-use Rattle.sheet_format.specs.Reading.{answerBytes, contextAfter, recordContent, judgedNumbers, refusedRecord, ReachesRow, rowCall, recordJudged, recordRead}
+use Rattle.sheet_format.specs.Reading.{answerBytes, contextAfter, recordHeld, recordContent, judgedNumbers, refusedRecord, ReachesRow, rowCall, recordJudged, recordRead}
 use Rattle.sheet_format.specs.Reading.Laws.{judged-length}
 use Rattle.sheet_format.specs.Writing.{writtenNumbers, notWritten, recordFor, recordWritten, RecordWritable}
 use Rattle.sheet_format.specs.Sheet.{SheetRecord, ReadFrom, endsWith, putFirst, recordHere, restNext, records, sheetRead, recordHolds, numbersHeld, storedRows, storedLines, absent, present, heightsOf, recordKinds, rowNumbers}
@@ -40,6 +42,7 @@ use Numbers.{recordJudged-numbers, recordRead-numbers, recordWritten-numbers}
 use Place.{recordJudged-placeless, recordRead-placeless, row-judged, row-read}
 use Reached.{recordRead-placed, judged-reaches, judged-call}
 use State.{contextAfter-kept}
+use Former.{former-judged, former-held, former-read}
 use Stored.{stored-heights, stored-numbers, stored-absent, stored-read, sheetRead-read}
 pub mod ReadBack
 pub mod Written
@@ -57,6 +60,7 @@ pub mod Stored
 pub mod Place
 pub mod Reached
 pub mod StoredRows
+pub mod Former
 
 -- ---- what is written is read back
 -- From the bytes that a done write counts, whatever follows them, and with room for the content, reading gives number 0, the
@@ -238,6 +242,20 @@ module _ (c : Context) (r : List ℕ) (shows : hasPlace (recordJudged c r .numbe
 pub read-place-judged : (c : Context) (r m : List ℕ) → hasPlace (recordRead c r m .answer .number) ≡ true
     → recordRead c r m .answer ≡ recordJudged c r
 read-place-judged = recordRead-placed
+
+-- ---- document 02, ticket 5: "Old words are still read as before"
+-- Of a record that is a packed row, its length, fields, place and table in order, with the words that the rule before the ticket
+-- gives for the pixels ps: it is accepted, by the bits that it took then, and what is read of it are those pixels.
+module _ (c : Context) (r ps : List ℕ) (there : ReachesRow c r)
+    (ok : tableNumber (tableFor c (rowHeading (bodyOf r))) ≡ 0) (count : pixelCount (bodyOf r) ≡ length ps)
+    (few : length ps ≤ 4096) (pixels : any (ltb 4095) ps ≡ false)
+    (words : rowContent (bodyOf r) ≡ formerBytes (wordsOf (tableFor c (rowHeading (bodyOf r)))) ps) where
+  pub former-row-judged : (recordJudged c r ≡ recordHeld c r)
+      × (recordHeld c r .bits ≡ length (formerBits (wordsOf (tableFor c (rowHeading (bodyOf r)))) ps))
+  former-row-judged = (former-judged c r ps there ok count few pixels words, former-held c r ps there ok count few pixels words)
+
+  pub former-row-read : (m : List ℕ) → 2 * length ps ≤ length m → recordRead c r m ≡ writes (recordHeld c r) (pixelBytes ps) m
+  former-row-read = former-read c r ps there ok count few pixels words
 
 -- ---- demand 1
 -- "each call .. answers with a number from document 01", and its order lists which; judging never gives 5

@@ -13,7 +13,7 @@ abbrev pub tableLine : ℕ → ℕ → ℕ → ℕ → List ℕ
 tableLine id low size worst =
     fields (ascii "table ") id (ascii " low ") low ++ (fields (ascii " size ") size (ascii " worst ") worst ++ newline)
 
--- `row 0 pixels 2 bits 13 words 1`: a row of kind 2
+-- `row 0 pixels 2 bits 17 words 1`: a row of kind 2
 abbrev pub packedLine : ℕ → ℕ → ℕ → ℕ → List ℕ
 packedLine row pixels bits words =
     fields (ascii "row ") row (ascii " pixels ") pixels ++ (fields (ascii " bits ") bits (ascii " words ") words ++ newline)

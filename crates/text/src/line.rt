@@ -79,7 +79,7 @@ pub fn put_table_line(out: &mut [u8], at: usize, id: u32, low: u32, size: u32, w
     )
 }
 
-// `row 0 pixels 2 bits 13 words 1`
+// `row 0 pixels 2 bits 17 words 1`
 pub fn put_packed_line(
     out: &mut [u8],
     at: usize,

@@ -1,5 +1,6 @@
--- Document 01, "Pairs on each side of the line": the cases that it marks P and the unsigned numbers beside them, as one list
--- with one claim over the list. Rows are under the plain table. Assumes nothing.
+-- Document 01, "Pairs on each side of the line": the cases that it marks P, those of rows worked out again for document 02's
+-- ticket 5 ("Work out the cases of 01 again"), and the unsigned numbers beside them, as one list with one claim over the list.
+-- Rows are under the plain table. Assumes nothing.
 use Prim.Native.Nat.{ℕ, _*_}
 use mathlib.Core.Path.{_≡_, refl}
 use mathlib.Core.List.{List, [], _∷_}
@@ -30,13 +31,16 @@ CaseHolds (unsignedAs v b) = (shortest number.unsignedType v ≡ b) × (readAs n
 abbrev pub cases : List Case
 cases =
     packs [] [] 0
-    ∷ packs (0 ∷ []) (512 ∷ []) 10
-    ∷ packs (204 ∷ 4095 ∷ []) (3992 ∷ []) 13
+    ∷ packs (0 ∷ []) (1 ∷ []) 14
+    ∷ packs (204 ∷ 4095 ∷ []) (49969 ∷ []) 17
     ∷ packs (766 ∷ []) (3065 ∷ []) 14
     ∷ packs (766 ∷ 766 ∷ []) (8391673 ∷ []) 24
-    ∷ packs (0 ∷ 766 ∷ 0 ∷ []) (3139072 ∷ 2 ∷ []) 34
-    ∷ takes (255 ∷ []) 10
+    ∷ packs (0 ∷ 766 ∷ 0 ∷ []) (50216961 ∷ 32 ∷ []) 38
+    ∷ takes (255 ∷ []) 14
     ∷ takes (256 ∷ []) 14
+    -- the line between 255 and 256 is now a second height's
+    ∷ takes (0 ∷ 255 ∷ []) 24
+    ∷ takes (0 ∷ 256 ∷ []) 28
     ∷ worst (4093 ∷ 0 ∷ 0 ∷ []) 42 2
     ∷ signedAs (pos 63) (0x3F ∷ [])
     ∷ signedAs (pos 64) (0x80 ∷ 0x40 ∷ [])
@@ -61,6 +65,8 @@ cases-hold =
     also (refl, refl)
     also (refl, refl)
     also (refl, refl)
+    also refl
+    also refl
     also refl
     also refl
     also (refl, refl, refl)

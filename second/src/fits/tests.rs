@@ -172,7 +172,7 @@ fn row(width: u64, row: u64, pixels: &[i16]) -> (u32, Vec<u8>) {
 
 #[test]
 fn rows() {
-    let record = vec![10, 0, 0, 0, 2, 0, 255, 15, 2, 0, 152, 15, 0, 0];
+    let record = vec![10, 0, 0, 0, 2, 0, 255, 15, 2, 0, 0x31, 0xC3, 0, 0];
     assert_eq!(row(2, 4095, &[204, 4095]), (0, record.clone()));
     assert_eq!(row(2, 4095, &[204, 4095, -1]), (0, record), "the next row's pixel");
     let refused = |number| (number, vec![]);
@@ -209,7 +209,7 @@ fn sheets_of_scans() {
         let (sheet, verdict) = Converter::default().sheet(&scan(&first_cards("2", "2"), pixels));
         (list_sheet(&sheet), verdict)
     };
-    let first = "row 0 pixels 2 bits 13 words 1\n";
+    let first = "row 0 pixels 2 bits 17 words 1\n";
     let second = "row 1 pixels 2 bits 24 words 1\n";
     let whole = format!("{table}{first}{second}done rows 2\n");
     assert_eq!(listed(&[204, 4095, 766, 766]), (whole.clone(), Verdict::Done { rows: 2 }));

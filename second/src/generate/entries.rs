@@ -56,7 +56,8 @@ impl Entry {
     }
 
     /// A record that others might have written: now and then with a needless
-    /// escape or a number in more bytes than it needs.
+    /// escape, a first height as the former rule has it, or a number in more
+    /// bytes than it needs.
     pub fn foreign_record(&self, random: &mut Random, table: &Table) -> Vec<u8> {
         let seed = random.next_u64();
         let words = |pixels: &[u16]| run_words(&run(random, table, pixels, None).bits);
@@ -113,7 +114,7 @@ mod tests {
         };
         let head = |length: u8, kind: u8| [length, 0, 0, 0, kind, 0];
         let packed = record(KIND_PACKED, &[204, 0, 255, 15]);
-        assert_eq!(packed, [&head(10, 2)[..], &[5, 0, 2, 0, 152, 15, 0, 0]].concat());
+        assert_eq!(packed, [&head(10, 2)[..], &[5, 0, 2, 0, 0x31, 0xC3, 0, 0]].concat());
         let plain = record(KIND_PLAIN, &[1, 2]);
         assert_eq!(plain, [&head(8, 3)[..], &[5, 0, 1, 0, 1, 2]].concat());
         let line = record(KIND_LINE, &[64, 0, 0, 0]);

@@ -60,19 +60,22 @@ impl Writer<'_> {
         self.put(Codeword { bits: height, length: HEIGHT_BITS });
     }
 
-    /// Writes a pixel; `needless` escapes it although the table may have it.
-    fn pixel(&mut self, pixel: u16, needless: bool) {
+    /// Writes a pixel; a height that `departs` in another form than packing
+    /// would choose, if it has two.
+    fn pixel(&mut self, pixel: u16, departs: bool) {
         match pixel {
             PIXEL_SPOT => self.put(self.table.codewords[BAD_PIXEL]),
             BIAS_SPOT => self.put(self.table.codewords[BAD_BIAS]),
-            _ => self.height(i32::from(pixel), needless),
+            _ => self.height(i32::from(pixel), departs),
         }
     }
 
-    fn height(&mut self, height: i32, needless: bool) {
+    fn height(&mut self, height: i32, departs: bool) {
         let entry = self.table.entry_of(height - self.previous.unwrap_or(0));
+        // Packing escapes the first height and prefers the entry for others.
+        let by_entry = self.is_first() == departs;
         match entry {
-            Some(codeword) if !needless => {
+            Some(codeword) if by_entry => {
                 self.put(codeword);
                 self.previous = Some(height);
             }
@@ -83,6 +86,11 @@ impl Writer<'_> {
                 }
             }
         }
+    }
+
+    /// Whether no height has been written yet.
+    fn is_first(&self) -> bool {
+        self.previous.is_none()
     }
 
     /// Writes a faulty item and gives its number, or writes nothing where
@@ -105,10 +113,12 @@ impl Writer<'_> {
     }
 }
 
-/// A run for the row, now and then with a needless escape, and at item
+/// A run for the row, as often as not with its first height by a difference as
+/// the former rule has it, now and then with a needless escape, and at item
 /// `fault.0` with a fault instead, if the table allows it.
 pub fn run(random: &mut Random, table: &Table, row: &[u16], fault: Option<(usize, Fault)>) -> Run {
-    let needless = random.pick(&[2, 8, 100]);
+    let drawn = random.below(8);
+    let (needless, former) = ([2, 8, 100, 10_000][drawn / 2], drawn % 2 == 1);
     let mut writer = Writer { table, bits: Vec::new(), previous: None };
     let (mut starts, mut refused) = (Vec::with_capacity(row.len()), None);
     for (index, &pixel) in row.iter().enumerate() {
@@ -117,7 +127,10 @@ pub fn run(random: &mut Random, table: &Table, row: &[u16], fault: Option<(usize
         let number = faulty.and_then(|(_, fault)| writer.fault(random, fault));
         match number {
             Some(number) => refused = Some(Expected::Refused(number, start)),
-            None => writer.pixel(pixel, random.one_in(needless)),
+            None => {
+                let escapes = random.one_in(needless);
+                writer.pixel(pixel, if writer.is_first() { former } else { escapes });
+            }
         }
         starts.push(start);
     }
@@ -198,26 +211,46 @@ mod tests {
         }
     }
 
-    /// 10 bits, 3, 14 and 10: the second word begins within the last.
+    /// 10 bits by the former rule or 14, 3, 14 and 10: the second word begins
+    /// within the last.
     #[test]
     fn cut_runs() {
         let codec = Codec::open(&plain_table()).unwrap();
         let (mut random, row) = (Random::new(11), [5, 4095, 700, 7]);
-        let run = loop {
-            let run = run(&mut random, &codec.table, &row, None);
-            if run.bits.len() == 37 {
-                break run;
+        for starts in [[0, 10, 13, 27], [0, 14, 17, 31]] {
+            let run = loop {
+                let run = run(&mut random, &codec.table, &row, None);
+                if run.bits.len() == starts[3] + 10 {
+                    break run;
+                }
+            };
+            assert_eq!(run.starts, starts);
+            let ends = [starts[1], starts[2], starts[3], run.bits.len()];
+            for (start, end) in starts.into_iter().zip(ends) {
+                assert_eq!([start, end - 1].map(|bits| run.cut_item(bits)), [start; 2]);
             }
-        };
-        assert_eq!(run.starts, [0, 10, 13, 27]);
-        let cut = [0, 9, 10, 12, 13, 26, 27, 36].map(|bits| run.cut_item(bits));
-        assert_eq!(cut, [0, 0, 10, 10, 13, 13, 27, 27]);
-        for words in 0..2 {
-            let cut = &run_words(&run.bits)[..4 * words];
-            let at = run.cut_item(32 * words) as u32;
-            let answer = unpack_under(&codec, cut, 4, &mut [0; 8]);
-            assert_eq!(answer, Unpacked::stopped(WORDS_END, at));
+            for words in 0..2 {
+                let cut = &run_words(&run.bits)[..4 * words];
+                let at = run.cut_item(32 * words) as u32;
+                let answer = unpack_under(&codec, cut, 4, &mut [0; 8]);
+                assert_eq!(answer, Unpacked::stopped(WORDS_END, at));
+            }
         }
+    }
+
+    /// The first height 5 takes 10 bits or 14, and so does 7 after it.
+    #[test]
+    fn both_departures_arise() {
+        let table = Table::parse(&plain_table()).unwrap();
+        let (mut random, mut counts) = (Random::new(12), [[0; 2]; 2]);
+        for _ in 0..1000 {
+            let Run { starts, bits, .. } = run(&mut random, &table, &[4094, 5, 7], None);
+            let lengths = [starts[2] - starts[1], bits.len() - starts[2]];
+            assert!(lengths.iter().all(|length| [10, 14].contains(length)), "{lengths:?}");
+            counts[usize::from(lengths[0] == 10)][usize::from(lengths[1] == 14)] += 1;
+        }
+        assert!(counts.iter().flatten().all(|&count| count > 50), "{counts:?}");
+        assert_eq!(plain_run(&table, &[4094, 5, 7]).len(), 3 + 14 + 10);
     }
 
     #[test]

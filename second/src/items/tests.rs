@@ -20,18 +20,24 @@ fn refused(number: u32, place: ReaderPlace) -> ItemRead {
     ItemRead { number, kind: 0, step: 0, pixel: 0, place }
 }
 
-/// The row 0 766 0 under the plain table; zeros stand in the rest, which are
-/// the difference -256 from 0.
+/// The row 0 766 0 under the plain table, its first height raw and, as the
+/// former rule has it, by its step; zeros stand in the rest, which are the
+/// difference -256 from 0.
 #[test]
 fn items_of_a_row() {
-    let (codec, words) = (plain(), table_bytes(&[3139072, 2]));
-    let next = |place| next_item(Ok(&codec), &words, place);
+    let codec = plain();
     let item = |kind, pixel, place| ItemRead { number: 0, kind, step: 0, pixel, place };
     assert_eq!(open(Ok(&codec)), ReaderOpened { number: 0, place: place(0, 0, 0, 0) });
-    assert_eq!(next(place(0, 0, 0, 0)), item(KIND_STEP, 0, place(10, 1, 0, 1)));
-    assert_eq!(next(place(10, 1, 0, 1)), item(KIND_RAW, 766, place(24, 2, 0, 1)));
-    assert_eq!(next(place(24, 2, 0, 1)), item(KIND_STEP, 0, place(34, 3, 0, 1)));
-    assert_eq!(next(place(34, 3, 0, 1)), refused(HEIGHT, place(34, 3, 0, 1)));
+    for (words, kind, bits) in [([50216961, 32], KIND_RAW, 14), ([3139072, 2], KIND_STEP, 10)] {
+        let words = table_bytes(&words);
+        let next = |place| next_item(Ok(&codec), &words, place);
+        let [one, two, three] =
+            [(0, 1), (14, 2), (24, 3)].map(|(more, count)| place(bits + more, count, 0, 1));
+        assert_eq!(next(place(0, 0, 0, 0)), item(kind, 0, one));
+        assert_eq!(next(one), item(KIND_RAW, 766, two));
+        assert_eq!(next(two), item(KIND_STEP, 0, three));
+        assert_eq!(next(three), refused(HEIGHT, three));
+    }
 }
 
 #[test]

@@ -47,12 +47,16 @@ fn assert_refused(codec: &Codec, words: &[u8], n: usize, (number, at): (u32, u32
 
 #[test]
 fn written_cases_come_back() {
-    let cases: [(&[u16], &[u32], usize); 6] = [
+    let cases: [(&[u16], &[u32], usize); 9] = [
         (&[], &[], 0),
-        (&[0], &[512], 10),
-        (&[204, 4095], &[3992], 13),
+        (&[0], &[1], 14),
+        (&[204, 4095], &[49969], 17),
         (&[766], &[3065], 14),
         (&[766, 766], &[8391673], 24),
+        (&[0, 766, 0], &[50216961, 32], 38),
+        // As the former rule has them.
+        (&[0], &[512], 10),
+        (&[204, 4095], &[3992], 13),
         (&[0, 766, 0], &[3139072, 2], 34),
     ];
     for (row, words, bits) in cases {
@@ -65,6 +69,7 @@ fn words_end() {
     assert_refused(&plain(), &[], 1, (WORDS_END, 0), 0);
     assert_refused(&plain(), &[0; 3], 1, (WORDS_END, 0), 0);
     assert_refused(&plain(), &word_bytes(&[3139072]), 3, (WORDS_END, 24), 32);
+    assert_refused(&plain(), &word_bytes(&[50216961]), 3, (WORDS_END, 28), 32);
     // An escape with ten bits after it, although those can only begin a
     // height that is refused.
     let cut = "0".repeat(20) + "10 0111111111";
@@ -103,6 +108,9 @@ fn needless_escape() {
     // 5 as escape, 7 as needless escape, then +1: from 5, not from 7.
     let words = run("10 101000000000 10 111000000000 0 100000001");
     assert_eq!(read(&plain(), &words, 3), (0, 38, vec![5, 7, 6]));
+    // The same with the first height as +5 from 0.
+    let words = run("0 101000001 10 111000000000 0 100000001");
+    assert_eq!(read(&plain(), &words, 3), (0, 34, vec![5, 7, 6]));
 }
 
 #[test]

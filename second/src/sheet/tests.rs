@@ -90,12 +90,17 @@ fn tables() {
 
 #[test]
 fn packed_rows() {
+    assert_eq!(number(READY, &rows(2, 5, 3, &words(&[50216961, 32]))), 0);
     assert_eq!(number(READY, &rows(2, 5, 3, &words(&[3139072, 2]))), 0);
-    // 10, 14 and 10 bits; zeros are the difference -256.
+    // By the former rule 10, 14 and 10 bits; zeros are the difference -256.
     assert_eq!(outcome(READY, &rows(2, 5, 4, &words(&[3139072, 2]))), (8, 34));
     assert_eq!(outcome(READY, &rows(2, 5, 3, &words(&[3139072]))), (6, 24));
     assert_eq!(outcome(READY, &rows(2, 5, 3, &words(&[3139072, 6, 0]))), (10, 34));
     assert_eq!(number(READY, &rows(2, 5, 3, &words(&[3139072, 2, 0]))), 14);
+    // By the rule 14, 14 and 10.
+    assert_eq!(outcome(READY, &rows(2, 5, 4, &words(&[50216961, 32]))), (8, 38));
+    assert_eq!(outcome(READY, &rows(2, 5, 3, &words(&[50216961]))), (6, 28));
+    assert_eq!(outcome(READY, &rows(2, 5, 3, &words(&[50216961, 96, 0]))), (10, 38));
     assert_eq!(number(READY, &rows(2, 5, 0, &words(&[]))), 0);
     assert_eq!(number(READY, &rows(2, 5, 0, &words(&[0]))), 14);
     // Two heights and four bad spots are 32 bits; nothing is left for more.
@@ -140,8 +145,11 @@ fn lent_memory() {
     let codec = Codec::open(&plain_table()).unwrap();
     let read = |bytes: &[u8], lent: &mut [u8]| read_record(READY, Ok(&codec), bytes, lent).number;
     let mut lent = [9; 6];
-    assert_eq!(read(&rows(2, 5, 2, &words(&[3992])), &mut lent), 0);
-    assert_eq!(lent, [204, 0, 255, 15, 9, 9]);
+    for word in [49969, 3992] {
+        lent = [9; 6];
+        assert_eq!(read(&rows(2, 5, 2, &words(&[word])), &mut lent), 0);
+        assert_eq!(lent, [204, 0, 255, 15, 9, 9]);
+    }
     assert_eq!(read(&rows(3, 5, 1, &[1, 2]), &mut lent), 0);
     assert_eq!(lent, [1, 2, 255, 15, 9, 9]);
     assert_eq!(read(&record(4, &[1, 0, 0x7E]), &mut lent), 0);
@@ -176,7 +184,7 @@ fn writer_writes_records() {
     let table = plain_table();
     assert_eq!(written(EMPTY, 1, 0, &table), (0, record(1, &table)));
     let pixels = [0, 0, 254, 2, 0, 0];
-    assert_eq!(written(READY, 2, 5, &pixels), (0, rows(2, 5, 3, &words(&[3139072, 2]))));
+    assert_eq!(written(READY, 2, 5, &pixels), (0, rows(2, 5, 3, &words(&[50216961, 32]))));
     assert_eq!(written(READY, 3, 5, &pixels), (0, rows(3, 5, 3, &pixels)));
     assert_eq!(written(READY, 2, 5, &[]), (0, rows(2, 5, 0, &[])));
     let numbers = [64i32, -1].map(i32::to_le_bytes).concat();

@@ -26,7 +26,7 @@ unfolding digits numOf flat cut any plainEntries plainTable plainBytes codeword 
 row0-record = refl
 
 pub row1-record : rowRecord 3 1 row1
-    ≡ 0x0E ∷ 0 ∷ 0 ∷ 0 ∷ 0x02 ∷ 0 ∷ 0x01 ∷ 0 ∷ 0x03 ∷ 0 ∷ 0x00 ∷ 0xE6 ∷ 0x2F ∷ 0x00 ∷ 0x02 ∷ 0 ∷ 0 ∷ 0 ∷ []
+    ≡ 0x0E ∷ 0 ∷ 0 ∷ 0 ∷ 0x02 ∷ 0 ∷ 0x01 ∷ 0 ∷ 0x03 ∷ 0 ∷ 0x01 ∷ 0x40 ∷ 0xFE ∷ 0x02 ∷ 0x20 ∷ 0 ∷ 0 ∷ 0 ∷ []
 unfolding digits numOf flat cut any plainEntries plainTable plainBytes codeword codewordAt byDifference itemFor itemsFor bits rowBits
     packedBody recordBytes twosComplement numberAt bigEndian rowRecord
 row1-record = refl

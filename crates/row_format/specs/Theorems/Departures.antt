@@ -1,18 +1,19 @@
 -- Departures from what packing would write. Items that fit and do not depart are those that packing gives for their pixels,
--- and an item that was read departs exactly where it is raw "although the table has the step". Assumes nothing.
+-- and an item that was read departs exactly where it is raw, not the first height, and "the table has the step", or is a first
+-- height by its step. Assumes nothing.
 use Prim.Native.Nat.{ℕ, _+_, _-_, _≤_}
 use native.Mathlib.Omega.{arith}
 use mathlib.Core.Path.{_≡_, refl, ap}
 use mathlib.Core.Bool.{true, false, not}
 use mathlib.Core.List.{List, [], _∷_, _++_}
-use mathlib.Core.Logic.{_↔_}
+use mathlib.Core.Logic.{_↔_, inl, inr, ⊎-elim}
 use lib.Dec.{ltb}
 use borrow.Author.Tests.{ltb-false, ne-eqb, not-false}
 use Rattle.row_format.specs.Lists.{any}
 use Rattle.row_format.specs.Lists.Laws.{by-test, true-false, any-false-head, any-false-tail, or-false-left, or-false-right}
-use Rattle.row_format.specs.Row.{Item, difference, badPixel, badBias, escape, State, previous, differenceTo, byDifference, itemFor, pixelOf, after, afterAll, itemsFor, pixelsOf}
-use Rattle.row_format.specs.Row.Laws.{itemFor-cases, itemFor-escape}
-use Rattle.row_format.specs.Reading.{Fits, FitAll, departs, anyDeparts}
+use Rattle.row_format.specs.Row.{Item, difference, badPixel, badBias, escape, State, fresh, past, previous, differenceTo, byDifference, itemFor, pixelOf, after, afterAll, itemsFor, pixelsOf}
+use Rattle.row_format.specs.Row.Laws.{itemFor-cases, itemFor-escape, byDifference-first, byDifference-past, byDifference-later, byDifference-has, byDifference-begun}
+use Rattle.row_format.specs.Reading.{Fits, FitAll, departs, anyDeparts, Departure}
 use Rattle.row_format.specs.Theorems.Items.{reached, after-height, itemFor-right}
 use Rattle.row_format.specs.Theorems.Differences.{pixelOf-differenceTo}
 
@@ -59,56 +60,74 @@ anyDeparts-itemsFor t s (p ∷ ps) height e =
     rw (departs-itemFor t s p height)
     (anyDeparts-itemsFor t (after s i) ps (after-height t s i height fits) (any-false-tail (ltb 4095) p ps e))
 
--- ---- an item that fits departs exactly where it is needless: raw, and "the table has the step"
-departs-difference : (t : List ℕ) (s : State) (k : ℕ) → Fits t s (difference k) → departs t s (difference k) ≡ false
-unfolding byDifference
-departs-difference t s k fits =
-    let to = reached s k (fits .1) in
-    let back : differenceTo s (previous s + k - 4093) ≡ k = omega arith in
-    rw (back, fits .0)
+-- ---- an item that fits departs exactly where it is a departure in words
+-- after a first height, a difference that the table has is what packing writes
+departs-later : (t : List ℕ) (q k : ℕ) → Fits t (past q) (difference k) → departs t (past q) (difference k) ≡ false
+departs-later t q k fits =
+    let to = reached (past q) k (fits .1) in
+    let back : differenceTo (past q) (q + k - 4093) ≡ k = omega arith in
+    rw (byDifference-past t q (q + k - 4093), back, fits .0)
 
-pub departs-needless : (t : List ℕ) (s : State) (i : Item) → Fits t s i
-    → (departs t s i ≡ true) ↔ ((h : ℕ) × (i ≡ escape h) × (byDifference t s h ≡ true))
-departs-needless t s (difference k) fits = (
-  (λ e. true-false e (departs-difference t s k fits)),
-  (λ raw. let e = raw .1 in absurd (let z : _≡_ {A = ℕ} 0 1 = cc in omega arith)),
+pub departs-exactly : (t : List ℕ) (s : State) (i : Item) → Fits t s i → (departs t s i ≡ true) ↔ Departure t s i
+departs-exactly t fresh (difference k) fits = (
+  (λ e. inr (k, refl, refl)),
+  (λ d. ap not (byDifference-first t fresh (pixelOf fresh (difference k)) refl)),
 )
-departs-needless t s badPixel fits = (
+departs-exactly t (past q) (difference k) fits = (
+  (λ e. true-false e (departs-later t q k fits)),
+  ⊎-elim
+      (λ raw. let e = raw .1 in absurd (let z : _≡_ {A = ℕ} 0 1 = cc in omega arith))
+      (λ first. let e = first .2 in absurd (let z : _≡_ {A = ℕ} 0 1 = cc in omega arith)),
+)
+departs-exactly t s badPixel fits = (
   (λ e. true-false e refl),
-  (λ raw. let e = raw .1 in absurd (let z : _≡_ {A = ℕ} 0 1 = cc in omega arith)),
+  ⊎-elim
+      (λ raw. let e = raw .1 in absurd (let z : _≡_ {A = ℕ} 0 1 = cc in omega arith))
+      (λ first. let e = first .1 in absurd (let z : _≡_ {A = ℕ} 0 1 = cc in omega arith)),
 )
-departs-needless t s badBias fits = (
+departs-exactly t s badBias fits = (
   (λ e. true-false e refl),
-  (λ raw. let e = raw .1 in absurd (let z : _≡_ {A = ℕ} 0 1 = cc in omega arith)),
+  ⊎-elim
+      (λ raw. let e = raw .1 in absurd (let z : _≡_ {A = ℕ} 0 1 = cc in omega arith))
+      (λ first. let e = first .1 in absurd (let z : _≡_ {A = ℕ} 0 1 = cc in omega arith)),
 )
-departs-needless t s (escape h) fits = (
-  (λ e. (h, refl, e)),
-  (λ raw. let e = raw .1 in let same : h ≡ raw .0 = cc in rw same (raw .2)),
+departs-exactly t s (escape h) fits = (
+  (λ e. inl (h, refl, byDifference-begun t s h e, byDifference-has t s h e)),
+  ⊎-elim
+      (λ raw. let e = raw .1 in let same : h ≡ raw .0 = cc in byDifference-later t s h (raw .2) (rw same (raw .3)))
+      (λ first. let e = first .1 in absurd (let z : _≡_ {A = ℕ} 0 1 = cc in omega arith)),
 )
 
--- and of items that fit none departs exactly when none is needless where it stands
-none-departs : (t : List ℕ) (s : State) (js ks : List Item) (h : ℕ) → anyDeparts t s (js ++ (escape h ∷ ks)) ≡ false
-    → byDifference t (afterAll s js) h ≡ false
+-- and of items that fit none departs exactly when none is a departure where it stands
+none-departs : (t : List ℕ) (s : State) (js ks : List Item) (i : Item) → anyDeparts t s (js ++ (i ∷ ks)) ≡ false
+    → departs t (afterAll s js) i ≡ false
 unfolding anyDeparts afterAll
-none-departs t s [] ks h e = or-false-left (byDifference t s h) (anyDeparts t (after s (escape h)) ks) e
-none-departs t s (j ∷ js) ks h e =
-    none-departs t (after s j) js ks h (or-false-right (departs t s j) (anyDeparts t (after s j) (js ++ (escape h ∷ ks))) e)
+none-departs t s [] ks i e = or-false-left (departs t s i) (anyDeparts t (after s i) ks) e
+none-departs t s (j ∷ js) ks i e =
+    none-departs t (after s j) js ks i (or-false-right (departs t s j) (anyDeparts t (after s j) (js ++ (i ∷ ks))) e)
 
-none-needless : (t : List ℕ) (s : State) (is : List Item) → FitAll t s is
-    → ((js ks : List Item) (h : ℕ) → is ≡ js ++ (escape h ∷ ks) → byDifference t (afterAll s js) h ≡ false)
+fits-there : (t : List ℕ) (s : State) (js ks : List Item) (i : Item) → FitAll t s (js ++ (i ∷ ks)) → Fits t (afterAll s js) i
+unfolding afterAll
+fits-there t s [] ks i fits = fits .0
+fits-there t s (j ∷ js) ks i fits = fits-there t (after s j) js ks i (fits .1)
+
+none-departure : (t : List ℕ) (s : State) (is : List Item) → FitAll t s is
+    → ((js ks : List Item) (i : Item) → is ≡ js ++ (i ∷ ks) → Departure t (afterAll s js) i → ⊥)
     → anyDeparts t s is ≡ false
 unfolding anyDeparts afterAll
-none-needless t s [] fits each = refl
-none-needless t s (i ∷ is) fits each =
-    let rest = none-needless t (after s i) is (fits .1) (λ js ks h e. each (i ∷ js) ks h (ap (i ∷_) e)) in
+none-departure t s [] fits each = refl
+none-departure t s (i ∷ is) fits each =
+    let rest = none-departure t (after s i) is (fits .1) (λ js ks j e. each (i ∷ js) ks j (ap (i ∷_) e)) in
     by-test (departs t s i)
-    (λ e. let raw = departs-needless t s i (fits .0) .0 e in true-false (raw .2) (each [] is (raw .0) (ap (_∷ is) (raw .1))))
+    (λ e. absurd (each [] is i refl (departs-exactly t s i (fits .0) .0 e)))
     (λ e. rw e rest)
 
-pub anyDeparts-needless : (t : List ℕ) (s : State) (is : List Item) → FitAll t s is
+pub anyDeparts-exactly : (t : List ℕ) (s : State) (is : List Item) → FitAll t s is
     → (anyDeparts t s is ≡ false)
-    ↔ ((js ks : List Item) (h : ℕ) → is ≡ js ++ (escape h ∷ ks) → byDifference t (afterAll s js) h ≡ false)
-anyDeparts-needless t s is fits = (
-  (λ e js ks h parts. none-departs t s js ks h (rw parts at e)),
-  none-needless t s is fits,
+    ↔ ((js ks : List Item) (i : Item) → is ≡ js ++ (i ∷ ks) → Departure t (afterAll s js) i → ⊥)
+anyDeparts-exactly t s is fits = (
+  (λ e js ks i parts d.
+      let there = fits-there t s js ks i (rw parts at fits) in
+      true-false (departs-exactly t (afterAll s js) i there .1 d) (none-departs t s js ks i (rw parts at e))),
+  none-departure t s is fits,
 )

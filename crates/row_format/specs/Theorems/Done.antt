@@ -70,12 +70,16 @@ module _ (tb wb : List ℕ) (n : ℕ) (m : List ℕ) where
       by-run (rowReading (lent (length m)) tb n wb) refl (rowReading-stops (lent (length m)) tb n wb)
       (sym (unpacked-number tb wb n m) ∙ h)
 
--- and where a row is read, unpacking is done
+-- and where a row is read, its reading is done, and so is unpacking
+pub reads-rowReading : (m : Lent) (tb : List ℕ) (n : ℕ) (wb : List ℕ) (is : List Item) (u : ℕ) → Reads m tb n wb is u
+    → rowReading m tb n wb ≡ done is u
+unfolding rowReading
+reads-rowReading m tb n wb is u got = rw (firstNumber-readable m tb n (got .given), got .read, got .clean)
+
 pub unpacked-reads : (tb wb : List ℕ) (n : ℕ) (m : List ℕ) (is : List Item) (u : ℕ) → Reads (lent (length m)) tb n wb is u
     → unpacked tb wb n m ≡ rowWrote u (pixelBytes (pixelsOf fresh is)) m
-unfolding unpacked rowReading
-unpacked-reads tb wb n m is u got =
-    rw (firstNumber-readable (lent (length m)) tb n (got .given), got .read, got .clean)
+unfolding unpacked
+unpacked-reads tb wb n m is u got = rw (reads-rowReading (lent (length m)) tb n wb is u got)
 
 -- its items stand in the words, and fit; its count is the bits of them, and the bits that it used; and its pixels are those
 -- that they stand for

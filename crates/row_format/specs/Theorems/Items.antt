@@ -3,7 +3,7 @@ use Prim.Native.Nat.{ℕ, suc, _+_, _-_, _≤_, _<_}
 use native.Mathlib.Nat.{sub-add-cancel, mod-eq-of-lt}
 use native.Mathlib.Omega.{arith}
 use mathlib.Core.Path.{_≡_, refl, sym, ap, _∙_}
-use mathlib.Core.Bool.{true, false}
+use mathlib.Core.Bool.{Bool, true, false}
 use mathlib.Core.List.{List, [], _∷_, _++_, append-assoc}
 use lib.ListN.{length, take, drop, length-append}
 use lib.Seq.{drop-at, take-at}
@@ -15,10 +15,10 @@ use Rattle.row_format.specs.Lists.{any}
 use Rattle.row_format.specs.Lists.Laws.{and-true-left, and-true-right}
 use Rattle.row_format.specs.BitLaws.{begins-append}
 use Rattle.row_format.specs.Table.{lowLimit, tableSize, hasDifference, codewordAt, Accepted}
-use Rattle.row_format.specs.Row.{Item, difference, badPixel, badBias, escape, State, fresh, past, previous, differenceTo, byDifference, itemFor, pixelOf, after, itemBits, pixelsOf}
+use Rattle.row_format.specs.Row.{Item, difference, badPixel, badBias, escape, State, fresh, past, previous, differenceTo, byDifference, itemBy, itemFor, pixelOf, after, itemBits, pixelsOf}
 use Rattle.row_format.specs.Reading.{item, rawHeight, inside, matched, readItem, Fits, FitAll}
 use Rattle.row_format.specs.Theorems.Search.{find-only}
-use Rattle.row_format.specs.Row.Laws.{itemFor-cases}
+use Rattle.row_format.specs.Row.Laws.{itemBy-cases, byDifference-has}
 
 -- ---- items that fit
 -- the entry that stands for a difference
@@ -98,13 +98,18 @@ inside-differenceTo s p height low =
     let to = previous s + differenceTo s p in
     rw (le-leb 4093 to (omega arith), le-leb to 8186 (omega arith))
 
+-- by any rule that writes no difference which the table lacks
+pub itemBy-right : (t : List ℕ) (b : Bool) (s : State) (p : ℕ) → previous s ≤ 4093 → p ≤ 4095
+    → (b ≡ true → hasDifference t (differenceTo s p) ≡ true) → Right t s p (itemBy b s p)
+itemBy-right t b s p height most has = itemBy-cases (Right t s p) b s p
+    (λ e. record { fits = tt; pixel = sym e })
+    (λ e. record { fits = tt; pixel = sym e })
+    (λ d e by. record { fits = (has by, inside-differenceTo s p height (omega arith)); pixel = omega arith })
+    (λ d e raw. record { fits = omega arith; pixel = refl })
+
 pub itemFor-right : (t : List ℕ) (s : State) (p : ℕ) → previous s ≤ 4093 → p ≤ 4095 → Right t s p (itemFor t s p)
-unfolding byDifference
-itemFor-right t s p height most = itemFor-cases (Right t s p) t s p
-    (λ e. record { fits = tt; pixel = sym e })
-    (λ e. record { fits = tt; pixel = sym e })
-    (λ d e has. record { fits = (has, inside-differenceTo s p height (omega arith)); pixel = omega arith })
-    (λ d e lacks. record { fits = omega arith; pixel = refl })
+unfolding itemFor
+itemFor-right t s p height most = itemBy-right t (byDifference t s p) s p height most (byDifference-has t s p)
 
 -- ---- the pixels of items that fit are pixels
 pixelOf-most : (t : List ℕ) (s : State) (i : Item) → Fits t s i → pixelOf s i ≤ 4095

@@ -1,5 +1,5 @@
 -- Document 01: "The used words of an accepted reading are the very words packing would write exactly when no raw item was
--- needless". Assumes nothing.
+-- needless", as document 02, ticket 5, amends it: when no item departs. Assumes nothing.
 use Prim.Native.Nat.{ℕ, _+_, _-_, _*_, _≤_}
 use native.Mathlib.Omega.{arith}
 use mathlib.Core.Path.{_≡_, refl, sym, ap, _∙_}

@@ -11,7 +11,8 @@ use lib.Dec.{ltb}
 use Rattle.row_format.specs.Lists.{any}
 use Rattle.row_format.specs.Table.{tableSize, hasDifference, codewords, codewordAt, longest, escapeLength, maxItemBits, Accepted}
 use Rattle.row_format.specs.Table.Laws.{getD-codewords, length-codewords-size, longest-most}
-use Rattle.row_format.specs.Row.{escape, past, byDifference, itemFor, itemBits, itemsFor, bits, rowBits}
+use Rattle.row_format.specs.Row.{escape, fresh, past, itemFor, itemBits, itemsFor, bits, rowBits}
+use Rattle.row_format.specs.Row.Laws.{itemFor-escape, byDifference-first, byDifference-lacks}
 use Rattle.row_format.specs.Theorems.Bounds.{length-itemBits-escape}
 
 -- 4093 and then zeros, n pixels in all
@@ -34,7 +35,7 @@ unfolding steep any
 any-steep zero = refl
 any-steep (suc n) = any-zeros n
 
-module _ (t : List ℕ) (no-least : hasDifference t 0 ≡ false) (no-most : hasDifference t 8186 ≡ false) where
+module _ (t : List ℕ) (no-least : hasDifference t 0 ≡ false) where
   -- a raw item, and items that take so many bits each
   length-raw : (h n : ℕ) (b : List ℕ) → length b ≡ n * (escapeLength t + 12)
       → length (itemBits t (escape h) ++ b) ≡ suc n * (escapeLength t + 12)
@@ -43,16 +44,23 @@ module _ (t : List ℕ) (no-least : hasDifference t 0 ≡ false) (no-most : hasD
       (omega (arith, length-itemBits-escape t h))
 
   -- after 4093 a zero is raw, and 4093 stays previous
-  length-zeros : (n : ℕ) → length (bits t (itemsFor t (past 4093) (replicate n 0))) ≡ n * (escapeLength t + 12)
-  unfolding bits itemsFor itemFor byDifference
-  length-zeros zero = omega arith
-  length-zeros (suc n) = rw no-least (length-raw 0 n (bits t (itemsFor t (past 4093) (replicate n 0))) (length-zeros n))
+  zero-raw : itemFor t (past 4093) 0 ≡ escape 0
+  zero-raw = itemFor-escape t (past 4093) 0 (omega arith) (byDifference-lacks t (past 4093) 0 no-least)
 
+  length-zeros : (n : ℕ) → length (bits t (itemsFor t (past 4093) (replicate n 0))) ≡ n * (escapeLength t + 12)
+  unfolding bits itemsFor
+  length-zeros zero = omega arith
+  length-zeros (suc n) = rw zero-raw (length-raw 0 n (bits t (itemsFor t (past 4093) (replicate n 0))) (length-zeros n))
+
+  -- 4093 is raw as the row's first height, whether or not the table has it as a step
   length-bits-steep : (n : ℕ) → length (rowBits t (steep n)) ≡ n * (escapeLength t + 12)
-  unfolding rowBits steep itemsFor itemFor byDifference bits
+  unfolding rowBits steep itemsFor bits
   length-bits-steep zero = omega arith
   length-bits-steep (suc n) =
-      rw no-most (length-raw 4093 n (bits t (itemsFor t (past 4093) (replicate n 0))) (length-zeros n))
+      rw first (length-raw 4093 n (bits t (itemsFor t (past 4093) (replicate n 0))) (length-zeros n))
+    where
+      first : itemFor t fresh 4093 ≡ escape 4093
+      first = itemFor-escape t fresh 4093 (omega arith) (byDifference-first t fresh 4093 refl)
 
   length-rowBits-steep : (n : ℕ) → longest (codewords t) ≤ escapeLength t + 12
       → length (rowBits t (steep n)) ≡ n * maxItemBits t
@@ -66,8 +74,8 @@ longest-escape : (t : List ℕ) (ok : Accepted t)
 longest-escape t ok most = longest-most (codewords t) (escapeLength t + 12)
     (λ j h. rw (getD-codewords t j) (most j (omega (arith, length-codewords-size t ok))))
 
-pub tight : (t : List ℕ) (ok : Accepted t) → hasDifference t 0 ≡ false → hasDifference t 8186 ≡ false
+pub tight : (t : List ℕ) (ok : Accepted t) → hasDifference t 0 ≡ false
     → ((j : ℕ) → j < 3 + tableSize t → length (codewordAt t j) ≤ escapeLength t + 12)
     → (n : ℕ) → (ps : List ℕ) × (length ps ≡ n) × (any (ltb 4095) ps ≡ false) × (length (rowBits t ps) ≡ n * maxItemBits t)
-tight t ok least most lengths n =
-    (steep n, length-steep n, any-steep n, length-rowBits-steep t least most n (longest-escape t ok lengths))
+tight t ok least lengths n =
+    (steep n, length-steep n, any-steep n, length-rowBits-steep t least n (longest-escape t ok lengths))

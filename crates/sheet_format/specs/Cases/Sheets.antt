@@ -34,7 +34,7 @@ wholeRead = record {
   place = 0;
   records =
       record { answer = recordAnswer 1 0 7 0 0 34 0; content = []; bytes = tableRecord } ∷
-      record { answer = recordAnswer 2 5 2 4 1 14 6; content = 0 ∷ 0 ∷ 255 ∷ 15 ∷ []; bytes = packedRecord } ∷
+      record { answer = recordAnswer 2 5 2 17 1 14 6; content = 0 ∷ 0 ∷ 255 ∷ 15 ∷ []; bytes = packedRecord } ∷
       record { answer = recordAnswer 3 9 1 0 0 12 10; content = 255 ∷ 15 ∷ []; bytes = plainRecord } ∷
       record { answer = recordAnswer 4 0 2 0 0 11 10; content = lineNumbers; bytes = contourRecord } ∷ [];
 }
@@ -42,6 +42,22 @@ wholeRead = record {
 pub sheet-right : sheetRead wholeSheet ≡ wholeRead
 unfolding sheetRead recordsFrom recordJudged recordHeld recordContent contextAfter reading
 sheet-right = refl
+
+-- the same row as it was packed before document 02's ticket 5, its first height by the step 0: the strings 0 and 110, four bits
+abbrev pub formerRecord : List ℕ
+formerRecord = 10 ∷ 0 ∷ 0 ∷ 0 ∷ 2 ∷ 0 ∷ 5 ∷ 0 ∷ 2 ∷ 0 ∷ 6 ∷ 0 ∷ 0 ∷ 0 ∷ []
+
+pub former-right :
+    sheetRead (tableRecord ++ formerRecord)
+    ≡ record {
+      number = 0;
+      place = 0;
+      records =
+          record { answer = recordAnswer 1 0 7 0 0 34 0; content = []; bytes = tableRecord } ∷
+          record { answer = recordAnswer 2 5 2 4 1 14 6; content = 0 ∷ 0 ∷ 255 ∷ 15 ∷ []; bytes = formerRecord } ∷ [];
+    }
+unfolding sheetRead recordsFrom recordJudged recordHeld recordContent contextAfter reading
+former-right = refl
 
 -- what its rows and lines store
 pub stored-right :

@@ -15,9 +15,9 @@ lineNumbers = 255 ∷ 255 ∷ 255 ∷ 255 ∷ 64 ∷ 0 ∷ 0 ∷ 0 ∷ []
 abbrev pub tableRecord : List ℕ
 tableRecord = 30 ∷ 0 ∷ 0 ∷ 0 ∷ 1 ∷ 0 ∷ smallTable
 
--- the strings 0 and 110, four bits
+-- 10 and twelve times 0, the first height raw, and 110: 17 bits, the word 1 + 3 x 2^14
 abbrev pub packedRecord : List ℕ
-packedRecord = 10 ∷ 0 ∷ 0 ∷ 0 ∷ 2 ∷ 0 ∷ 5 ∷ 0 ∷ 2 ∷ 0 ∷ 6 ∷ 0 ∷ 0 ∷ 0 ∷ []
+packedRecord = 10 ∷ 0 ∷ 0 ∷ 0 ∷ 2 ∷ 0 ∷ 5 ∷ 0 ∷ 2 ∷ 0 ∷ 1 ∷ 192 ∷ 0 ∷ 0 ∷ []
 
 abbrev pub plainRecord : List ℕ
 plainRecord = 8 ∷ 0 ∷ 0 ∷ 0 ∷ 3 ∷ 0 ∷ 9 ∷ 0 ∷ 1 ∷ 0 ∷ 255 ∷ 15 ∷ []

@@ -1,4 +1,4 @@
--- Document 01's own lines, and one of ticket 2. Assumes nothing.
+-- Document 01's own lines, the row's as ticket 5 makes it, and one of ticket 2. Assumes nothing.
 use mathlib.Core.Path.{_≡_, refl}
 use lib.IntN.{negsuc}
 use Rattle.text.specs.Text.{ascii, decimal, spelled, integer}
@@ -8,7 +8,7 @@ table-case : tableLine 1 3837 512 14 ≡ ascii "table 1 low 3837 size 512 worst 
 unfolding decimal spelled
 table-case = refl
 
-packed-case : packedLine 0 2 13 1 ≡ ascii "row 0 pixels 2 bits 13 words 1\n"
+packed-case : packedLine 0 2 17 1 ≡ ascii "row 0 pixels 2 bits 17 words 1\n"
 unfolding decimal spelled
 packed-case = refl
 

@@ -23,7 +23,7 @@ pub fn any(random: &mut Random, index: usize) -> Case {
     }
 }
 
-/// The sheet that document 01 lists.
+/// The sheet that document 01 lists, packed by the rule of ticket 5.
 fn worked_example() -> Case {
     let table = Table::parse(&plain_table()).expect("the plain table is accepted");
     let entries = [
@@ -92,7 +92,7 @@ mod tests {
     fn sheets_of_all_sizes() {
         let mut random = Random::new(50);
         let text = list_sheet(&any(&mut random, 0).bytes);
-        assert_eq!(text.lines().nth(1), Some("row 0 pixels 2 bits 13 words 1"));
+        assert_eq!(text.lines().nth(1), Some("row 0 pixels 2 bits 17 words 1"));
         assert_eq!(text.lines().nth(3), Some("done rows 2"));
         assert!(any(&mut random, 1).bytes.is_empty());
         let many = list_sheet(&any(&mut random, 9).bytes).lines().count();

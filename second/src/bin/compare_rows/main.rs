@@ -1,10 +1,14 @@
 //! Compares the proved library's packing, unpacking, room question and item
 //! reader with the second program's, over random rows and runs of words.
 
+mod first;
+mod former;
 mod items;
 mod packing;
 mod progress;
+mod repacking;
 mod room;
+mod seen;
 mod trial;
 mod unpacking;
 

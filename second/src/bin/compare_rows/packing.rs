@@ -1,8 +1,8 @@
 //! Packing one row, and unpacking what was packed.
 
-use crate::items;
 use crate::progress::Progress;
 use crate::trial::Trial;
+use crate::{first, former, items};
 use second::answers::Unpacked;
 use second::ffi;
 use second::generate::rows::{pixel_bytes, row, row_length, spoil};
@@ -11,6 +11,14 @@ use second::memory::Lent;
 use second::random::Random;
 use second::refusal::DONE;
 use second::row::{pack_under, MAX_PIXELS};
+
+/// A row, and what the library has packed it into.
+#[derive(Clone, Copy)]
+pub struct Packed<'a> {
+    pub pixels: &'a [u16],
+    pub words: &'a [u8],
+    pub bits: u32,
+}
 
 pub fn compare(random: &mut Random, trial: &Trial, progress: &mut Progress) -> Result<(), String> {
     let length = row_length(random);
@@ -31,9 +39,12 @@ pub fn compare(random: &mut Random, trial: &Trial, progress: &mut Progress) -> R
     if answer.0 != DONE {
         return Ok(());
     }
-    check_packed(random, trial, &pixels, answer.1, &after)
-        .map_err(|what| trial.difference(&what, &[("pixels", &given), ("after", after.bytes())]))?;
     let words = &after.bytes()[..4 * answer.1.div_ceil(32) as usize];
+    let packed = Packed { pixels: &pixels, words, bits: answer.1 };
+    check_packed(random, trial, packed)
+        .and_then(|()| first::check(random, trial, packed, &mut progress.seen))
+        .and_then(|()| former::check(random, trial, packed, &mut progress.seen))
+        .map_err(|what| trial.difference(&what, &[("pixels", &given), ("after", after.bytes())]))?;
     items::compare(random, trial, words, pixels.len(), progress)
 }
 
@@ -82,17 +93,11 @@ fn compare_call(trial: &Trial, given: &[u8], before: &Lent) -> Result<((u32, u32
 }
 
 /// What must hold of a packed row whatever the second program says.
-fn check_packed(
-    random: &mut Random,
-    trial: &Trial,
-    pixels: &[u16],
-    bits: u32,
-    after: &Lent,
-) -> Result<(), String> {
+fn check_packed(random: &mut Random, trial: &Trial, packed: Packed) -> Result<(), String> {
+    let Packed { pixels, words, bits } = packed;
     if pixels.len() > MAX_PIXELS || bits > pixels.len() as u32 * trial.model().worst {
         return Err(format!("pack: {bits} bits are too many"));
     }
-    let words = &after.bytes()[..4 * bits.div_ceil(32) as usize];
     if random.one_in(4) {
         let strings = plain_run(trial.model(), pixels);
         if strings.len() != bits as usize || run_words(&strings) != words {

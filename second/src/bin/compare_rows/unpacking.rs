@@ -1,8 +1,9 @@
 //! Unpacking sound and damaged runs of words.
 
-use crate::items;
 use crate::progress::Progress;
+use crate::repacking::Reading;
 use crate::trial::Trial;
+use crate::{items, repacking};
 use second::answers::Unpacked;
 use second::compared::check_stopped;
 use second::ffi;
@@ -33,7 +34,7 @@ pub fn compare(random: &mut Random, trial: &Trial, progress: &mut Progress) -> R
     let checked = check_expected(&case, answer, &after)
         .and_then(|()| check_alike(random, trial, &case, &before, answer, &after))
         .and_then(|()| check_place(random, trial, &case, answer))
-        .and_then(|()| check_repacked(random, trial, &case, answer, &after));
+        .and_then(|()| check_repacked(random, trial, &case, answer, &after, progress));
     checked.map_err(|what| {
         let what = format!("{what}; n {}, answer {answer:?}", case.n);
         trial.difference(&what, &[("words", &case.words), ("after", after.bytes())])
@@ -204,24 +205,20 @@ fn check_place(
     check_stopped(random, &trial.opened, &case.words, case.n, answer)
 }
 
-/// A row that was read can be packed in the room answered, and read again.
+/// A row that was read, packed again.
 fn check_repacked(
     random: &mut Random,
     trial: &Trial,
     case: &Case,
     answer: Unpacked,
     after: &Lent,
+    progress: &mut Progress,
 ) -> Result<(), String> {
-    if answer.number != DONE || !random.one_in(4) {
+    if answer.number != DONE {
         return Ok(());
     }
+    let words = &case.words[..4 * answer.count.div_ceil(32) as usize];
     let pixels = &after.bytes()[..2 * case.n as usize];
-    let mut words = vec![0; 4 * ffi::room(trial.table(), case.n).1 as usize];
-    let packed = ffi::pack(trial.table(), pixels, &mut words);
-    let mut back = vec![0; pixels.len()];
-    let read = ffi::unpack(trial.table(), &words, case.n, &mut back);
-    if packed.0 == DONE && read == Unpacked::done(packed.1) && back == pixels {
-        return Ok(());
-    }
-    Err(format!("repacked {packed:?}, read again {read:?}"))
+    let reading = Reading { pixels, words, bits: answer.count };
+    repacking::check(random, trial, reading, &mut progress.seen)
 }

@@ -5,7 +5,7 @@ use mathlib.Core.Path.{_≡_}
 use mathlib.Core.List.{List, [], _∷_, _++_}
 use mathlib.Core.Logic.{_⊎_}
 use Rattle.row_format.specs.Table.{hasDifference}
-use Rattle.row_format.specs.Row.{Item, badPixel, badBias, State, fresh, differenceTo, itemBy, after, bits, wordBytes}
+use Rattle.row_format.specs.Row.{Item, badPixel, badBias, State, fresh, differenceTo, itemBy, after, bits, inWords}
 
 -- ---- a row's first height
 -- pixels each of which is 4095 or 4094
@@ -41,4 +41,4 @@ unfoldable pub formerBits : List ℕ → List ℕ → List ℕ
 formerBits t ps = bits t (formerItemsFor t fresh ps)
 
 abbrev pub formerBytes : List ℕ → List ℕ → List ℕ
-formerBytes t ps = wordBytes (formerBits t ps)
+formerBytes t ps = inWords (formerBits t ps)

@@ -106,12 +106,12 @@ unfoldable pub rowBits : List ℕ → List ℕ → List ℕ
 rowBits t ps = bits t (itemsFor t fresh ps)
 
 -- bits in words, as bytes: from bit 0 of word 0 on. "Unused bits of the last word are 0"
-abbrev pub wordBytes : List ℕ → List ℕ
-wordBytes b = bytesOf (4 * wordsFor (length b)) b
+abbrev pub inWords : List ℕ → List ℕ
+inWords b = bytesOf (4 * wordsFor (length b)) b
 
 -- a row's words
 abbrev pub rowBytes : List ℕ → List ℕ → List ℕ
-rowBytes t ps = wordBytes (rowBits t ps)
+rowBytes t ps = inWords (rowBits t ps)
 
 -- "2-byte pixels as little-endian bytes"
 abbrev pub pixelBytes : List ℕ → List ℕ

@@ -16,7 +16,7 @@ use Rattle.row_format.specs.Lists.Laws.{by-test, any-false-head, any-fal
 use Rattle.row_format.specs.BitLaws.{stream-bytesOf}
 use Rattle.row_format.specs.Table.{hasDifference, escapeLength}
 use Rattle.row_format.specs.Table.Laws.{accepted-table}
-use Rattle.row_format.specs.Row.{Item, difference, escape, State, fresh, past, previous, differenceTo, itemBy, itemFor, after, itemBits, itemsFor, pixelsOf, bits, rowBits, wordBytes}
+use Rattle.row_format.specs.Row.{Item, difference, escape, State, fresh, past, previous, differenceTo, itemBy, itemFor, after, itemBits, itemsFor, pixelsOf, bits, rowBits, inWords}
 use Rattle.row_format.specs.Row.Laws.{byDifference-past, itemBy-true, itemBy-false, bits-append}
 use Rattle.row_format.specs.Reading.{FitAll, Readable, Reads, readItems}
 use Rattle.row_format.specs.Reading.Laws.{lent-room}
@@ -152,7 +152,7 @@ length-formerItemsFor t s (p ∷ ps) = ap suc (length-formerItemsFor t (after s 
 -- items that may stand where they stand, in words whatever follows them, are read
 pub fitting-reads : (m : Lent) (tb : List ℕ) (is : List Item) (rest : List ℕ) → Readable m tb (length is)
     → FitAll (wordsOf tb) fresh is
-    → Reads m tb (length is) (wordBytes (bits (wordsOf tb) is) ++ rest) is (length (bits (wordsOf tb) is))
+    → Reads m tb (length is) (inWords (bits (wordsOf tb) is) ++ rest) is (length (bits (wordsOf tb) is))
 unfolding readItems
 fitting-reads m tb is rest ok fits =
     let t = wordsOf tb in

@@ -74,6 +74,7 @@ compare: $(ARCHIVE) $(PROGRAMS)
 	@$(SECOND)/compare_sheets 200000
 	@$(SECOND)/compare_fits 200000
 	@$(SECOND)/compare_maps 200000
+	@$(SECOND)/compare_shelves 100000
 	@$(SECOND)/compare_listers target/bin/list_sheet target/bin/list_table 2000
 	@$(SECOND)/compare_converter target/bin/fits_to_sheet 2000
 	@$(SECOND)/compare_desk target/bin 2000

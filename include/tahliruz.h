@@ -1,11 +1,12 @@
 /*
  * Tahliruz: rows of heights packed by the truncated Huffman first-difference
  * code of MIT memo 36-56102, adaptive-precision numbers, sheets of both, scans,
- * FITS images that become sheets, and maps, the counts of a pressure mat in the
- * code for sparse arrays that EXOSAT's images had. docs/FORMAT.md describes the
- * formats byte by byte. Names here keep document 01's words where a comment has
- * the usual ones: a string is a codeword, a step a difference, a raw height a
- * height written in 12 bits after the escape.
+ * FITS images that become sheets, maps, the counts of a pressure mat in the code
+ * for sparse arrays that EXOSAT's images had, and a shelf of tables that two
+ * parties share. docs/FORMAT.md describes the formats byte by byte. Names here
+ * keep document 01's words where a comment has the usual ones: a string is a
+ * codeword, a step a difference, a raw height a height written in 12 bits after
+ * the escape.
  *
  * Every call ends and answers for every input. This is proved, and so are the
  * number, counts and values of each answer, the bytes that it writes, and that
@@ -18,7 +19,7 @@
  *
  * What the caller must keep for the proof to reach a call:
  *  - each pointer is valid for its length in bytes, or the length is 0 and the
- *    pointer is any, null too;
+ *    pointer is any, null too; no pointer needs an alignment;
  *  - memory lent for writing overlaps no other argument;
  *  - 64 KiB of stack are free at the call.
  *
@@ -59,10 +60,10 @@ extern "C" {
 #endif
 
 /* The version of this header. While MAJOR is 0, a new MINOR may change structs and calls. */
-#define TAHLIRUZ_VERSION "0.2.3"
+#define TAHLIRUZ_VERSION "0.2.4"
 #define TAHLIRUZ_VERSION_MAJOR 0
 #define TAHLIRUZ_VERSION_MINOR 2
-#define TAHLIRUZ_VERSION_PATCH 3
+#define TAHLIRUZ_VERSION_PATCH 4
 
 /* Sizes that are always enough. */
 #define TAHLIRUZ_MAX_PIXELS 4096            /* the pixels of a row */
@@ -82,6 +83,12 @@ extern "C" {
 #define TAHLIRUZ_MAP_COUNT_BYTES 32768      /* their bytes, exactly: 16384 counts of 2 */
 #define TAHLIRUZ_MAX_MAP_BYTES_4 46592      /* a map of group size 4, and so any map: 4096 groups of 3 + 4 * 22 = 91 bits */
 #define TAHLIRUZ_MAX_MAP_BYTES_16 45440     /* a map of group size 16: 1024 groups of 3 + 16 * 22 = 355 bits */
+#define TAHLIRUZ_SHELF_PLACE_BYTES 32772    /* a place of a shelf, exactly: 8193 words, which hold any table */
+#define TAHLIRUZ_SHELF_BYTES 393264         /* a shelf, exactly: 12 places */
+
+/* A shelf's places: the common ones come first, then her four (party 0), then the partner's four (party 1). */
+#define TAHLIRUZ_SHELF_PLACES 12
+#define TAHLIRUZ_PARTY_PLACES 4             /* the common places, and a party's own */
 
 /* A FITS header is made of blocks, and the image begins where one ends. */
 #define TAHLIRUZ_FITS_BLOCK_BYTES 2880
@@ -105,7 +112,7 @@ enum tahliruz_number {
     TAHLIRUZ_TABLE_STRING = 2,  /* a string word of the table, which holds a codeword and its length, is wrong */
     TAHLIRUZ_TABLE_PREFIX = 3,  /* a codeword of the table equals or begins another */
     TAHLIRUZ_PIXEL = 4,         /* a pixel is below 0 or above 4095 */
-    TAHLIRUZ_ROOM = 5,          /* the lent room is smaller than this call's output */
+    TAHLIRUZ_ROOM = 5,          /* the lent room is smaller than this call's output, or the shelf is too short */
     TAHLIRUZ_WORDS_END = 6,     /* the words end before an item or within it */
     TAHLIRUZ_NO_STRING = 7,     /* no codeword stands at an item's place */
     TAHLIRUZ_STEP_OUTSIDE = 8,  /* a difference leads outside 0 to 4093 */
@@ -122,7 +129,10 @@ enum tahliruz_number {
     TAHLIRUZ_IMAGE_END = 18,    /* the image's bytes end before the row does */
     TAHLIRUZ_MAP_END = 19,      /* the map's bits end before its last group does */
     TAHLIRUZ_MAP_PIXEL = 20,    /* a 16-bit pixel of the map is not above 17, or a code 000 group has fewer than three photons */
-    TAHLIRUZ_MAP_TOTAL = 21     /* the map's counts have another sum than the total given */
+    TAHLIRUZ_MAP_TOTAL = 21,    /* the map's counts have another sum than the total given */
+    TAHLIRUZ_SHELF_FULL = 22,   /* all four places of the party are taken */
+    TAHLIRUZ_NO_TABLE = 23,     /* the place of the shelf is free */
+    TAHLIRUZ_NOT_ITS_PLACE = 24 /* the place is the other party's, or a common one to be removed, or place or party is unknown */
 };
 
 /* A number's text, in the words of the list above; "no such number" for any other. */
@@ -134,7 +144,7 @@ static inline const char *tahliruz_number_text(uint32_t number)
     case TAHLIRUZ_TABLE_STRING: return "a string word of the table, which holds a codeword and its length, is wrong";
     case TAHLIRUZ_TABLE_PREFIX: return "a codeword of the table equals or begins another";
     case TAHLIRUZ_PIXEL: return "a pixel is below 0 or above 4095";
-    case TAHLIRUZ_ROOM: return "the lent room is smaller than this call's output";
+    case TAHLIRUZ_ROOM: return "the lent room is smaller than this call's output, or the shelf is too short";
     case TAHLIRUZ_WORDS_END: return "the words end before an item or within it";
     case TAHLIRUZ_NO_STRING: return "no codeword stands at an item's place";
     case TAHLIRUZ_STEP_OUTSIDE: return "a difference leads outside 0 to 4093";
@@ -155,6 +165,10 @@ static inline const char *tahliruz_number_text(uint32_t number)
     case TAHLIRUZ_MAP_PIXEL:
         return "a 16-bit pixel of the map is not above 17, or a code 000 group has fewer than three photons";
     case TAHLIRUZ_MAP_TOTAL: return "the map's counts have another sum than the total given";
+    case TAHLIRUZ_SHELF_FULL: return "all four places of the party are taken";
+    case TAHLIRUZ_NO_TABLE: return "the place of the shelf is free";
+    case TAHLIRUZ_NOT_ITS_PLACE:
+        return "the place is the other party's, or a common one to be removed, or place or party is unknown";
     default: return "no such number";
     }
 }
@@ -683,6 +697,137 @@ struct tahliruz_answer tahliruz_read_map(uint32_t group,
 struct tahliruz_answer tahliruz_write_map(uint32_t group,
                                           const uint8_t *counts, size_t counts_len,
                                           uint8_t *out, size_t out_len);
+
+/*
+ * ---- A shelf of tables ----
+ *
+ * Two parties, she (0) and the partner (1), keep tables on one shelf, lent memory
+ * of 12 places of 8193 words, 393264 bytes; bytes after them are not looked at and
+ * stay as they are. Places 0 to 3 are common: opening the shelf fills them, both
+ * parties may use them, and no put or removal changes them. Places 4 to 7 are hers,
+ * 8 to 11 the partner's: each may put, use and remove tables there, and no put,
+ * removal or use of the other's looks at them.
+ *
+ * A place begins at byte 32772 * place. It holds a table and then zeros, or zeros
+ * alone, as these calls write it. It is free where its third word, tableSize, is
+ * 0, whatever its other words are. A use takes as many words of it as that word
+ * says, 6 + tableSize, and looks at none after them. The shelf is bytes like any
+ * other: the calls answer for any content of it. A spoilt table keeps its place
+ * taken unless its tableSize is 0; a use checks it like any other table and is
+ * refused 1, 2 or 3 where the check refuses it; a tableSize above 8187 is 1.
+ *
+ * All that a call answers and writes depends on the call, the common places and
+ * the party's own alone, whatever the other party's calls were, until the shelf is
+ * opened anew. The party is what the caller says it is: nothing here stops a
+ * program that holds the shelf from naming the other party, or from reading and
+ * writing the bytes itself, and opening, by anyone, frees all eight places.
+ *
+ * Nothing here keeps two calls apart that are made at once from two threads: one
+ * that writes the shelf (open, put, remove) may run beside no other on it. A table
+ * that is put or opened with must lie elsewhere than on that shelf, since the
+ * shelf is lent for writing: copy it first.
+ *
+ * Party and place have 32 bits, all of which count. A refusal leaves the shelf,
+ * and what else is lent, as it was.
+ */
+
+/*
+ * Opens a shelf: writes the four tables to places 0 to 3 and leaves all other
+ * places free.
+ *
+ *   table0 to table3   the common tables, each with its length in bytes; they may
+ *           be the same bytes
+ *   shelf   lent for writing: shelf_len bytes, of which 393264 are needed
+ *
+ * Numbers, in this order:
+ *   1, 2, 3  table0, as in tahliruz_check; then table1; then table2; then table3
+ *   5        shelf_len is below 393264
+ *   0        done
+ *
+ * Count: the bytes written, 393264. What the shelf held is gone, hers and the
+ * partner's tables too.
+ */
+struct tahliruz_answer tahliruz_shelf_open(const uint8_t *table0, size_t table0_len,
+                                           const uint8_t *table1, size_t table1_len,
+                                           const uint8_t *table2, size_t table2_len,
+                                           const uint8_t *table3, size_t table3_len,
+                                           uint8_t *shelf, size_t shelf_len);
+
+/* What putting and removing a table answer: the number, and the place that changed. */
+struct tahliruz_changed {
+    uint32_t number;
+    uint32_t place;     /* 4 to 11; 0 in a refusal */
+};
+
+/*
+ * Puts a table to the lowest free place of the party's four.
+ *
+ *   shelf   lent for writing: shelf_len bytes
+ *   party   0 or 1
+ *   table   the table, table_len bytes
+ *
+ * Numbers, in this order:
+ *   5        shelf_len is below 393264
+ *   24       party is neither 0 nor 1
+ *   1, 2, 3  the table, as in tahliruz_check
+ *   22       all four places of the party are taken
+ *   0        done
+ *
+ * Done, the table and then zeros are in all 32772 bytes of the place that is
+ * answered, and no other byte has changed.
+ */
+struct tahliruz_changed tahliruz_shelf_put(uint8_t *shelf, size_t shelf_len,
+                                           uint32_t party,
+                                           const uint8_t *table, size_t table_len);
+
+/*
+ * Removes the table from a place of the party's own.
+ *
+ *   shelf   lent for writing: shelf_len bytes
+ *   party   0 or 1
+ *   place   4 to 7 for party 0, 8 to 11 for party 1
+ *
+ * Numbers, in this order:
+ *   5   shelf_len is below 393264
+ *   24  party is neither 0 nor 1, or the place is not among the party's four
+ *   23  the place is free
+ *   0   done
+ *
+ * The table itself is not judged. Done, all 32772 bytes of the place are 0, and
+ * no other byte has changed.
+ */
+struct tahliruz_changed tahliruz_shelf_remove(uint8_t *shelf, size_t shelf_len,
+                                              uint32_t party, uint32_t place);
+
+/*
+ * Packs a row, unpacks one, or answers the room question, under the table of a
+ * place: as tahliruz_pack, tahliruz_unpack and tahliruz_room do under that table.
+ *
+ *   shelf   the shelf, shelf_len bytes
+ *   party   0 or 1
+ *   place   0 to 3 for both, 4 to 7 for party 0, 8 to 11 for party 1
+ *   and what the call of that name takes after its table
+ *
+ * Numbers, in this order:
+ *   5   shelf_len is below 393264
+ *   24  party is neither 0 nor 1, or the place is neither common nor the party's
+ *   23  the place is free
+ *   then those of tahliruz_pack, tahliruz_unpack or tahliruz_room, in their order:
+ *   1, 2, 3 for the place's table first
+ *
+ * Count, bit place and what is written: as in those calls.
+ */
+struct tahliruz_answer tahliruz_shelf_pack(const uint8_t *shelf, size_t shelf_len,
+                                           uint32_t party, uint32_t place,
+                                           const uint8_t *pixels, size_t pixels_len,
+                                           uint8_t *words, size_t words_len);
+struct tahliruz_unpacked tahliruz_shelf_unpack(const uint8_t *shelf, size_t shelf_len,
+                                               uint32_t party, uint32_t place,
+                                               const uint8_t *words, size_t words_len,
+                                               uint64_t n,
+                                               uint8_t *pixels, size_t pixels_len);
+struct tahliruz_answer tahliruz_shelf_room(const uint8_t *shelf, size_t shelf_len,
+                                           uint32_t party, uint32_t place, uint64_t n);
 
 /*
  * ---- A scan from a stream ----

@@ -1,7 +1,8 @@
 /*
  * The stack that each call takes, on the inputs that take most: a table of 8190 strings of up to 27 bits, a row of 4096
- * pixels, a record of each kind, a FITS header of ten blocks, maps whose counts all take 22 bits. A call runs on a thread whose
- * stack was painted before; what is no longer painted was used. It fails where a call takes more than the header asks for.
+ * pixels, a record of each kind, a FITS header of ten blocks, maps whose counts all take 22 bits, a shelf of such tables. A call
+ * runs on a thread whose stack was painted before; what is no longer painted was used. It fails where a call takes more than the
+ * header asks for.
  * With an argument it prints the bytes of each call.
  */
 #define _POSIX_C_SOURCE 200809L
@@ -24,6 +25,7 @@ static uint8_t table[TAHLIRUZ_MAX_TABLE_BYTES], pixels[2 * PIXELS], words[4 * TA
 static uint8_t record[TAHLIRUZ_MAX_RECORD_BYTES], content[TAHLIRUZ_MAX_CONTENT_BYTES];
 static uint8_t fits[TAHLIRUZ_FITS_HEADER_BYTES], image[2 * PIXELS];
 static uint8_t counts[TAHLIRUZ_MAP_COUNT_BYTES], counts_read[TAHLIRUZ_MAP_COUNT_BYTES], map[TAHLIRUZ_MAX_MAP_BYTES_4];
+static uint8_t shelf[TAHLIRUZ_SHELF_BYTES];
 static size_t record_len;
 
 static void put_word(size_t i, uint32_t w)
@@ -147,6 +149,29 @@ static void write_map_4(void) { write_map(4); }
 static void read_map_4(void) { read_map(4); }
 static void write_map_16(void) { write_map(16); }
 static void read_map_16(void) { read_map(16); }
+/* The table in all common places, and in the partner's last: each put takes the next one. */
+static void shelf_open(void)
+{
+    expect("shelf_open", tahliruz_shelf_open(table, sizeof table, table, sizeof table, table, sizeof table, table, sizeof table,
+                                             shelf, sizeof shelf).number);
+}
+static void shelf_put(void)
+{
+    for (int i = 0; i < TAHLIRUZ_PARTY_PLACES; i++)
+        expect("shelf_put", tahliruz_shelf_put(shelf, sizeof shelf, 1, table, sizeof table).number);
+}
+static void shelf_room(void) { expect("shelf_room", tahliruz_shelf_room(shelf, sizeof shelf, 1, 11, PIXELS).number); }
+static void shelf_pack(void)
+{
+    expect("shelf_pack",
+           tahliruz_shelf_pack(shelf, sizeof shelf, 1, 11, pixels, sizeof pixels, words, sizeof words).number);
+}
+static void shelf_unpack(void)
+{
+    expect("shelf_unpack", tahliruz_shelf_unpack(shelf, sizeof shelf, 1, 11, words, sizeof words, PIXELS, content,
+                                                 sizeof content).number);
+}
+static void shelf_remove(void) { expect("shelf_remove", tahliruz_shelf_remove(shelf, sizeof shelf, 1, 11).number); }
 static void write_table(void) { write_kind(1, table, sizeof table); }
 static void write_packed(void) { write_kind(2, pixels, sizeof pixels); }
 static void write_plain(void) { write_kind(3, pixels, sizeof pixels); }
@@ -172,7 +197,9 @@ static const struct {
     { "read a plain row", read_plain }, { "write a line", write_line }, { "judge a line", judge_line },
     { "read a line", read_line }, { "fits_header", fits_header }, { "fits_row", fits_row },
     { "write a map of 4", write_map_4 }, { "read a map of 4", read_map_4 }, { "write a map of 16", write_map_16 },
-    { "read a map of 16", read_map_16 },
+    { "read a map of 16", read_map_16 }, { "shelf_open", shelf_open }, { "shelf_put", shelf_put },
+    { "shelf_room", shelf_room }, { "shelf_pack", shelf_pack }, { "shelf_unpack", shelf_unpack },
+    { "shelf_remove", shelf_remove },
 };
 
 static void *run(void *call)

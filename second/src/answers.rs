@@ -44,6 +44,15 @@ impl Unpacked {
     }
 }
 
+/// A place of a shelf that a table was put to or removed from; 0 beside a
+/// refusal.
+#[repr(C)]
+#[derive(Clone, Copy, PartialEq, Eq, Debug, Default)]
+pub struct Changed {
+    pub number: u32,
+    pub place: u32,
+}
+
 /// A signed adaptive number and the bytes that it was read from.
 #[repr(C)]
 #[derive(Clone, Copy, PartialEq, Eq, Debug, Default)]
@@ -183,6 +192,7 @@ mod tests {
     #[test]
     fn fields_stand_where_c_has_them() {
         assert_eq!([size_of::<Answer>(), offset_of!(Answer, count)], [8, 4]);
+        assert_eq!([size_of::<Changed>(), offset_of!(Changed, place)], [8, 4]);
         let unpacked =
             [offset_of!(Unpacked, count), offset_of!(Unpacked, at), size_of::<Unpacked>()];
         assert_eq!(unpacked, [4, 8, 12]);

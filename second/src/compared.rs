@@ -10,6 +10,8 @@ mod records;
 mod rows;
 #[cfg(feature = "sheets")]
 mod scans;
+#[cfg(feature = "sheets")]
+mod shelves;
 mod stopped;
 mod walk;
 
@@ -25,6 +27,8 @@ pub use records::{Place, Writing};
 pub use rows::{check, pack, plain_table, room, unpack};
 #[cfg(feature = "sheets")]
 pub use scans::{ScanHeader, ScanRow};
+#[cfg(feature = "sheets")]
+pub use shelves::{ShelfCall, Shelves};
 pub use stopped::check_stopped;
 pub use walk::walk;
 

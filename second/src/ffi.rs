@@ -8,6 +8,8 @@ mod items;
 mod maps;
 #[cfg(feature = "sheets")]
 mod sheets;
+#[cfg(feature = "sheets")]
+mod shelf;
 
 use std::ptr;
 
@@ -22,6 +24,8 @@ pub use items::*;
 pub use maps::*;
 #[cfg(feature = "sheets")]
 pub use sheets::*;
+#[cfg(feature = "sheets")]
+pub use shelf::*;
 
 extern "C" {
     fn tahliruz_check(table: *const u8, table_len: usize) -> Answer;

@@ -13,4 +13,5 @@ pub mod rows;
 pub mod runs;
 pub mod scans;
 pub mod sheets;
+pub mod shelves;
 pub mod tables;

@@ -143,7 +143,12 @@ impl Lent {
     /// Whether nothing but the first `count` lent bytes differs, guards
     /// included.
     pub fn same_after(&self, other: &Lent, count: usize) -> bool {
-        let (start, end) = (self.lent.start, self.lent.start + count);
+        self.same_outside(other, 0..count)
+    }
+
+    /// Whether nothing but these of the lent bytes differ, guards included.
+    pub fn same_outside(&self, other: &Lent, range: Range<usize>) -> bool {
+        let (start, end) = (self.lent.start + range.start, self.lent.start + range.end);
         let (these, others) = (self.whole.bytes(), other.whole.bytes());
         these[..start] == others[..start] && these[end..] == others[end..]
     }

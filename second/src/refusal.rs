@@ -49,6 +49,13 @@ pub const MAP_END: u32 = 19;
 pub const MAP_PIXEL: u32 = 20;
 /// The photons of a map are not as many as the total says.
 pub const MAP_TOTAL: u32 = 21;
+/// All four places of the party are taken.
+pub const SHELF_FULL: u32 = 22;
+/// The place of the shelf is free.
+pub const NO_TABLE: u32 = 23;
+/// Not this party's place, a common one to be removed, or an unknown party or
+/// place.
+pub const NOT_ITS_PLACE: u32 = 24;
 
 /// Whether a refusal says where the reading of a row stopped.
 pub fn has_place(number: u32) -> bool {

@@ -1,12 +1,13 @@
 //! How often each call of the library gave each number.
 
-use crate::refusal::{has_place, MAP_TOTAL};
+use crate::refusal::{has_place, NOT_ITS_PLACE};
 
-const NUMBERS: usize = MAP_TOTAL as usize + 1;
+const NUMBERS: usize = NOT_ITS_PLACE as usize + 1;
 
 /// The calls, and for each the numbers that it can give. Those on maps are
-/// counted by their group size: the numbers must be reached at each.
-const CALLS: [(&str, &[usize]); 22] = [
+/// counted by their group size: the numbers must be reached at each. Those on a
+/// shelf that is too short are counted apart.
+const CALLS: [(&str, &[usize]); 34] = [
     ("check", &[0, 1, 2, 3]),
     ("plain_table", &[0, 5]),
     ("pack", &[0, 1, 2, 3, 4, 5, 11]),
@@ -29,10 +30,22 @@ const CALLS: [(&str, &[usize]); 22] = [
     ("write_map 4", &[0, 5, 14]),
     ("write_map 16", &[0, 5, 14]),
     ("write_map other", &[14]),
+    ("shelf_open", &[0, 1, 2, 3]),
+    ("shelf_put", &[0, 1, 2, 3, 22, 24]),
+    ("shelf_remove", &[0, 23, 24]),
+    ("shelf_pack", &[0, 1, 2, 3, 4, 5, 11, 23, 24]),
+    ("shelf_unpack", &[0, 1, 2, 3, 5, 6, 7, 8, 9, 10, 11, 23, 24]),
+    ("shelf_room", &[0, 1, 2, 3, 11, 23, 24]),
+    ("shelf_open short", &[1, 2, 3, 5]),
+    ("shelf_put short", &[5]),
+    ("shelf_remove short", &[5]),
+    ("shelf_pack short", &[5]),
+    ("shelf_unpack short", &[5]),
+    ("shelf_room short", &[5]),
 ];
 
 /// The calls that say where the reading of a row stopped.
-const PLACED: [&str; 3] = ["unpack", "judge_record", "read_record"];
+const PLACED: [&str; 4] = ["unpack", "judge_record", "read_record", "shelf_unpack"];
 
 /// The numbers with which this call gives a place.
 fn with_place(call: usize) -> impl Iterator<Item = usize> {
@@ -46,11 +59,19 @@ fn index_of(call: &str) -> usize {
     index.unwrap_or_else(|| panic!("{call} is not in the list"))
 }
 
-#[derive(Default)]
+type Counts = [[u64; NUMBERS]; CALLS.len()];
+
 pub struct Tally {
-    counts: [[u64; NUMBERS]; CALLS.len()],
+    counts: Counts,
     /// Of these, the refusals with a place above 0.
-    above: [[u64; NUMBERS]; CALLS.len()],
+    above: Counts,
+}
+
+impl Default for Tally {
+    fn default() -> Tally {
+        let none = [[0; NUMBERS]; CALLS.len()];
+        Tally { counts: none, above: none }
+    }
 }
 
 impl Tally {
@@ -84,7 +105,7 @@ impl Tally {
             let above: String = above.collect();
             let places = if above.is_empty() { "" } else { "; with a place above 0" };
             let total: u64 = self.counts[call].iter().sum();
-            format!("{:<15} {total:>9} calls;{given}{places}{above}\n", CALLS[call].0)
+            format!("{:<18} {total:>9} calls;{given}{places}{above}\n", CALLS[call].0)
         };
         (0..CALLS.len()).filter(|&call| self.is_used(call)).map(line).collect()
     }
@@ -124,8 +145,8 @@ mod tests {
         let missed = tally.missed(&["read_signed", "write_signed"]);
         assert_eq!(missed, ["read_signed 0", "read_signed 13", "write_signed 5"]);
         let all: usize = CALLS.iter().map(|(_, numbers)| numbers.len()).sum();
-        // 6 to 10 of three calls are to be reached with a place too.
-        assert_eq!(tally.missed_of_all().len(), all + 15 - 2);
+        // 6 to 10 of four calls are to be reached with a place too.
+        assert_eq!(tally.missed_of_all().len(), all + 20 - 2);
         assert!(tally.text().contains("2 calls; 0: 0 12: 2 13: 0\n"));
     }
 

@@ -12,6 +12,7 @@ use row_format::RowUnpacked;
 use sheet_format::RecordRead;
 use sheet_format::RecordWritten;
 use sheet_format::SheetState;
+use shelf_format::PlaceChanged;
 ghost use mathlib.Core.Path.{_≡_};
 ghost use Rattle.answer.specs.Outcome.{outcome};
 ghost use Rattle.row_format.specs.Calls.{checked, packed, unpacked, room};
@@ -24,6 +25,7 @@ ghost use Rattle.sheet_format.specs.Writing.{recordWritten};
 ghost use Rattle.fits_format.specs.Header.{headerRead};
 ghost use Rattle.fits_format.specs.Image.{imageRow};
 ghost use Rattle.map_format.specs.Calls.{mapRead, mapWritten};
+ghost use Rattle.shelf_format.specs.Calls.{shelfOpened, shelfPut, shelfRemoved, shelfPacked, shelfUnpacked, shelfRoom};
 
 #[no_mangle]
 pub extern "C" fn tahliruz_check(table: &[u8]) -> Answer
@@ -192,4 +194,68 @@ pub extern "C" fn tahliruz_write_map(group: u32, counts: &[u8], out: &mut [u8]) 
     ensures { λ r. ⌜ outcome r (now (out .exit)) ≡ mapWritten group (now (counts .entry)) (now (out .entry)) ⌝ }
 {
     mat_map::write_map(group, counts, out)
+}
+
+#[no_mangle]
+pub extern "C" fn tahliruz_shelf_open(
+    table0: &[u8],
+    table1: &[u8],
+    table2: &[u8],
+    table3: &[u8],
+    shelf: &mut [u8],
+) -> Answer
+    ensures { λ r. ⌜ outcome r (now (shelf .exit)) ≡ shelfOpened (now (table0 .entry)) (now (table1 .entry)) (now (table2 .entry))
+        (now (table3 .entry)) (now (shelf .entry)) ⌝ }
+{
+    table_shelf::open::open(table0, table1, table2, table3, shelf)
+}
+
+#[no_mangle]
+pub extern "C" fn tahliruz_shelf_put(shelf: &mut [u8], party: u32, table: &[u8]) -> PlaceChanged
+    ensures { λ r. ⌜ outcome r (now (shelf .exit)) ≡ shelfPut (now (shelf .entry)) party (now (table .entry)) ⌝ }
+{
+    table_shelf::put::put(shelf, party, table)
+}
+
+#[no_mangle]
+pub extern "C" fn tahliruz_shelf_remove(shelf: &mut [u8], party: u32, place: u32) -> PlaceChanged
+    ensures { λ r. ⌜ outcome r (now (shelf .exit)) ≡ shelfRemoved (now (shelf .entry)) party place ⌝ }
+{
+    table_shelf::remove::remove(shelf, party, place)
+}
+
+#[no_mangle]
+pub extern "C" fn tahliruz_shelf_pack(
+    shelf: &[u8],
+    party: u32,
+    place: u32,
+    pixels: &[u8],
+    words: &mut [u8],
+) -> Answer
+    ensures { λ r. ⌜ outcome r (now (words .exit)) ≡ shelfPacked (now (shelf .entry)) party place (now (pixels .entry))
+        (now (words .entry)) ⌝ }
+{
+    table_shelf::row::pack(shelf, party, place, pixels, words)
+}
+
+#[no_mangle]
+pub extern "C" fn tahliruz_shelf_unpack(
+    shelf: &[u8],
+    party: u32,
+    place: u32,
+    words: &[u8],
+    n: u64,
+    pixels: &mut [u8],
+) -> RowUnpacked
+    ensures { λ r. ⌜ outcome r (now (pixels .exit)) ≡ shelfUnpacked (now (shelf .entry)) party place (now (words .entry)) n
+        (now (pixels .entry)) ⌝ }
+{
+    table_shelf::row::unpack(shelf, party, place, words, n, pixels)
+}
+
+#[no_mangle]
+pub extern "C" fn tahliruz_shelf_room(shelf: &[u8], party: u32, place: u32, n: u64) -> Answer
+    ensures { λ r. ⌜ r ≡ shelfRoom (now (shelf .entry)) party place n ⌝ }
+{
+    table_shelf::row::room(shelf, party, place, n)
 }

@@ -16,6 +16,8 @@ mod maps;
 mod rows;
 #[cfg(feature = "sheets")]
 mod scans;
+#[cfg(feature = "sheets")]
+mod shelves;
 #[cfg(feature = "rows")]
 mod sizes;
 mod timing;
@@ -36,6 +38,7 @@ fn main() {
     {
         scans::print();
         maps::print();
+        shelves::print();
         // The programs' folder, where it is given.
         if let Some(folder) = std::env::args_os().nth(1) {
             desk::print(folder.as_ref());

@@ -18,6 +18,7 @@ mod records;
 mod rows;
 mod scans;
 mod scene;
+mod shelves;
 mod values;
 
 use std::process::ExitCode;
@@ -87,6 +88,10 @@ fn fuzz(first: u64, end: Instant, tally: &mut Tally) -> Outcome<()> {
 }
 
 fn one_call(random: &mut Random, scene: &Scene, tally: &mut Tally) -> Outcome<()> {
+    // Seldom: each call on a shelf compares all of its places.
+    if random.one_in(100) {
+        return shelves::calls(random, scene, tally);
+    }
     match random.below(24) {
         0 => rows::check(random, scene, tally),
         1 => rows::plain_table(random, tally),

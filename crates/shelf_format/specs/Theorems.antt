@@ -2,25 +2,26 @@
 -- p and q are parties and i is a place, of any value; tb, pb and wb are the bytes of a table, of pixels and of words, and m is the memory
 -- lent for a row. A table is accepted where its number is 0. Assumes nothing.
 use Prim.Native.Nat.{ℕ, suc, _+_, _*_, _/_, _≤_, _<_}
-use mathlib.Core.Path.{_≡_, refl, sym, _∙_}
+use mathlib.Core.Path.{_≡_, refl, sym, ap, _∙_}
 use mathlib.Core.Bool.{true, false}
 use mathlib.Core.List.{List, [], _∷_, _++_}
 use mathlib.Core.Logic.{_↔_}
 use lib.ListN.{length, take, getD, replicate}
 use lib.Dec.{eqb}
+use Rattle.answer.specs.declared.Answer.{Answer}
 use Rattle.answer.specs.Outcome.{refusal, _orElse_, Kept, Within}
 use Rattle.bitstream.specs.Bits.{wordsOf, halvesOf, wordsFor, Below}
 use Rattle.row_format.specs.Lists.{any}
 use Rattle.row_format.specs.Table.{tableSize, tableNumber, maxItemBits}
 use Rattle.row_format.specs.Calls.{rowRefusal, rowWrote}
 use Rattle.answer.specs.Outcome.Laws.{orElse-zero-left}
-use Rattle.shelf_format.specs.Shelf.{shelfBytes, place, placed, filled, isFree, tableIn, isParty, isCommon, isOwn, isSeen, mayUse, SameView}
+use Rattle.shelf_format.specs.Shelf.{placeBytes, shelfBytes, place, placed, filled, isFree, tableIn, isParty, isCommon, isOwn, isSeen, mayUse, SameView}
 use Rattle.shelf_format.specs.Calls.{shortNumber, tablesNumber, shelfOpened, notChanged, PlaceWritten, LowestFree, shelfPut, RemovablePlace, shelfRemoved, useRefusal, UsablePlace, TableAt, shelfPacked, shelfUnpacked, shelfRoom, UseRefused, UsesTable}
 use Rattle.shelf_format.specs.Calls.Laws.{short-none}
 use Rattle.shelf_format.specs.Run.{Call, reply, afterCall, Turn, shelfAfter, repliesTo, callsOf, openedIn, repliesAlone}
 use Places.{common-exactly, own-exactly, nobody, may-exactly}
 use Numbers.{open-in, put-in, remove-in, pack-in, unpack-in, room-in-shelf}
-use Frame.{open-number, put-kept, remove-kept, open-kept, remove-wrote, open-within, pack-kept, pack-within, unpack-kept, unpack-within}
+use Frame.{open-number, open-alike, put-kept, remove-kept, open-kept, remove-wrote, open-within, pack-kept, pack-within, unpack-kept, unpack-within}
 use Put.{put-short, put-unknown, put-refused, put-full, put-room, lowest, lowest-wrote}
 use Use.{use-short, use-not-its, use-free, use-none, uses-refused, uses-table, remove-short, remove-not-its, remove-none, removable, remove-granted}
 use Use.{put-stands, remove-free, open-place, open-stands, open-free}
@@ -259,12 +260,12 @@ module _ (s : List ℕ) (p q i : ℕ) (party : isParty p ≡ true) (party′ : i
 -- ---- "no word after a table is looked at": tb has the bytes that its tableSize says, accepted or not, and whatever follows it in the
 -- place j, every call of every party gets the same
 pub after-table : (s : List ℕ) (j : ℕ) (tb r r′ : List ℕ) → length tb ≡ 24 + 4 * tableSize (wordsOf tb)
-    → length (tb ++ r) ≡ 32772 → length (tb ++ r′) ≡ 32772 → 32772 * j + 32772 ≤ length s
+    → length (tb ++ r) ≡ placeBytes → length (tb ++ r′) ≡ placeBytes → placeBytes * j + placeBytes ≤ length s
     → (q : ℕ) (c : Call) → reply (placed s j (tb ++ r)) q c ≡ reply (placed s j (tb ++ r′)) q c
 after-table = rest-unread
 
 -- the table of a place whose tableSize was spoilt, so that no place has words for it, has the number 1
-pub spoilt-size : (b : List ℕ) → length b ≡ 32772 → 8187 < tableSize (wordsOf b) → tableNumber (tableIn b) ≡ 1
+pub spoilt-size : (b : List ℕ) → length b ≡ placeBytes → 8187 < tableSize (wordsOf b) → tableNumber (tableIn b) ≡ 1
 spoilt-size = oversized
 
 -- ---- isolation, or noninterference: "Packing, unpacking and every number one party gets depend on the common places, that party's own
@@ -309,12 +310,11 @@ common-unchanged = common-kept
 -- a done opening begins the comparison anew: its answer does not depend on what a shelf held, and whatever two shelves held, they are
 -- alike to everybody after it
 module _ (t0 t1 t2 t3 s s′ : List ℕ) (long : shelfBytes ≤ length s) (long′ : shelfBytes ≤ length s′) where
-  pub opened-number : shelfOpened t0 t1 t2 t3 s .answer .number ≡ shelfOpened t0 t1 t2 t3 s′ .answer .number
-  opened-number =
-      open-number t0 t1 t2 t3 s ∙ rw (short-none s long, ← short-none s′ long′) (sym (open-number t0 t1 t2 t3 s′))
+  pub opened-answer : shelfOpened t0 t1 t2 t3 s .answer ≡ shelfOpened t0 t1 t2 t3 s′ .answer
+  opened-answer = open-alike t0 t1 t2 t3 s s′ long long′
 
   pub opened-alike : shelfOpened t0 t1 t2 t3 s .answer .number ≡ 0
       → (p : ℕ) → SameView p (shelfOpened t0 t1 t2 t3 s .memory) (shelfOpened t0 t1 t2 t3 s′ .memory)
   opened-alike done p =
       alike-twelve p (shelfOpened t0 t1 t2 t3 s .memory) (shelfOpened t0 t1 t2 t3 s′ .memory)
-      (λ i few. open-place t0 t1 t2 t3 s done i few ∙ sym (open-place t0 t1 t2 t3 s′ (sym opened-number ∙ done) i few))
+      (λ i few. open-place t0 t1 t2 t3 s done i few ∙ sym (open-place t0 t1 t2 t3 s′ (sym (ap (λ (a : Answer). a .number) opened-answer) ∙ done) i few))

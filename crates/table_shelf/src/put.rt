@@ -1,4 +1,5 @@
 // Putting a table. Refusals: 5, 24, 1, 2, 3, 22.
+use crate::changed::not_changed;
 use crate::fill::fill_place;
 use crate::place::is_free;
 use crate::table::table_number;
@@ -10,7 +11,7 @@ ghost use Prim.Native.Nat.{_≤_};
 ghost use lib.ListN.{length};
 ghost use Rattle.answer.specs.Outcome.{outcome, _orElse_};
 ghost use Rattle.shelf_format.specs.Shelf.{isParty, view};
-ghost use Rattle.shelf_format.specs.Calls.{shortNumber, notChanged, firstFree, offerNumber, shelfPut};
+ghost use Rattle.shelf_format.specs.Calls.{shortNumber, firstFree, offerNumber, shelfPut};
 
 // Puts the table to the lowest free place of the party's four. The answer is the number and that place.
 pub fn put(shelf: &mut [u8], party: u32, table: &[u8]) -> PlaceChanged
@@ -57,11 +58,4 @@ fn first_free(shelf: &[u8], party: u32) -> u32
         k += 1;
     }
     4
-}
-
-// What a refused call that would change a place answers.
-pub fn not_changed(number: u32) -> PlaceChanged
-    ensures { λ r. ⌜ r ≡ notChanged number ⌝ }
-{
-    PlaceChanged { number, place: 0 }
 }

@@ -1,8 +1,8 @@
 // Removing a table. Refusals: 5, 24, 23; the table itself is not judged.
+use crate::changed::not_changed;
 use crate::fill::fill_place;
 use crate::party::is_own;
 use crate::place::held_number;
-use crate::put::not_changed;
 use shelf_format::PlaceChanged;
 ghost use mathlib.Core.Path.{_≡_};
 ghost use Rattle.answer.specs.Outcome.{outcome};

@@ -5,8 +5,8 @@ use mathlib.Core.Path.{_≡_, refl, sym, ap, _∙_}
 use mathlib.Core.List.{List, [], _∷_, _++_}
 use lib.ListN.{length, replicate}
 use Rattle.answer.specs.declared.Answer.{Answer}
-use Rattle.answer.specs.Outcome.{Outcome, outcome, answerOf, refusal, refused, wrote, _orElse_, Kept, Within}
-use Rattle.answer.specs.Outcome.Laws.{unless-in, unless-kept, unless-number, lessNumber-zero, orElse-zero-left, orElse-zero-right, writes-within}
+use Rattle.answer.specs.Outcome.{Outcome, outcome, answerOf, refusal, refused, wrote, _orElse_, unless, Kept, Within}
+use Rattle.answer.specs.Outcome.Laws.{unless-in, unless-kept, unless-part, unless-number, lessNumber-zero, orElse-zero-left, orElse-zero-right, writes-within}
 use Rattle.bitstream.specs.Bits.{wordsFor}
 use Rattle.row_format.specs.declared.RowUnpacked.{RowUnpacked}
 use Rattle.row_format.specs.Calls.{packed, rowRefusal, unpacked}
@@ -16,7 +16,7 @@ use Rattle.shelf_format.specs.declared.PlaceChanged.{PlaceChanged}
 use Rattle.shelf_format.specs.Shelf.{shelfBytes, filled, tableIn, isOwn, view}
 use Rattle.shelf_format.specs.Shelf.Laws.{own, own-inside, length-filled, table-bytes, length-placed, place-same, before-placed, behind-placed}
 use Rattle.shelf_format.specs.Calls.{shortNumber, tablesNumber, shelved, shelfOpened, notChanged, changed, PlaceWritten, firstFree, putPlace, putRefusal, shelfPut, removeRefusal, shelfRemoved, useRefusal, shelfPacked, shelfUnpacked}
-use Rattle.shelf_format.specs.Calls.Laws.{put-granted, held, first-own, length-opened}
+use Rattle.shelf_format.specs.Calls.Laws.{put-granted, held, first-own, short-none, length-opened}
 
 -- ---- the numbers that refuse
 pub put-number : (s : List ℕ) (p : ℕ) (tb : List ℕ) → shelfPut s p tb .answer .number ≡ putRefusal s p tb
@@ -40,6 +40,23 @@ module _ (t0 t1 t2 t3 s : List ℕ) where
   open-number =
       unless-number (λ (o : Outcome Answer). o .answer .number) (λ e. refused e s)
       (wrote shelfBytes (shelved (tables ++ replicate 8 [])) s) (λ k. refl) (tablesNumber tables orElse shortNumber s) refl
+
+-- what an opening answers does not depend on what the shelf held
+open-answer : (t0 t1 t2 t3 s : List ℕ)
+    → shelfOpened t0 t1 t2 t3 s .answer
+    ≡ unless (tablesNumber (t0 ∷ t1 ∷ t2 ∷ t3 ∷ []) orElse shortNumber s) refusal (answerOf 0 shelfBytes)
+unfolding shelfOpened
+open-answer t0 t1 t2 t3 s =
+    unless-part (λ (o : Outcome Answer). o .answer) (tablesNumber (t0 ∷ t1 ∷ t2 ∷ t3 ∷ []) orElse shortNumber s) (λ e. refused e s)
+    (wrote shelfBytes (shelved ((t0 ∷ t1 ∷ t2 ∷ t3 ∷ []) ++ replicate 8 [])) s)
+
+pub open-alike : (t0 t1 t2 t3 s s′ : List ℕ) → shelfBytes ≤ length s → shelfBytes ≤ length s′
+    → shelfOpened t0 t1 t2 t3 s .answer ≡ shelfOpened t0 t1 t2 t3 s′ .answer
+open-alike t0 t1 t2 t3 s s′ long long′ =
+    open-answer t0 t1 t2 t3 s
+    ∙ ap (λ (e : ℕ). unless (tablesNumber (t0 ∷ t1 ∷ t2 ∷ t3 ∷ []) orElse e) refusal (answerOf 0 shelfBytes))
+    (short-none s long ∙ sym (short-none s′ long′))
+    ∙ sym (open-answer t0 t1 t2 t3 s′)
 
 -- ---- refused
 pub put-kept : (s : List ℕ) (p : ℕ) (tb : List ℕ) → (shelfPut s p tb .answer .number ≡ 0 → ⊥)

@@ -4,7 +4,7 @@ ghost use Rattle.adaptive.specs.Number.{front};
 ghost use Rattle.adaptive.specs.Gather.{gathered_of};
 
 // A whole number's data bits, how many different ones that many bytes can hold, and the bytes; or a refusal's number.
-#[derive(Drop)]
+#[derive(Clone, Copy)]
 pub struct Gathered {
     pub number: u32,
     pub raw: u64,

@@ -1,5 +1,7 @@
 // Adaptive-precision numbers, signed and unsigned: read from the front of some bytes, and written in the fewest bytes.
 // Document 01, "Adaptive-precision numbers"; the format is in source document 000, section 1.2.
+#![tactic(auto)]
+
 mod gather;
 mod read;
 mod sign;
@@ -10,7 +12,7 @@ pub use write::{write_signed, write_unsigned};
 
 // What reading answers: document 01's number, and where it is 0 the value and the bytes used. A refusal has 0 for both.
 #[repr(C)]
-#[derive(Drop)]
+#[derive(Clone, Copy)]
 pub struct SignedRead {
     pub number: u32,
     pub value: i32,
@@ -18,7 +20,7 @@ pub struct SignedRead {
 }
 
 #[repr(C)]
-#[derive(Drop)]
+#[derive(Clone, Copy)]
 pub struct UnsignedRead {
     pub number: u32,
     pub value: u32,

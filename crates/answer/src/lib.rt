@@ -1,8 +1,9 @@
 // What every call of the library answers. The definitions are in specs/.
+#![tactic(auto)]
 
 // A number of document 01's table, 0 for done, and a count, which is 0 for every refusal.
 #[repr(C)]
-#[derive(Drop)]
+#[derive(Clone, Copy)]
 pub struct Answer {
     pub number: u32,
     pub count: u32,
@@ -10,7 +11,7 @@ pub struct Answer {
 
 // The same where the count may be above 32 bits.
 #[repr(C)]
-#[derive(Drop)]
+#[derive(Clone, Copy)]
 pub struct LongAnswer {
     pub number: u32,
     pub count: u64,

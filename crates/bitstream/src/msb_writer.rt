@@ -10,7 +10,7 @@ use crate::shift::{above, low_bits, window};
 // words   four bytes each, stored so far
 // count   bits in the register, below 32 between calls
 // acc     the register, its last bit the lowest
-#[derive(Drop)]
+#[derive(Clone, Copy)]
 pub struct MsbWriter {
     pub words: usize,
     pub count: u32,

@@ -71,7 +71,7 @@ fn power_by_table(n: u32) -> u32
 
 // even   2 ^ (2 i)
 // odd    twice it
-#[derive(Drop)]
+#[derive(Clone, Copy)]
 struct Powers {
     even: u32,
     odd: u32,

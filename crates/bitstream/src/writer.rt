@@ -7,7 +7,7 @@ use crate::shift::above;
 // words   whole words stored so far
 // count   bits in the register, below 32 between calls
 // acc     the register, its bits from the lowest on
-#[derive(Drop)]
+#[derive(Clone, Copy)]
 pub struct Writer {
     pub words: usize,
     pub count: u32,

@@ -71,7 +71,7 @@ fn judge(words: &mut [u32], longest: u32, escape: u32) -> Answer
     }
 }
 
-// Whether the word count, table_size and low_limit are in order.
+// Whether the word count, tableSize and lowLimit are in order.
 fn well_sized(table: &[u8]) -> bool
     ensures { SizeJudged table.now result }
 {
@@ -105,7 +105,7 @@ fn well_formed(w: u32) -> bool
 }
 
 // What one pass over the string words finds.
-#[derive(Drop)]
+#[derive(Clone, Copy)]
 struct Gathered {
     ok: bool,
     longest: u32,

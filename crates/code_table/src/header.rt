@@ -1,4 +1,4 @@
-// The words of a table. Document 01, "A table": table id, low_limit, table_size, three special strings, then the entries.
+// The words of a table. Document 01, "A table": table id, lowLimit, tableSize, three special strings, then the entries.
 ghost use Rattle.std.specs.Prelude.{◌≡◌, ◌*◌, ◌/◌, ◌≤◌, ◌<◌, length, get_or};
 ghost use Rattle.bitstream.specs.Bits.{words_of};
 ghost use Rattle.row_format.specs.Table.{low_limit, table_size};

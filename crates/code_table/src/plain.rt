@@ -7,7 +7,7 @@ ghost use Rattle.code_table.specs.Plain.{plain_lent, word_bytes};
 use answer::Answer;
 use bitstream::number::put_u32;
 
-// Document 01: id 1, low_limit 3837, table_size 512, the raw, bad-pixel and bad-bias words, then 64 x i + 10 for entry i.
+// Document 01: id 1, lowLimit 3837, tableSize 512, the raw, bad-pixel and bad-bias words, then 64 x i + 10 for entry i.
 const PLAIN: [u32; 518] = [
     1, 3837, 512, 34, 99, 227, 10, 74, 138, 202, 266, 330, 394, 458, 522, 586, 650, 714, 778, 842,
     906, 970, 1034, 1098, 1162, 1226, 1290, 1354, 1418, 1482, 1546, 1610, 1674, 1738, 1802, 1866,

@@ -9,7 +9,7 @@ use text::same::same_bytes;
 // Input           `-`, standard input
 // Unknown         any other word that begins with `-`
 // Name            of a file
-#[derive(Drop)]
+#[derive(Clone, Copy)]
 pub enum Argument {
     Help,
     Version,

@@ -6,14 +6,14 @@ ghost use Rattle.command.specs.Option.{takes_of, role_by, role_of};
 
 use crate::argument::{Argument, argument_of};
 use crate::usage::{Values, option_values};
-use crate::word_at;
+use crate::{count_arguments, word_at};
 use text::same::same_bytes;
 
 // What a command line asks for; of several options the first decides.
 // Unknown   the place of an option that is none
 // Lacking   the place of one whose values are not all there
 // Words     nothing but what the usage has
-#[derive(Drop)]
+#[derive(Clone, Copy)]
 pub enum Asked {
     Help,
     Version,
@@ -25,7 +25,7 @@ pub enum Asked {
 // What a word is while options may still come.
 // Plain   `-`, or a name
 // Takes   an option with so many values
-#[derive(Drop)]
+#[derive(Clone, Copy)]
 pub enum Role {
     Help,
     Version,
@@ -42,7 +42,7 @@ pub enum Role {
 // value   the place of the first value of an option that is looked for, 0 where it was not there
 // count   how many plain words there were
 // word    the place of a plain word that is looked for, 0 where there were not so many
-#[derive(Drop)]
+#[derive(Clone, Copy)]
 pub struct Walk {
     pub next: usize,
     pub ended: bool,
@@ -52,27 +52,27 @@ pub struct Walk {
     pub word: usize,
 }
 
-pub fn read_options(usage: &[u8]) -> Asked {
-    walk_words(usage, b"", 0).asked
+pub fn read_options(rt: HostRuntime, usage: &[u8]) -> Asked {
+    walk_words(rt, usage, b"", 0).asked
 }
 
 // The place of an option's first value, 0 where it is not given; where it is given twice, the last counts.
-pub fn value_of(usage: &[u8], option: &[u8]) -> usize {
-    walk_words(usage, option, 0).value
+pub fn value_of(rt: HostRuntime, usage: &[u8], option: &[u8]) -> usize {
+    walk_words(rt, usage, option, 0).value
 }
 
 // How many plain words there are.
-pub fn count_words(usage: &[u8]) -> usize {
-    walk_words(usage, b"", 0).count
+pub fn count_words(rt: HostRuntime, usage: &[u8]) -> usize {
+    walk_words(rt, usage, b"", 0).count
 }
 
 // The place of plain word k, from 0 on; 0 where there is none.
-pub fn word_place(usage: &[u8], k: usize) -> usize {
-    walk_words(usage, b"", k).word
+pub fn word_place(rt: HostRuntime, usage: &[u8], k: usize) -> usize {
+    walk_words(rt, usage, b"", k).word
 }
 
-fn walk_words(usage: &[u8], option: &[u8], k: usize) -> Walk {
-    let arguments = os::arg_count();
+fn walk_words(rt: HostRuntime, usage: &[u8], option: &[u8], k: usize) -> Walk {
+    let arguments = count_arguments(rt);
     let mut at = Walk {
         next: 1,
         ended: false,
@@ -82,21 +82,28 @@ fn walk_words(usage: &[u8], option: &[u8], k: usize) -> Walk {
         word: 0,
     };
     while at.next < arguments {
-        at = walk_on(usage, option, k, at, arguments);
+        at = walk_on(rt, usage, option, k, at, arguments);
     }
     at
 }
 
 // One word more, with its values; where something else is asked for, that is the end.
-fn walk_on(usage: &[u8], option: &[u8], k: usize, at: Walk, arguments: usize) -> Walk
+fn walk_on(
+    rt: HostRuntime,
+    usage: &[u8],
+    option: &[u8],
+    k: usize,
+    at: Walk,
+    arguments: usize,
+) -> Walk
     requires next_lt_arguments { at.next < arguments }
     requires count_lt_next { at.count < at.next }
     ensures on { at.next < result.next }
     ensures counts { result.count < result.next }
 {
-    match role_at(usage, at) {
+    match role_at(rt, usage, at) {
         Role::Plain => with_word(at, k),
-        Role::Takes(values) => with_option(option, at, values, arguments),
+        Role::Takes(values) => with_option(rt, option, at, values, arguments),
         Role::End => with_end(at),
         Role::Help => stop(at, Asked::Help, arguments),
         Role::Version => stop(at, Asked::Version, arguments),
@@ -122,7 +129,7 @@ fn with_word(at: Walk, k: usize) -> Walk
 }
 
 // An option that takes so many values.
-fn with_option(option: &[u8], at: Walk, values: usize, arguments: usize) -> Walk
+fn with_option(rt: HostRuntime, option: &[u8], at: Walk, values: usize, arguments: usize) -> Walk
     requires next_lt_arguments { at.next < arguments }
     requires count_lt_next { at.count < at.next }
     ensures on { at.next < result.next }
@@ -136,7 +143,7 @@ fn with_option(option: &[u8], at: Walk, values: usize, arguments: usize) -> Walk
         next: at.next + 1 + values,
         ended: at.ended,
         asked,
-        value: if is_word(at.next, option) {
+        value: if is_word(rt, at.next, option) {
             at.next + 1
         } else {
             at.value
@@ -180,18 +187,18 @@ fn stop(at: Walk, asked: Asked, arguments: usize) -> Walk
 }
 
 // Whether the argument at place i is this word.
-fn is_word(i: usize, option: &[u8]) -> bool {
-    let mut word = io::buffer();
-    let n = word_at(i, &mut word);
+fn is_word(rt: HostRuntime, i: usize, option: &[u8]) -> bool {
+    let mut word = [0u8; 4096];
+    let n = word_at(rt, i, &mut word);
     same_bytes(&word[..n], option)
 }
 
-fn role_at(usage: &[u8], at: Walk) -> Role {
+fn role_at(rt: HostRuntime, usage: &[u8], at: Walk) -> Role {
     if at.ended {
         return Role::Plain;
     }
-    let mut word = io::buffer();
-    let n = word_at(at.next, &mut word);
+    let mut word = [0u8; 4096];
+    let n = word_at(rt, at.next, &mut word);
     role_of(usage, &word[..n])
 }
 

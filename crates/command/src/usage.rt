@@ -6,7 +6,7 @@ ghost use Rattle.command.specs.Option.Laws.{word_size, words_behind};
 use text::same::same_bytes;
 
 // How many values an option has, where it is one.
-#[derive(Drop)]
+#[derive(Clone, Copy)]
 pub enum Values {
     NoOption,
     Count(usize),

@@ -10,7 +10,7 @@ use crate::value::values_from;
 use delta_format::{FirstRepeat, FirstValue};
 
 // The number, and where it is 0 the count and the values.
-#[derive(Drop)]
+#[derive(Clone, Copy)]
 pub struct Taken {
     pub number: u32,
     pub count: u64,

@@ -13,7 +13,7 @@ use crate::value::{after_values, value_at};
 use delta_format::{FirstRepeat, FirstValue};
 
 // The number; where it is 0 the elements given, the last value in offset binary, and the next places.
-#[derive(Drop)]
+#[derive(Clone, Copy)]
 pub struct Step {
     pub number: u32,
     pub given: u64,

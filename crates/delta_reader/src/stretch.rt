@@ -10,7 +10,7 @@ use crate::put::put_good;
 use delta_format::FirstData;
 
 // The number, 0 or 28; where it is 0 the next place, the last value in offset binary, and the elements that the row still wants.
-#[derive(Drop)]
+#[derive(Clone, Copy)]
 pub struct Stretch {
     pub number: u32,
     pub at: FirstData,

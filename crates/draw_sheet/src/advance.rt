@@ -5,6 +5,7 @@ ghost use Rattle.sheet_stream.specs.Progress.{CarriedFits};
 ghost use Rattle.draw_sheet.specs.Ahead.{height_bytes, least_in, is_known, ReadTo, Onward};
 
 use crate::PROGRAM;
+use command::input::Source;
 use sheet_format::kind::is_row;
 use sheet_stream::progress::SheetProgress;
 use sheet_stream::step::take_record;
@@ -15,7 +16,7 @@ use sheet_stream::step::take_record;
 // held     how many bytes were read last: a record, or what the sheet ended with; they stand at the front of `bytes`
 // count    the bytes of that row's heights
 // at       what is carried
-#[derive(Drop)]
+#[derive(Clone, Copy)]
 pub struct Ahead {
     pub failed: bool,
     pub ended: bool,
@@ -39,7 +40,8 @@ pub fn ahead_of(failed: bool, ended: bool, held: usize, count: usize, at: SheetP
 // Reads on until row n of the sheet is known: until a row has this number or a greater one, or the sheet has ended. The index is a
 // number that no run uses up, so that the loop ends.
 pub fn advance(
-    file: i32,
+    rt: HostRuntime,
+    file: &Source,
     name: &[u8],
     bytes: &mut [u8],
     table: &mut [u8],
@@ -65,7 +67,7 @@ pub fn advance(
         if is_known(now, n) {
             return now;
         }
-        let next = take_next(file, name, bytes, table, content, now, n);
+        let next = take_next(rt, file, name, bytes, table, content, now, n);
         if next.failed {
             return next;
         }
@@ -100,7 +102,8 @@ pub fn is_last(ahead: Ahead, n: u32) -> bool
 
 // One record more, where row n is not known yet.
 fn take_next(
-    file: i32,
+    rt: HostRuntime,
+    file: &Source,
     name: &[u8],
     bytes: &mut [u8],
     table: &mut [u8],
@@ -122,7 +125,7 @@ fn take_next(
         → Onward w result bytes.new table.new content.new n }
 {
     let at = ahead.at;
-    let step = take_record(&PROGRAM, name, file, bytes, table, content, at);
+    let step = take_record(rt, &PROGRAM, name, file, bytes, table, content, at);
     let next = step.next;
     if step.failed {
         return ahead_of(true, false, 0, 0, next);

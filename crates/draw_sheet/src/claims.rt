@@ -4,13 +4,14 @@ ghost use Rattle.sheet_format.specs.Stream.{held_of};
 ghost use Rattle.draw_sheet.specs.Measure.{Claims};
 
 use crate::PROGRAM;
+use command::input::Source;
 use sheet_picture::claim::row_claimed;
 use sheet_reader::length_number;
 use sheet_stream::input::fill_record;
 
 // failed   whether reading failed, which is said on standard error
 // height   the rows that are claimed
-#[derive(Drop)]
+#[derive(Clone, Copy)]
 pub struct Claimed {
     pub failed: bool,
     pub height: u32,
@@ -19,7 +20,13 @@ pub struct Claimed {
 // The bytes that are held of the refused record stand at the front of `bytes`.
 // held    the bytes that are held of the next one
 // left    a number that no run uses up, so that the loop ends
-pub fn take_claims(file: i32, name: &[u8], bytes: &mut [u8], taken: usize) -> Claimed
+pub fn take_claims(
+    rt: HostRuntime,
+    file: &Source,
+    name: &[u8],
+    bytes: &mut [u8],
+    taken: usize,
+) -> Claimed
     requires in_bounds { 32778 ≤ length bytes.old }
     requires taken_bound { taken ≤ 32778 }
     requires bytes_value { take taken bytes.old ≡ held_of (take taken bytes.old) }
@@ -37,7 +44,7 @@ pub fn take_claims(file: i32, name: &[u8], bytes: &mut [u8], taken: usize) -> Cl
             };
         }
         height = larger(height, row_claimed(&bytes[..held]));
-        let got = fill_record(&PROGRAM, name, file, bytes);
+        let got = fill_record(rt, &PROGRAM, name, file, bytes);
         if got.failed {
             return claims_failed();
         }

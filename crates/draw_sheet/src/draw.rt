@@ -11,7 +11,9 @@ ghost use Rattle.draw_sheet.specs.Drawn.{RowPut};
 
 use crate::PROGRAM;
 use crate::advance::{Ahead, advance, ahead_of, is_last};
+use crate::output::Target;
 use crate::parts::{RowsOut, print_end, print_front, print_row};
+use command::input::Source;
 use command::say::hint;
 use png_writer::adler::{Sums, add_row, begin_sums};
 use png_writer::picture::{put_end, put_front, put_row};
@@ -21,7 +23,7 @@ use sheet_picture::size::{picture_height, picture_width};
 use sheet_stream::progress::begin;
 
 // The bytes of a row's part of the picture, and the sums with that row.
-#[derive(Drop)]
+#[derive(Clone, Copy)]
 pub struct RowPart {
     pub count: usize,
     pub sums: Sums,
@@ -36,9 +38,10 @@ pub struct RowPart {
 // bytes, table, content, out   lent memory: the record that is read, the sheet's table, what the record stores, a part of the picture
 // Where reading or writing fails, which is said on standard error, the rest is not written.
 pub fn draw_picture(
-    to: i32,
+    rt: HostRuntime,
+    to: &Target,
     to_name: &[u8],
-    file: i32,
+    file: &Source,
     name: &[u8],
     rows: u64,
     view: View,
@@ -67,11 +70,11 @@ pub fn draw_picture(
         colours,
         crcs,
     );
-    let front = print_front(to, to_name, view, counts, &out[..n]);
+    let front = print_front(rt, to, to_name, view, counts, &out[..n]);
     if front.written {
         draw_rows(
-            to, to_name, file, name, rows, front.rows, view, crcs, indices, counts, bytes, table,
-            content, out,
+            rt, to, to_name, file, name, rows, front.rows, view, crcs, indices, counts, bytes,
+            table, content, out,
         );
     }
 }
@@ -79,9 +82,10 @@ pub fn draw_picture(
 // The rows behind the front, and the end. No contract can say that reading moves the input's next bytes, fewer than asked only at its
 // end, nor which bytes were read before: that each part is of this sheet is this loop's and those of `advance`.
 fn draw_rows(
-    to: i32,
+    rt: HostRuntime,
+    to: &Target,
     to_name: &[u8],
-    file: i32,
+    file: &Source,
     name: &[u8],
     rows: u64,
     front: RowsOut,
@@ -109,14 +113,23 @@ fn draw_rows(
     let mut drawn = front;
     let mut y = 0;
     while y < height {
-        ahead = advance(file, name, bytes, table, content, ahead, y / view.times);
+        ahead = advance(rt, file, name, bytes, table, content, ahead, y / view.times);
         if ahead.failed {
             return;
         }
         let part = put_part(view, y, ahead, content, indices, counts, crcs, out, sums);
         let held = ahead.held;
         let n = part.count;
-        let printed = print_row(to, to_name, view, counts, drawn, &bytes[..held], &out[..n]);
+        let printed = print_row(
+            rt,
+            to,
+            to_name,
+            view,
+            counts,
+            drawn,
+            &bytes[..held],
+            &out[..n],
+        );
         if printed.written {
             drawn = printed.rows;
             sums = part.sums;
@@ -126,15 +139,16 @@ fn draw_rows(
         }
     }
     let n = put_end(out, sums, crcs);
-    print_end(to, to_name, view, counts, drawn, &out[..n]);
-    say_changed(name, rows, ahead);
+    print_end(rt, to, to_name, view, counts, drawn, &out[..n]);
+    say_changed(rt, name, rows, ahead);
 }
 
 // Where the sheet had another number of rows when it was measured, that is said: the picture is of neither.
-fn say_changed(name: &[u8], rows: u64, ahead: Ahead) {
+fn say_changed(rt: HostRuntime, name: &[u8], rows: u64, ahead: Ahead) {
     let at = ahead.at;
     if at.rows != rows {
         hint(
+            rt,
             &PROGRAM,
             name,
             b"the sheet is not what it was when it was read first",

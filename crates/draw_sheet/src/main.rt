@@ -1,5 +1,7 @@
 // Draws a sheet as a PNG, with a pressure mat map beside it where one is given. A sheet may have any length: it is read once for the
 // picture's size and the verdict and once to be drawn, and one record is held at a time.
+#![tactic(auto)]
+
 mod advance;
 mod claims;
 mod draw;
@@ -13,7 +15,8 @@ mod words;
 
 use command::option::{Asked, read_options};
 use command::say::{complain, print_version, refuse_lacking, refuse_option};
-use libc::{STDERR_FILENO, STDOUT_FILENO};
+use std::io;
+use std::io::Print;
 use words::draw_words;
 
 pub const PROGRAM: [u8; 10] = *b"draw_sheet";
@@ -21,40 +24,43 @@ pub const PROGRAM: [u8; 10] = *b"draw_sheet";
 // The options and their values.
 pub const USAGE: [u8; 63] = *b"-o OUT --times K --range LOW HIGH --map MAP --group G --total N";
 
-fn main() {
-    match read_options(&USAGE) {
-        Asked::Help => print_help(),
-        Asked::Version => print_program(),
-        Asked::Unknown(i) => refuse(i),
-        Asked::Lacking(i) => refuse_short(i),
-        Asked::Words => draw_words(),
+fn main(rt: HostRuntime) {
+    match read_options(rt, &USAGE) {
+        Asked::Help => print_help(rt),
+        Asked::Version => print_program(rt),
+        Asked::Unknown(i) => refuse(rt, i),
+        Asked::Lacking(i) => refuse_short(rt, i),
+        Asked::Words => draw_words(rt),
     }
 }
 
-fn print_help() {
-    if help(STDOUT_FILENO) {
-        return;
+fn print_help(rt: HostRuntime) {
+    if let Err(e) = help(&rt.stdout()) {
+        complain(rt, &PROGRAM, b"standard output", e);
     }
-    complain(&PROGRAM, b"standard output");
 }
 
-fn print_program() {
-    print_version(&PROGRAM);
+fn print_program(rt: HostRuntime) {
+    print_version(rt, &PROGRAM);
 }
 
-fn refuse(i: usize) {
-    refuse_option(&PROGRAM, i);
-    help(STDERR_FILENO);
+fn refuse(rt: HostRuntime, i: usize) {
+    refuse_option(rt, &PROGRAM, i);
+    say_help(rt);
 }
 
-fn refuse_short(i: usize) {
-    refuse_lacking(&PROGRAM, i);
-    help(STDERR_FILENO);
+fn refuse_short(rt: HostRuntime, i: usize) {
+    refuse_lacking(rt, &PROGRAM, i);
+    say_help(rt);
 }
 
-pub fn help(file: i32) -> bool {
-    io::write_all(
-        file,
+// The same on standard error.
+pub fn say_help(rt: HostRuntime) {
+    let _ = help(&rt.stderr());
+}
+
+pub fn help(to: &impl Print) -> io::Result<()> {
+    to.write_all(
         b"usage: draw_sheet [-o OUT] [--times K] [--range LOW HIGH]
                   [--map MAP --group G --total N] [FILE]
 

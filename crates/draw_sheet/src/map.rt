@@ -6,8 +6,8 @@ ghost use Rattle.text.specs.Put.{Put};
 ghost use Rattle.draw_sheet.specs.Map.{SideShown, SideRead};
 
 use crate::PROGRAM;
-use command::input::fill;
-use libc::STDERR_FILENO;
+use command::input::{Source, fill};
+use command::say::say;
 use mat_map::read_map;
 use sheet_picture::count::most_of;
 use text::line::put_refused_line;
@@ -17,14 +17,12 @@ use text::put::put_bytes;
 // beside   what stands beside the sheet: 0 nothing, 1 the counts, 2 a map that is refused
 // most     the largest count, at least 1
 // number   the number by which the map is refused, else 0
-// file     the map's descriptor, which is still open; below 0 where there is none
-#[derive(Drop)]
+#[derive(Clone, Copy)]
 pub struct MapSide {
     pub failed: bool,
     pub beside: u32,
     pub most: u32,
     pub number: u32,
-    pub file: i32,
 }
 
 pub fn side_without(failed: bool) -> MapSide
@@ -35,26 +33,32 @@ pub fn side_without(failed: bool) -> MapSide
         beside: 0,
         most: 1,
         number: 0,
-        file: -1,
     }
 }
 
 // The counts go to `counts`. 46592 bytes are enough, whatever follows them (map_format, `read-enough`, `read_more`).
-pub fn take_side(file: i32, name: &[u8], group: u32, total: u64, counts: &mut [u8]) -> MapSide
+pub fn take_side(
+    rt: HostRuntime,
+    file: &Source,
+    name: &[u8],
+    group: u32,
+    total: u64,
+    counts: &mut [u8],
+) -> MapSide
     requires { length counts.old ≡ 32768 }
     ensures { SideShown result counts.new }
 {
     let mut bytes = [0u8; 46592];
-    let filled = fill(&PROGRAM, name, file, &mut bytes);
+    let filled = fill(rt, &PROGRAM, name, file, &mut bytes);
     if filled.failed {
         return side_without(true);
     }
     let n = filled.count;
-    side_of(file, &bytes[..n], group, total, counts)
+    side_of(&bytes[..n], group, total, counts)
 }
 
 // By the map's bytes.
-fn side_of(file: i32, bytes: &[u8], group: u32, total: u64, counts: &mut [u8]) -> MapSide
+fn side_of(bytes: &[u8], group: u32, total: u64, counts: &mut [u8]) -> MapSide
     requires { length counts.old ≡ 32768 }
     ensures shown { SideShown result counts.new }
     ensures read { SideRead group bytes.now total counts.old result counts.new }
@@ -67,7 +71,6 @@ fn side_of(file: i32, bytes: &[u8], group: u32, total: u64, counts: &mut [u8]) -
             beside: 2,
             most: 1,
             number,
-            file,
         };
     }
     MapSide {
@@ -75,18 +78,17 @@ fn side_of(file: i32, bytes: &[u8], group: u32, total: u64, counts: &mut [u8]) -
         beside: 1,
         most: most_of(counts),
         number: 0,
-        file,
     }
 }
 
 // `map refused N` on standard error, where the map is.
-pub fn say_map(side: MapSide) {
+pub fn say_map(rt: HostRuntime, side: MapSide) {
     if side.number == 0 {
         return;
     }
     let mut line = [0u8; 160];
     let n = put_map_line(&mut line, side.number);
-    io::write_all(STDERR_FILENO, &line[..n]);
+    say(rt, &line[..n]);
 }
 
 fn put_map_line(out: &mut [u8], number: u32) -> usize

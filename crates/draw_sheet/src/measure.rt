@@ -7,6 +7,7 @@ ghost use Rattle.draw_sheet.specs.Measure.{width_with, PassEnds, BrokenBy, Measu
 
 use crate::PROGRAM;
 use crate::claims::{larger, take_claims};
+use command::input::Source;
 use sheet_format::kind::is_row;
 use sheet_stream::progress::begin;
 use sheet_stream::step::{SheetStep, take_record, unread};
@@ -15,7 +16,7 @@ use sheet_verdict::say_verdict;
 // failed          whether reading failed, which is said on standard error
 // width, height   the extent of the sheet, in heights
 // rows            how many rows it has before its end or its fault
-#[derive(Drop)]
+#[derive(Clone, Copy)]
 pub struct Measured {
     pub failed: bool,
     pub width: u32,
@@ -26,7 +27,7 @@ pub struct Measured {
 // How the records ended.
 // width   the most heights of a row
 // step    the last step
-#[derive(Drop)]
+#[derive(Clone, Copy)]
 pub struct Passed {
     pub width: u32,
     pub step: SheetStep,
@@ -34,7 +35,8 @@ pub struct Passed {
 
 // The extent of a sheet; the verdict goes to standard error.
 pub fn measure(
-    file: i32,
+    rt: HostRuntime,
+    file: &Source,
     name: &[u8],
     bytes: &mut [u8],
     table: &mut [u8],
@@ -46,13 +48,13 @@ pub fn measure(
     ensures within { (result.width ≤ 4096) × (result.height ≤ 65552) }
     ensures measures { result.failed ≡ false → Measures result.width result.height }
 {
-    let passed = pass_records(file, name, bytes, table, content);
+    let passed = pass_records(rt, file, name, bytes, table, content);
     let step = passed.step;
     if step.failed {
         return measured_as(true, 1, 1, 0);
     }
     let taken = step.taken;
-    say_verdict(&bytes[..taken], step);
+    say_verdict(rt, &bytes[..taken], step);
     let read = step.read;
     let at = step.next;
     let state = at.state;
@@ -65,6 +67,7 @@ pub fn measure(
         );
     }
     measure_behind(
+        rt,
         file,
         name,
         bytes,
@@ -78,7 +81,8 @@ pub fn measure(
 // The same where a record is refused, of which the bytes that are held stand at the front of `bytes`. The rows before it are at
 // most so wide, least is the number behind the last of them, and `rows` is how many they are.
 fn measure_behind(
-    file: i32,
+    rt: HostRuntime,
+    file: &Source,
     name: &[u8],
     bytes: &mut [u8],
     taken: usize,
@@ -93,7 +97,7 @@ fn measure_behind(
     ensures within { (result.width ≤ 4096) × (result.height ≤ 65552) }
     ensures behind { result.failed ≡ false → BrokenBy (take taken bytes.old) width least result }
 {
-    let claimed = take_claims(file, name, bytes, taken);
+    let claimed = take_claims(rt, file, name, bytes, taken);
     if claimed.failed {
         return measured_as(true, 1, 1, 0);
     }
@@ -121,7 +125,8 @@ fn measured_as(failed: bool, width: u32, height: u32, rows: u64) -> Measured
 // content   what the record stores
 // at        what is carried; its index is a number that no run uses up, so that the loop ends
 fn pass_records(
-    file: i32,
+    rt: HostRuntime,
+    file: &Source,
     name: &[u8],
     bytes: &mut [u8],
     table: &mut [u8],
@@ -137,7 +142,7 @@ fn pass_records(
     let mut at = begin();
     let mut width = 0;
     while at.index < u64::MAX {
-        let step = take_record(&PROGRAM, name, file, bytes, table, content, at);
+        let step = take_record(rt, &PROGRAM, name, file, bytes, table, content, at);
         if step.failed {
             return Passed { width, step };
         }

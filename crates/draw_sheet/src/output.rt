@@ -1,23 +1,51 @@
 // Where the picture goes.
+ghost use Rattle.std.specs.Prelude.{◌≤◌, length};
+
 use crate::PROGRAM;
-use command::open_output;
+use command::argument::{Argument, argument_of};
+use command::input::{Source, read_once};
 use command::say::{complain, hint};
-use libc::{SEEK_SET, STDOUT_FILENO};
+use command::{open_output, path_of};
+use sheet_stream::twice::go_to;
+use std::fs::{File, OpenOptions, metadata};
+use std::io;
+use std::io::{IsTerminal, Print, Stdout, Write};
 use text::same::same_bytes;
 
+// Standard   standard output
+// Named      a file, which is closed where it is dropped
+#[derive(Drop)]
+pub enum Target {
+    Standard(Stdout),
+    Named(File),
+}
+
 // Whether a part of the picture was written; where not, standard error says why.
-pub fn print_part(to: i32, to_name: &[u8], part: &[u8]) -> bool {
-    if io::write_all(to, part) {
-        return true;
+pub fn print_part(rt: HostRuntime, to: &Target, to_name: &[u8], part: &[u8]) -> bool {
+    match write_part(to, part) {
+        Ok(()) => true,
+        Err(e) => {
+            complain(rt, &PROGRAM, to_name, e);
+            false
+        }
     }
-    complain(&PROGRAM, to_name);
-    false
+}
+
+fn write_part(to: &Target, part: &[u8]) -> io::Result<()> {
+    match to {
+        Target::Standard(stdout) => Print::write_all(stdout, part),
+        Target::Named(file) => {
+            let mut writer = file;
+            writer.write_all(part)
+        }
+    }
 }
 
 // Whether standard output is a terminal, which is said on standard error: a picture is nothing to be read there.
-pub fn is_terminal() -> bool {
-    if libc::isatty(STDOUT_FILENO) == 1 {
+pub fn is_terminal(rt: HostRuntime) -> bool {
+    if rt.stdout().is_terminal() {
         hint(
+            rt,
             &PROGRAM,
             b"standard output",
             b"this is a terminal; -o names a file",
@@ -27,51 +55,114 @@ pub fn is_terminal() -> bool {
     false
 }
 
-// A descriptor for the picture, whose file is made or overwritten; below 0 where it is the sheet or the map, or cannot be opened,
+// Where the picture goes, a file that is made or overwritten; nothing where it is the sheet or the map, or cannot be opened,
 // which is said on standard error. What is there is held until then, so that whoever reads a named pipe waits for the picture.
-// `file` and `map`, the descriptors of the two, are left anywhere; `map` is below 0 where there is none.
-pub fn open_picture(to_name: &[u8], file: i32, map: i32) -> i32 {
-    let there = os::open_update(to_name);
-    if there < 0 {
-        return open_output(&PROGRAM, to_name);
+// `file`, the sheet of that name, and `map` are left anywhere.
+pub fn open_picture(
+    rt: HostRuntime,
+    to_name: &[u8],
+    file: &Source,
+    name: &[u8],
+    map: &Option<Source>,
+) -> Option<Target> {
+    match open_update(rt, to_name) {
+        Ok(there) => {
+            let held = Source::Named(there);
+            let to = open_free(rt, &held, to_name, file, name, map);
+            drop(held);
+            to
+        }
+        Err(_) => open_target(rt, to_name),
     }
-    let to = open_free(there, to_name, file, map);
-    libc::close(there);
-    to
 }
 
-fn open_free(there: i32, to_name: &[u8], file: i32, map: i32) -> i32 {
+// What is there, to read and write.
+fn open_update(rt: HostRuntime, name: &[u8]) -> io::Result<File> {
+    let mut how = OpenOptions::new();
+    how.read(true).write(true);
+    how.open(&rt, path_of(name)?)
+}
+
+fn open_target(rt: HostRuntime, to_name: &[u8]) -> Option<Target> {
+    match open_output(rt, &PROGRAM, to_name) {
+        Some(file) => Some(Target::Named(file)),
+        None => None,
+    }
+}
+
+fn open_free(
+    rt: HostRuntime,
+    there: &Source,
+    to_name: &[u8],
+    file: &Source,
+    name: &[u8],
+    map: &Option<Source>,
+) -> Option<Target> {
+    if is_sheet(rt, there, file, name) {
+        hint(rt, &PROGRAM, to_name, b"this is the sheet itself");
+        return None;
+    }
+    if is_map(rt, there, map) {
+        hint(rt, &PROGRAM, to_name, b"this is the map itself");
+        return None;
+    }
+    open_target(rt, to_name)
+}
+
+// Of a sheet that came from standard input `file` is a copy, from the place where standard input stood.
+fn is_sheet(rt: HostRuntime, there: &Source, file: &Source, name: &[u8]) -> bool {
     if same_from_start(there, file) {
-        hint(&PROGRAM, to_name, b"this is the sheet itself");
-        return -1;
+        return true;
     }
-    if is_map(there, map) {
-        hint(&PROGRAM, to_name, b"this is the map itself");
-        return -1;
+    if let Argument::Input = argument_of(name) {
+        return is_standard(rt, there);
     }
-    open_output(&PROGRAM, to_name)
+    false
 }
 
-fn is_map(there: i32, map: i32) -> bool {
-    if map < 0 {
-        return false;
+fn is_map(rt: HostRuntime, there: &Source, map: &Option<Source>) -> bool {
+    match map {
+        Some(Source::Standard(_)) => is_standard(rt, there),
+        Some(file) => same_from_start(there, file),
+        None => false,
     }
-    same_from_start(there, map)
 }
 
-// Whether two descriptors have the same bytes from their start. What has no place to go back to, such as a pipe, has none, and an
+// Whether standard input is a file with the same bytes, from its start: std cannot go back in it, and so the file is opened once more.
+fn is_standard(rt: HostRuntime, there: &Source) -> bool {
+    match open_standard(rt) {
+        Ok(Some(file)) => same_from_start(there, &Source::Named(file)),
+        Ok(None) => false,
+        Err(_) => false,
+    }
+}
+
+// Standard input as a file of its own, where it is one.
+fn open_standard(rt: HostRuntime) -> io::Result<Option<File>> {
+    if metadata(&rt, "/dev/stdin")?.is_file() {
+        return Ok(Some(File::open(&rt, "/dev/stdin")?));
+    }
+    Ok(None)
+}
+
+// Whether two inputs have the same bytes from their start. What has no place to go back to, such as a pipe, has none, and an
 // empty file is the same as none.
-fn same_from_start(a: i32, b: i32) -> bool {
-    if libc::lseek(a, 0, SEEK_SET) == 0 {
-        if libc::lseek(b, 0, SEEK_SET) == 0 {
+fn same_from_start(a: &Source, b: &Source) -> bool {
+    if is_begun(a) {
+        if is_begun(b) {
             return same_to_end(a, b);
         }
     }
     false
 }
 
-// Whether two descriptors have the same bytes, one at least. left is a number that no run uses up, so that the loop ends.
-fn same_to_end(a: i32, b: i32) -> bool {
+// Goes to the start.
+fn is_begun(file: &Source) -> bool {
+    go_to(file, 0).is_ok()
+}
+
+// Whether two inputs have the same bytes, one at least. left is a number that no run uses up, so that the loop ends.
+fn same_to_end(a: &Source, b: &Source) -> bool {
     let mut some = false;
     let mut left = u64::MAX;
     while 0 < left {
@@ -88,18 +179,18 @@ fn same_to_end(a: i32, b: i32) -> bool {
     false
 }
 
-// What the next bytes of two descriptors are.
-#[derive(Drop)]
+// What the next bytes of two inputs are.
+#[derive(Clone, Copy)]
 pub struct Compared {
     pub differs: bool,
     pub ends: bool,
 }
 
-fn same_block(a: i32, b: i32) -> Compared {
-    let mut x = io::buffer();
-    let mut y = io::buffer();
-    let n = io::read_full(a, &mut x);
-    let m = io::read_full(b, &mut y);
+fn same_block(a: &Source, b: &Source) -> Compared {
+    let mut x = [0u8; 4096];
+    let mut y = [0u8; 4096];
+    let n = read_full(a, &mut x);
+    let m = read_full(b, &mut y);
     if same_bytes(&x[..n], &y[..m]) {
         return Compared {
             differs: false,
@@ -110,4 +201,19 @@ fn same_block(a: i32, b: i32) -> Compared {
         differs: true,
         ends: true,
     }
+}
+
+// Reads until `bytes` is full, the input ends or a read fails, which is not said.
+fn read_full(file: &Source, bytes: &mut [u8]) -> usize
+    ensures { result ≤ length bytes.new }
+{
+    let mut count = 0;
+    while count < bytes.len() {
+        let more = read_once(file, &mut bytes[count..]).unwrap_or(0);
+        if more == 0 {
+            return count;
+        }
+        count += more;
+    }
+    count
 }

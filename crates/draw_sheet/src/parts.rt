@@ -2,19 +2,19 @@
 ghost use Rattle.std.specs.Prelude.{◌≡◌, ◌+◌, ◌<◌};
 ghost use Rattle.draw_sheet.specs.Drawn.{height_drawn, FrontOut, RowOut, EndOut};
 
-use crate::output::print_part;
+use crate::output::{Target, print_part};
 use sheet_picture::View;
 
 // The rows that went out, behind a front. Only this module makes one, so that no row is passed over.
 // next   the number of the row that comes next
-#[derive(Drop)]
+#[derive(Clone, Copy)]
 pub struct RowsOut {
     next: u32,
 }
 
 // written   whether the last part could be
 // rows      those that are out then
-#[derive(Drop)]
+#[derive(Clone, Copy)]
 pub struct Printed {
     pub written: bool,
     pub rows: RowsOut,
@@ -22,11 +22,18 @@ pub struct Printed {
 
 // Each writes a part of the picture; nothing else goes out. The view, the counts, the row's number and `held`, the bytes of the
 // record that was read last, say what the part must be; nothing else is done with them.
-pub fn print_front(to: i32, to_name: &[u8], view: View, counts: &[u8], part: &[u8]) -> Printed
+pub fn print_front(
+    rt: HostRuntime,
+    to: &Target,
+    to_name: &[u8],
+    view: View,
+    counts: &[u8],
+    part: &[u8],
+) -> Printed
     requires { FrontOut view counts.now part.now }
     ensures { result.rows.next ≡ 0 }
 {
-    let written = print_part(to, to_name, part);
+    let written = print_part(rt, to, to_name, part);
     Printed {
         written,
         rows: RowsOut { next: 0 },
@@ -34,7 +41,8 @@ pub fn print_front(to: i32, to_name: &[u8], view: View, counts: &[u8], part: &[u
 }
 
 pub fn print_row(
-    to: i32,
+    rt: HostRuntime,
+    to: &Target,
     to_name: &[u8],
     view: View,
     counts: &[u8],
@@ -46,7 +54,7 @@ pub fn print_row(
     requires row_out { RowOut view counts.now rows.next held.now part.now }
     ensures { result.rows.next ≡ rows.next + 1 }
 {
-    let written = print_part(to, to_name, part);
+    let written = print_part(rt, to, to_name, part);
     Printed {
         written,
         rows: RowsOut {
@@ -56,7 +64,8 @@ pub fn print_row(
 }
 
 pub fn print_end(
-    to: i32,
+    rt: HostRuntime,
+    to: &Target,
     to_name: &[u8],
     view: View,
     counts: &[u8],
@@ -66,5 +75,5 @@ pub fn print_end(
     requires next_value { rows.next ≡ height_drawn view counts.now }
     requires end_out { EndOut view counts.now part.now }
 {
-    print_part(to, to_name, part)
+    print_part(rt, to, to_name, part)
 }

@@ -9,10 +9,10 @@ use crate::PROGRAM;
 use crate::draw::draw_picture;
 use crate::map::{MapSide, say_map};
 use crate::measure::{Measured, measure};
-use crate::output::open_picture;
+use crate::output::{Target, open_picture};
 use crate::words::Wish;
+use command::input::Source;
 use command::word_at;
-use libc::STDOUT_FILENO;
 use png_writer::crc::crc_table;
 use sheet_picture::View;
 use sheet_picture::colour::palette_bytes;
@@ -20,7 +20,15 @@ use sheet_picture::height::index_table;
 use sheet_stream::twice::{again, place};
 
 // The sheet can be read twice. 32778 bytes hold a record, 32772 a table and 16384 what a record stores.
-pub fn pass_twice(file: i32, name: &[u8], wish: Wish, side: MapSide, counts: &[u8])
+pub fn pass_twice(
+    rt: HostRuntime,
+    file: &Source,
+    name: &[u8],
+    wish: Wish,
+    side: MapSide,
+    map: &Option<Source>,
+    counts: &[u8],
+)
     requires wish_fits { WishFits wish }
     requires side_shown { SideShown side counts.now }
 {
@@ -28,10 +36,12 @@ pub fn pass_twice(file: i32, name: &[u8], wish: Wish, side: MapSide, counts: &[u
     let mut table = [0u8; 32772];
     let mut content = [0u8; 16384];
     first_pass(
+        rt,
         file,
         name,
         wish,
         side,
+        map,
         counts,
         &mut bytes,
         &mut table,
@@ -40,10 +50,12 @@ pub fn pass_twice(file: i32, name: &[u8], wish: Wish, side: MapSide, counts: &[u
 }
 
 fn first_pass(
-    file: i32,
+    rt: HostRuntime,
+    file: &Source,
     name: &[u8],
     wish: Wish,
     side: MapSide,
+    map: &Option<Source>,
     counts: &[u8],
     bytes: &mut [u8],
     table: &mut [u8],
@@ -56,19 +68,20 @@ fn first_pass(
     requires in_bounds_3 { 16384 ≤ length content.old }
 {
     let start = place(file);
-    let measured = measure(file, name, bytes, table, content);
+    let measured = measure(rt, file, name, bytes, table, content);
     if measured.failed {
         return;
     }
-    say_map(side);
+    say_map(rt, side);
     let view = view_of(wish, side, measured, counts);
     second_pass(
+        rt,
         file,
         name,
         start,
         measured.rows,
         wish.out,
-        side.file,
+        map,
         view,
         counts,
         bytes,
@@ -96,15 +109,15 @@ fn view_of(wish: Wish, side: MapSide, measured: Measured, counts: &[u8]) -> View
     }
 }
 
-// start is the place of the sheet's first byte, `rows` how many rows were read from there, and `map` the map's descriptor, below 0
-// where there is none.
+// start is the place of the sheet's first byte, `rows` how many rows were read from there, and `map` the map, where there is one.
 fn second_pass(
-    file: i32,
+    rt: HostRuntime,
+    file: &Source,
     name: &[u8],
-    start: i64,
+    start: u64,
     rows: u64,
     out: usize,
-    map: i32,
+    map: &Option<Source>,
     view: View,
     counts: &[u8],
     bytes: &mut [u8],
@@ -118,7 +131,8 @@ fn second_pass(
 {
     if out == 0 {
         draw_to(
-            STDOUT_FILENO,
+            rt,
+            &Target::Standard(rt.stdout()),
             b"standard output",
             file,
             name,
@@ -132,9 +146,10 @@ fn second_pass(
         );
         return;
     }
-    let mut word = io::buffer();
-    let n = word_at(out, &mut word);
+    let mut word = [0u8; 4096];
+    let n = word_at(rt, out, &mut word);
     draw_out(
+        rt,
         &word[..n],
         file,
         name,
@@ -151,12 +166,13 @@ fn second_pass(
 
 // To a file, which is made or overwritten.
 fn draw_out(
+    rt: HostRuntime,
     to_name: &[u8],
-    file: i32,
+    file: &Source,
     name: &[u8],
-    start: i64,
+    start: u64,
     rows: u64,
-    map: i32,
+    map: &Option<Source>,
     view: View,
     counts: &[u8],
     bytes: &mut [u8],
@@ -168,23 +184,23 @@ fn draw_out(
     requires in_bounds_2 { 32772 ≤ length table.old }
     requires in_bounds_3 { 16384 ≤ length content.old }
 {
-    let to = open_picture(to_name, file, map);
-    if to < 0 {
+    let Some(to) = open_picture(rt, to_name, file, name, map) else {
         return;
-    }
+    };
     draw_to(
-        to, to_name, file, name, start, rows, view, counts, bytes, table, content,
+        rt, &to, to_name, file, name, start, rows, view, counts, bytes, table, content,
     );
-    libc::close(to);
+    drop(to);
 }
 
 // 65536 bytes hold every part of a picture.
 fn draw_to(
-    to: i32,
+    rt: HostRuntime,
+    to: &Target,
     to_name: &[u8],
-    file: i32,
+    file: &Source,
     name: &[u8],
-    start: i64,
+    start: u64,
     rows: u64,
     view: View,
     counts: &[u8],
@@ -197,14 +213,14 @@ fn draw_to(
     requires in_bounds_2 { 32772 ≤ length table.old }
     requires in_bounds_3 { 16384 ≤ length content.old }
 {
-    if again(&PROGRAM, name, file, start) {
+    if again(rt, &PROGRAM, name, file, start) {
         let colours = palette_bytes();
         let crcs = crc_table();
         let indices = index_table(view.low, view.high);
         let mut out = [0u8; 65536];
         draw_picture(
-            to, to_name, file, name, rows, view, &colours, &crcs, &indices, counts, bytes, table,
-            content, &mut out,
+            rt, to, to_name, file, name, rows, view, &colours, &crcs, &indices, counts, bytes,
+            table, content, &mut out,
         );
     }
 }

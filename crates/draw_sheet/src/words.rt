@@ -3,16 +3,15 @@ ghost use Rattle.std.specs.Prelude.{◌≡◌, ◌≤◌};
 ghost use Rattle.draw_sheet.specs.Wish.{WishFits};
 
 use crate::files::draw_files;
-use crate::{PROGRAM, USAGE, help};
+use crate::{PROGRAM, USAGE, say_help};
 use command::is_input;
 use command::number::{number_from, option_number};
 use command::option::{count_words, value_of, word_place};
 use command::say::{hint, refuse_at};
-use libc::STDERR_FILENO;
 use text::read::Decimal;
 
 // The heights in grey, where their words are right.
-#[derive(Drop)]
+#[derive(Clone, Copy)]
 pub struct GreyWords {
     pub right: bool,
     pub low: u32,
@@ -23,7 +22,7 @@ pub struct GreyWords {
 // name    the place of its name on the command line, 0 where there is none
 // group   the pixels of its groups
 // total   its photons
-#[derive(Drop)]
+#[derive(Clone, Copy)]
 pub struct MapWords {
     pub right: bool,
     pub name: usize,
@@ -39,7 +38,7 @@ pub struct MapWords {
 // map         the name of the map
 // group       the pixels of its groups
 // total       its photons
-#[derive(Drop)]
+#[derive(Clone, Copy)]
 pub struct Wish {
     pub times: u32,
     pub low: u32,
@@ -52,13 +51,19 @@ pub struct Wish {
 }
 
 // Where a word is not as it should be, that is said, and the usage with it.
-pub fn draw_words() {
-    if 1 < count_words(&USAGE) {
-        refuse_at(&PROGRAM, word_place(&USAGE, 1), b"only one file is taken");
-        help(STDERR_FILENO);
+pub fn draw_words(rt: HostRuntime) {
+    if 1 < count_words(rt, &USAGE) {
+        refuse_at(
+            rt,
+            &PROGRAM,
+            word_place(rt, &USAGE, 1),
+            b"only one file is taken",
+        );
+        say_help(rt);
         return;
     }
     let times = option_number(
+        rt,
         &PROGRAM,
         &USAGE,
         b"--times",
@@ -68,28 +73,28 @@ pub fn draw_words() {
         b"K is to be a decimal number from 1 to 15",
     );
     let Decimal::Number(times) = times else {
-        help(STDERR_FILENO);
+        say_help(rt);
         return;
     };
-    draw_times(times as u32);
+    draw_times(rt, times as u32);
 }
 
 // The same with its number of times.
-fn draw_times(times: u32)
+fn draw_times(rt: HostRuntime, times: u32)
     requires { (1 ≤ times) × (times ≤ 15) }
 {
-    let grey = read_grey();
-    let map = read_map_words();
+    let grey = read_grey(rt);
+    let map = read_map_words(rt);
     if grey.right {
         if map.right {
-            draw_files(wish_of(times, grey, map));
+            draw_files(rt, wish_of(rt, times, grey, map));
             return;
         }
     }
-    help(STDERR_FILENO);
+    say_help(rt);
 }
 
-fn wish_of(times: u32, grey: GreyWords, map: MapWords) -> Wish
+fn wish_of(rt: HostRuntime, times: u32, grey: GreyWords, map: MapWords) -> Wish
     requires le_times { (1 ≤ times) × (times ≤ 15) }
     requires low_le_high { (grey.low ≤ grey.high) × (grey.high ≤ 4093) }
     ensures { WishFits result }
@@ -98,8 +103,8 @@ fn wish_of(times: u32, grey: GreyWords, map: MapWords) -> Wish
         times,
         low: grey.low,
         high: grey.high,
-        sheet: word_place(&USAGE, 0),
-        out: out_place(),
+        sheet: word_place(rt, &USAGE, 0),
+        out: out_place(rt),
         map: map.name,
         group: map.group,
         total: map.total,
@@ -107,23 +112,24 @@ fn wish_of(times: u32, grey: GreyWords, map: MapWords) -> Wish
 }
 
 // `-` is standard output.
-fn out_place() -> usize {
-    let i = value_of(&USAGE, b"-o");
-    if is_input(i) {
+fn out_place(rt: HostRuntime) -> usize {
+    let i = value_of(rt, &USAGE, b"-o");
+    if is_input(rt, i) {
         return 0;
     }
     i
 }
 
 // All heights where no range is given.
-fn read_grey() -> GreyWords
+fn read_grey(rt: HostRuntime) -> GreyWords
     ensures { (result.low ≤ result.high) × (result.high ≤ 4093) }
 {
-    let i = value_of(&USAGE, b"--range");
+    let i = value_of(rt, &USAGE, b"--range");
     if i == 0 {
         return grey_words(true, 0, 4093);
     }
     let low = number_from(
+        rt,
         &PROGRAM,
         i,
         0,
@@ -133,15 +139,16 @@ fn read_grey() -> GreyWords
     let Decimal::Number(low) = low else {
         return grey_words(false, 0, 4093);
     };
-    read_high(i, low as u32)
+    read_high(rt, i, low as u32)
 }
 
 // The same from its low end on.
-fn read_high(i: usize, low: u32) -> GreyWords
+fn read_high(rt: HostRuntime, i: usize, low: u32) -> GreyWords
     requires { low ≤ 4093 }
     ensures { (result.low ≤ result.high) × (result.high ≤ 4093) }
 {
     let high = number_from(
+        rt,
         &PROGRAM,
         place_behind(i),
         low as u64,
@@ -169,30 +176,30 @@ fn grey_words(right: bool, low: u32, high: u32) -> GreyWords
 }
 
 // The map: all that it takes, or nothing.
-fn read_map_words() -> MapWords {
-    let name = value_of(&USAGE, b"--map");
-    let group = value_of(&USAGE, b"--group");
-    let total = value_of(&USAGE, b"--total");
+fn read_map_words(rt: HostRuntime) -> MapWords {
+    let name = value_of(rt, &USAGE, b"--map");
+    let group = value_of(rt, &USAGE, b"--group");
+    let total = value_of(rt, &USAGE, b"--total");
     if name == 0 {
         if group == 0 {
             if total == 0 {
                 return map_words(true, 0, 0, 0);
             }
         }
-        return lacking_words();
+        return lacking_words(rt);
     }
     if group == 0 {
-        return lacking_words();
+        return lacking_words(rt);
     }
     if total == 0 {
-        return lacking_words();
+        return lacking_words(rt);
     }
-    if is_input(name) {
-        if is_input(word_place(&USAGE, 0)) {
-            return same_input();
+    if is_input(rt, name) {
+        if is_input(rt, word_place(rt, &USAGE, 0)) {
+            return same_input(rt);
         }
     }
-    read_map_numbers(name, group, total)
+    read_map_numbers(rt, name, group, total)
 }
 
 fn map_words(right: bool, name: usize, group: u32, total: u64) -> MapWords {
@@ -204,8 +211,9 @@ fn map_words(right: bool, name: usize, group: u32, total: u64) -> MapWords {
     }
 }
 
-fn lacking_words() -> MapWords {
+fn lacking_words(rt: HostRuntime) -> MapWords {
     hint(
+        rt,
         &PROGRAM,
         b"--map, --group and --total",
         b"all three are needed",
@@ -213,8 +221,9 @@ fn lacking_words() -> MapWords {
     map_words(false, 0, 0, 0)
 }
 
-fn same_input() -> MapWords {
+fn same_input(rt: HostRuntime) -> MapWords {
     hint(
+        rt,
         &PROGRAM,
         b"standard input",
         b"the sheet and the map cannot both come from it",
@@ -223,8 +232,9 @@ fn same_input() -> MapWords {
 }
 
 // The numbers, by their places.
-fn read_map_numbers(name: usize, group: usize, total: usize) -> MapWords {
+fn read_map_numbers(rt: HostRuntime, name: usize, group: usize, total: usize) -> MapWords {
     let group = number_from(
+        rt,
         &PROGRAM,
         group,
         0,
@@ -235,6 +245,7 @@ fn read_map_numbers(name: usize, group: usize, total: usize) -> MapWords {
         return map_words(false, 0, 0, 0);
     };
     let total = number_from(
+        rt,
         &PROGRAM,
         total,
         0,

@@ -1,10 +1,11 @@
 // What the FITS standard and the customer say of scans. The definitions are in specs/; here are the types and limits that the
 // code shares.
+#![tactic(auto)]
 
 // What reading a header answers: the number, and where it is 0 the pixels of a row, the rows, the byte where the image
 // starts, and the bytes written, those of the plain table's record. A refusal has 0 for every value.
 #[repr(C)]
-#[derive(Drop)]
+#[derive(Clone, Copy)]
 pub struct ImageHeader {
     pub number: u32,
     pub width: u32,

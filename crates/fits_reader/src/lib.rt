@@ -1,5 +1,7 @@
 // Scans as FITS images into the records of a sheet: one call for the header, which writes the plain table's record, and one a
 // row. What they answer is defined in fits_format's specs/Header.antt and specs/Image.antt; the verdict's line in specs/Verdict.antt.
+#![tactic(auto)]
+
 mod card;
 mod cards;
 mod header;

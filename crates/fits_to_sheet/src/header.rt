@@ -1,16 +1,16 @@
-// A header's bytes from a descriptor.
+// A header's bytes from an input.
 ghost use Rattle.std.specs.Prelude.{◌≡◌, ◌≤◌, length, take};
 ghost use Rattle.fits_format.specs.Header.{header_cards, stands};
 ghost use Rattle.fits_to_sheet.specs.Scan.{HeaderHeld};
 
 use crate::PROGRAM;
-use command::input::{Filled, fill};
+use command::input::{Filled, Source, fill};
 use fits_format::BLOCK_BYTES;
 use fits_reader::{count_cards, find_end};
 
 // Block after block to the one that has END, but at most ten: enough to judge the header, whatever stands there, and no more
 // (fits_format, `header_span-same`). Fewer bytes come only at the input's end.
-pub fn fill_header(file: i32, name: &[u8], bytes: &mut [u8]) -> Filled
+pub fn fill_header(rt: HostRuntime, file: &Source, name: &[u8], bytes: &mut [u8]) -> Filled
     requires { 28800 ≤ length bytes.old }
     ensures within { result.count ≤ 28800 }
     ensures held { HeaderHeld (take result.count bytes.new) }
@@ -19,7 +19,7 @@ pub fn fill_header(file: i32, name: &[u8], bytes: &mut [u8]) -> Filled
     while blocks < 10 {
         let start = BLOCK_BYTES * blocks;
         let end = start + BLOCK_BYTES;
-        let got = fill_block(file, name, &mut bytes[start..end]);
+        let got = fill_block(rt, file, name, &mut bytes[start..end]);
         let count = got.count;
         if count < BLOCK_BYTES {
             return Filled {
@@ -41,10 +41,10 @@ pub fn fill_header(file: i32, name: &[u8], bytes: &mut [u8]) -> Filled
     }
 }
 
-fn fill_block(file: i32, name: &[u8], block: &mut [u8]) -> Filled
+fn fill_block(rt: HostRuntime, file: &Source, name: &[u8], block: &mut [u8]) -> Filled
     ensures { result.count ≤ length block.old }
 {
-    fill(&PROGRAM, name, file, block)
+    fill(rt, &PROGRAM, name, file, block)
 }
 
 // Whether END stands on one of the cards.

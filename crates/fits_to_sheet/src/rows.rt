@@ -4,7 +4,7 @@ ghost use Rattle.fits_to_sheet.specs.declared.rows.RowTurn.{RowTurn};
 ghost use Rattle.fits_to_sheet.specs.Scan.{ImageStands, row_span, RowMade, NextRecord, Ended};
 
 use crate::PROGRAM;
-use command::input::fill;
+use command::input::{Source, fill};
 use command::say::print;
 use fits_format::ImageHeader;
 use fits_reader::fits_row;
@@ -14,7 +14,7 @@ use fits_reader::fits_row;
 // number   the number of the row that is refused, 0 where all are written
 // rows     the rows written
 // held     the bytes that are held of the row that is refused
-#[derive(Drop)]
+#[derive(Clone, Copy)]
 pub struct Rows {
     pub failed: bool,
     pub number: u32,
@@ -29,7 +29,8 @@ pub struct Rows {
 // the record's bytes: only that is left to tests. With it what is written is what the scan's conversion has. The rows before
 // row r stand in no memory any more: `NextRecord` and `Ended` say that there are such.
 pub fn convert_rows(
-    file: i32,
+    rt: HostRuntime,
+    file: &Source,
     name: &[u8],
     header: &[u8],
     image: ImageHeader,
@@ -48,7 +49,7 @@ pub fn convert_rows(
     let span = row_span(header, image);
     let mut r = 0;
     while r < rows {
-        let turn = take_row(file, name, width, r, span, row, out);
+        let turn = take_row(rt, file, name, width, r, span, row, out);
         let held = turn.held;
         let number = turn.number;
         if turn.failed {
@@ -63,7 +64,7 @@ pub fn convert_rows(
             };
         }
         let count = turn.count;
-        if print_row(header, &row[..held], r, &out[..count]) {
+        if print_row(rt, header, &row[..held], r, &out[..count]) {
             r += 1;
         } else {
             return unfinished(r);
@@ -104,7 +105,7 @@ fn row_span(header: &[u8], image: ImageHeader) -> usize
 // held     the bytes that are held of the row
 // number   the row's
 // count    the bytes of its record
-#[derive(Drop)]
+#[derive(Clone, Copy)]
 pub struct RowTurn {
     pub failed: bool,
     pub held: usize,
@@ -114,7 +115,8 @@ pub struct RowTurn {
 
 // One row is read, and its record put at the front of `out`.
 fn take_row(
-    file: i32,
+    rt: HostRuntime,
+    file: &Source,
     name: &[u8],
     width: u64,
     r: u64,
@@ -129,7 +131,7 @@ fn take_row(
     ensures count { result.count ≤ length out.new }
     ensures made { RowMade width r (take result.held row.new) result out.new }
 {
-    let got = fill(&PROGRAM, name, file, &mut row[..span]);
+    let got = fill(rt, &PROGRAM, name, file, &mut row[..span]);
     let held = got.count;
     let answer = fits_row(width, r, &row[..held], out);
     RowTurn {
@@ -142,8 +144,8 @@ fn take_row(
 
 // Writes the record of row r; nothing else of it goes out. `header`, `held` and `r` say what the record must be; nothing else
 // is done with them.
-fn print_row(header: &[u8], held: &[u8], r: u64, bytes: &[u8]) -> bool
+fn print_row(rt: HostRuntime, header: &[u8], held: &[u8], r: u64, bytes: &[u8]) -> bool
     requires { NextRecord header.now held.now r bytes.now }
 {
-    print(&PROGRAM, bytes)
+    print(rt, &PROGRAM, bytes)
 }

@@ -1,43 +1,49 @@
 // Lists a map: 128 lines of 128 counts and `done bits B`, or `refused N` alone. The map is held whole, and so is what is printed of
 // it: it goes out at once.
+#![tactic(auto)]
+
 mod list;
 mod words;
 
 use command::say::{complain, print_version, refuse_option};
 use command::{Request, read_request};
-use libc::{STDERR_FILENO, STDOUT_FILENO};
+use std::io;
+use std::io::Print;
 use words::list_words;
 
 pub const PROGRAM: [u8; 8] = *b"list_map";
 
-fn main() {
-    match read_request() {
-        Request::Help => print_help(),
-        Request::Version => print_program(),
-        Request::Unknown(i) => refuse(i),
-        Request::Files(words) => list_words(words),
+fn main(rt: HostRuntime) {
+    match read_request(rt) {
+        Request::Help => print_help(rt),
+        Request::Version => print_program(rt),
+        Request::Unknown(i) => refuse(rt, i),
+        Request::Files(words) => list_words(rt, words),
     }
 }
 
-fn print_help() {
-    if help(STDOUT_FILENO) {
-        return;
+fn print_help(rt: HostRuntime) {
+    if let Err(e) = help(&rt.stdout()) {
+        complain(rt, &PROGRAM, b"standard output", e);
     }
-    complain(&PROGRAM, b"standard output");
 }
 
-fn print_program() {
-    print_version(&PROGRAM);
+fn print_program(rt: HostRuntime) {
+    print_version(rt, &PROGRAM);
 }
 
-fn refuse(i: usize) {
-    refuse_option(&PROGRAM, i);
-    help(STDERR_FILENO);
+fn refuse(rt: HostRuntime, i: usize) {
+    refuse_option(rt, &PROGRAM, i);
+    say_help(rt);
 }
 
-pub fn help(file: i32) -> bool {
-    io::write_all(
-        file,
+// The same on standard error.
+pub fn say_help(rt: HostRuntime) {
+    let _ = help(&rt.stderr());
+}
+
+pub fn help(to: &impl Print) -> io::Result<()> {
+    to.write_all(
         b"usage: list_map GROUP TOTAL [FILE]
 
 Lists the counts of a pressure mat map, 128 lines of 128, and says at the end

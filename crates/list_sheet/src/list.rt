@@ -5,24 +5,31 @@ ghost use Rattle.sheet_listing.specs.Turns.{NextLine, EndLine};
 use crate::PROGRAM;
 use crate::turn::{Turn, take_turn, unread};
 use code_table::check::check;
-use command::input::fill;
+use command::input::{Source, fill};
 use command::say::{hint, print};
 use sheet_stream::progress::begin;
 
 // Whether all that came to be written was.
-pub fn list_input(file: i32, name: &[u8]) -> bool {
+pub fn list_input(rt: HostRuntime, file: &Source, name: &[u8]) -> bool {
     let mut bytes = [0u8; 32778];
     let mut table = [0u8; 32772];
     let mut line = [0u8; 128];
-    list_sheet(file, name, &mut bytes, &mut table, &mut line)
+    list_sheet(rt, file, name, &mut bytes, &mut table, &mut line)
 }
 
-fn list_sheet(file: i32, name: &[u8], bytes: &mut [u8], table: &mut [u8], line: &mut [u8]) -> bool
+fn list_sheet(
+    rt: HostRuntime,
+    file: &Source,
+    name: &[u8],
+    bytes: &mut [u8],
+    table: &mut [u8],
+    line: &mut [u8],
+) -> bool
     requires in_bounds { 32778 ≤ length bytes.old }
     requires in_bounds_2 { 32772 ≤ length table.old }
     requires in_bounds_3 { 128 ≤ length line.old }
 {
-    let listed = list_records(file, name, bytes, table, line);
+    let listed = list_records(rt, file, name, bytes, table, line);
     if listed.written {
         let turn = listed.turn;
         if turn.failed {
@@ -30,8 +37,8 @@ fn list_sheet(file: i32, name: &[u8], bytes: &mut [u8], table: &mut [u8], line: 
         }
         let taken = turn.taken;
         let count = turn.count;
-        if print_last(&bytes[..taken], &line[..count]) {
-            hint_table(file, name, bytes, turn);
+        if print_last(rt, &bytes[..taken], &line[..count]) {
+            hint_table(rt, file, name, bytes, turn);
             return true;
         }
     }
@@ -41,7 +48,7 @@ fn list_sheet(file: i32, name: &[u8], bytes: &mut [u8], table: &mut [u8], line: 
 // How a sheet's records ended.
 // written  whether every line could be written
 // turn     the last turn, whose line is yet to be
-#[derive(Drop)]
+#[derive(Clone, Copy)]
 pub struct Records {
     pub written: bool,
     pub turn: Turn,
@@ -55,7 +62,8 @@ pub struct Records {
 // line's bytes: only that is left to tests. With it each line is the listing's next (sheet_format, `front-held`; sheet_listing,
 // `next-line`).
 fn list_records(
-    file: i32,
+    rt: HostRuntime,
+    file: &Source,
     name: &[u8],
     bytes: &mut [u8],
     table: &mut [u8],
@@ -70,7 +78,7 @@ fn list_records(
 {
     let mut at = begin();
     while at.index < u64::MAX {
-        let turn = take_turn(file, name, bytes, table, line, at);
+        let turn = take_turn(rt, file, name, bytes, table, line, at);
         if turn.failed {
             return Records {
                 written: true,
@@ -85,7 +93,7 @@ fn list_records(
         }
         let taken = turn.taken;
         let count = turn.count;
-        if print_line(&bytes[..taken], &line[..count]) {
+        if print_line(rt, &bytes[..taken], &line[..count]) {
             at = turn.next;
         } else {
             return Records {
@@ -102,22 +110,22 @@ fn list_records(
 
 // Writes the next line of a listing; nothing else of it goes out. `held`, the bytes that its turn read, says what the line
 // must be; nothing else is done with them.
-fn print_line(held: &[u8], line: &[u8]) -> bool
+fn print_line(rt: HostRuntime, held: &[u8], line: &[u8]) -> bool
     requires { NextLine held.now line.now }
 {
-    print(&PROGRAM, line)
+    print(rt, &PROGRAM, line)
 }
 
 // The same of its last line.
-fn print_last(held: &[u8], line: &[u8]) -> bool
+fn print_last(rt: HostRuntime, held: &[u8], line: &[u8]) -> bool
     requires { EndLine held.now line.now }
 {
-    print_line(held, line)
+    print_line(rt, held, line)
 }
 
 // Where the first record is refused: says so if the input is a table. A table has at most 32772 bytes: with four more that
 // are read it is too long, however much follows.
-fn hint_table(file: i32, name: &[u8], bytes: &mut [u8], turn: Turn)
+fn hint_table(rt: HostRuntime, file: &Source, name: &[u8], bytes: &mut [u8], turn: Turn)
     requires { 32778 ≤ length bytes.old }
 {
     let taken = turn.taken;
@@ -130,9 +138,9 @@ fn hint_table(file: i32, name: &[u8], bytes: &mut [u8], turn: Turn)
     if 32772 < taken {
         return;
     }
-    let rest = fill(&PROGRAM, name, file, &mut bytes[taken..32776]);
+    let rest = fill(rt, &PROGRAM, name, file, &mut bytes[taken..32776]);
     let count = taken + rest.count;
     if check(&bytes[..count]).number == 0 {
-        hint(&PROGRAM, name, b"this is a table; list_table lists it");
+        hint(rt, &PROGRAM, name, b"this is a table; list_table lists it");
     }
 }

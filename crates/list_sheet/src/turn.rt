@@ -6,6 +6,7 @@ ghost use Rattle.sheet_stream.specs.Progress.{carried_by, CarriedFits};
 ghost use Rattle.list_sheet.specs.Step.{turned_by, end_turn, TurnMade};
 
 use crate::PROGRAM;
+use command::input::Source;
 use sheet_listing::{list_end, list_record};
 use sheet_stream::input::fill_record;
 use sheet_stream::progress::{SheetProgress, keep_table, number_at_end, rows_after};
@@ -15,7 +16,7 @@ use sheet_stream::progress::{SheetProgress, keep_table, number_at_end, rows_afte
 // taken    the bytes that were read, none at the sheet's end
 // count    the bytes of the line
 // next     what is carried on
-#[derive(Drop)]
+#[derive(Clone, Copy)]
 pub struct Turn {
     pub failed: bool,
     pub last: bool,
@@ -26,7 +27,8 @@ pub struct Turn {
 
 // With what was read, at the front of `bytes`, the turn that sheet_listing defines (`turn_of`) is made.
 pub fn take_turn(
-    file: i32,
+    rt: HostRuntime,
+    file: &Source,
     name: &[u8],
     bytes: &mut [u8],
     table: &mut [u8],
@@ -43,7 +45,7 @@ pub fn take_turn(
     ensures fits { CarriedFits result.next table.new }
     ensures made { result.failed ≡ false → TurnMade (take result.taken bytes.new) at table.old result table.new line.new }
 {
-    let got = fill_record(&PROGRAM, name, file, bytes);
+    let got = fill_record(rt, &PROGRAM, name, file, bytes);
     let count = got.count;
     if got.failed {
         return unread(at);

@@ -1,5 +1,7 @@
 // The table lister: prints the strings of each table in tree order, a line each, or `refused N`. What cannot be opened, read
 // or written is said on standard error.
+#![tactic(auto)]
+
 mod files;
 mod list;
 mod print;
@@ -8,38 +10,42 @@ mod sheet;
 use command::say::{complain, print_version, refuse_option};
 use command::{Request, read_request};
 use files::list_files;
-use libc::{STDERR_FILENO, STDOUT_FILENO};
+use std::io;
+use std::io::Print;
 
 pub const PROGRAM: [u8; 10] = *b"list_table";
 
-fn main() {
-    match read_request() {
-        Request::Help => print_help(),
-        Request::Version => print_program(),
-        Request::Unknown(i) => refuse(i),
-        Request::Files(files) => list_files(files),
+fn main(rt: HostRuntime) {
+    match read_request(rt) {
+        Request::Help => print_help(rt),
+        Request::Version => print_program(rt),
+        Request::Unknown(i) => refuse(rt, i),
+        Request::Files(files) => list_files(rt, files),
     }
 }
 
-fn print_help() {
-    if help(STDOUT_FILENO) {
-        return;
+fn print_help(rt: HostRuntime) {
+    if let Err(e) = help(&rt.stdout()) {
+        complain(rt, &PROGRAM, b"standard output", e);
     }
-    complain(&PROGRAM, b"standard output");
 }
 
-fn print_program() {
-    print_version(&PROGRAM);
+fn print_program(rt: HostRuntime) {
+    print_version(rt, &PROGRAM);
 }
 
-fn refuse(i: usize) {
-    refuse_option(&PROGRAM, i);
-    help(STDERR_FILENO);
+fn refuse(rt: HostRuntime, i: usize) {
+    refuse_option(rt, &PROGRAM, i);
+    say_help(rt);
 }
 
-fn help(file: i32) -> bool {
-    io::write_all(
-        file,
+// The same on standard error.
+fn say_help(rt: HostRuntime) {
+    let _ = help(&rt.stderr());
+}
+
+fn help(to: &impl Print) -> io::Result<()> {
+    to.write_all(
         b"usage: list_table [FILE ...]
 
 Lists the codewords of each table in tree order, or says by which rule it is

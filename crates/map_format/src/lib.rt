@@ -1,5 +1,6 @@
 // What source document 001 and the customer say of pressure mat maps. The definitions are in specs/; here are the limits that the
 // code shares.
+#![tactic(auto)]
 
 // 128 rows of 128 counts, two bytes each.
 pub const MAP_COUNTS: usize = 16384;

@@ -12,7 +12,7 @@ pub const KEPT_COUNTS: usize = 16385;
 
 // scan    where the text has come to
 // count   the counts that are kept, two bytes each at the front of lent memory
-#[derive(Drop)]
+#[derive(Clone, Copy)]
 pub struct Taken {
     pub scan: Scan,
     pub count: usize,

@@ -12,7 +12,7 @@ use text::read::{Decimal, is_digit, with_digit};
 // D, Do, Don   the start of a line, and so much of `done`
 // Ended        past `done` at the start of a line: what follows is not looked at
 // Fault        past what is no text of counts
-#[derive(Drop)]
+#[derive(Clone, Copy)]
 pub enum Scan {
     Line,
     Gap,

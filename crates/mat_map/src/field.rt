@@ -9,7 +9,7 @@ use bitstream::msb_field::{lacks_bits, msb_field};
 // number   0, or that of the refusal
 // value    what was read: a field, a pixel, the photons of a group or of groups
 // next     the bit place after it
-#[derive(Drop)]
+#[derive(Clone, Copy)]
 pub struct Step {
     pub number: u32,
     pub value: u32,

@@ -1,4 +1,6 @@
 // Pressure mat maps: the calls that read and write one. What they answer is defined in map_format's specs/Calls.antt.
+#![tactic(auto)]
+
 mod code;
 mod count;
 mod field;

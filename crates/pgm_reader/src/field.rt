@@ -8,7 +8,7 @@ use text::read::is_digit;
 
 // value   the number up to MOST, which no header may have; 0 where there is none
 // end     the place behind its digits
-#[derive(Drop)]
+#[derive(Clone, Copy)]
 pub struct Field {
     pub value: u32,
     pub end: usize,

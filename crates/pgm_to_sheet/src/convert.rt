@@ -11,7 +11,7 @@ use crate::rest::hint_rest;
 use crate::rows::convert_rows;
 use crate::verdict::end;
 use code_table::check::check;
-use command::input::fill;
+use command::input::{Source, fill};
 use command::say::print;
 use pgm_format::PgmHeader;
 use pgm_reader::pgm_header;
@@ -19,28 +19,28 @@ use sheet_format::SheetState;
 use sheet_writer::write_record;
 
 // The table is looked at first.
-pub fn convert_input(file: i32, name: &[u8], table: &[u8])
+pub fn convert_input(rt: HostRuntime, file: &Source, name: &[u8], table: &[u8])
     requires { length table.now ≤ 32773 }
 {
     let judged = check(table);
     let number = judged.number;
     if number != 0 {
-        end(table, b"", b"", number, 0, 0);
+        end(rt, table, b"", b"", number, 0, 0);
         return;
     }
-    convert_under(file, name, table, judged.count);
+    convert_under(rt, file, name, table, judged.count);
 }
 
 // 13834 bytes are enough for a row's record, whatever its heights, and six more than the table's for its own: no record is refused for
 // room (pgm_format, `pgm_row-number`).
-fn convert_under(file: i32, name: &[u8], table: &[u8], most: u32)
+fn convert_under(rt: HostRuntime, file: &Source, name: &[u8], table: &[u8], most: u32)
     requires table_value { checked table.now ≡ answer_of 0 most }
     requires table_len_bound { length table.now ≤ 32773 }
 {
     let mut front = [0u8; 65536];
     let mut row = [0u8; 8192];
     let mut out = [0u8; 32784];
-    convert(file, name, table, most, &mut front, &mut row, &mut out);
+    convert(rt, file, name, table, most, &mut front, &mut row, &mut out);
 }
 
 // front   the first bytes of the file
@@ -48,7 +48,8 @@ fn convert_under(file: i32, name: &[u8], table: &[u8], most: u32)
 // out     the record to be written
 // Where reading or writing fails there is no verdict.
 fn convert(
-    file: i32,
+    rt: HostRuntime,
+    file: &Source,
     name: &[u8],
     table: &[u8],
     most: u32,
@@ -61,16 +62,17 @@ fn convert(
     requires in_bounds { 8192 ≤ length row.old }
     requires in_bounds_2 { 32784 ≤ length out.old }
 {
-    let got = fill(&PROGRAM, name, file, front);
+    let got = fill(rt, &PROGRAM, name, file, front);
     if got.failed {
         return;
     }
     let n = got.count;
-    convert_picture(file, name, table, most, &front[..n], row, out);
+    convert_picture(rt, file, name, table, most, &front[..n], row, out);
 }
 
 fn convert_picture(
-    file: i32,
+    rt: HostRuntime,
+    file: &Source,
     name: &[u8],
     table: &[u8],
     most: u32,
@@ -86,12 +88,12 @@ fn convert_picture(
     let header = pgm_header(front);
     let number = header.number;
     if number != 0 {
-        end(table, front, b"", number, 0, 0);
+        end(rt, table, front, b"", number, 0, 0);
         return;
     }
     let count = put_table(table, out);
-    if print_table(table, front, &out[..count]) {
-        convert_lines(file, name, table, most, front, header, row, out);
+    if print_table(rt, table, front, &out[..count]) {
+        convert_lines(rt, file, name, table, most, front, header, row, out);
     }
 }
 
@@ -113,15 +115,16 @@ fn put_table(table: &[u8], out: &mut [u8]) -> usize
 }
 
 // Writes the table's record, the first of the sheet. `table` and `front` say what it must be; nothing else is done with them.
-fn print_table(table: &[u8], front: &[u8], bytes: &[u8]) -> bool
+fn print_table(rt: HostRuntime, table: &[u8], front: &[u8], bytes: &[u8]) -> bool
     requires { TableWritten table.now front.now bytes.now }
 {
-    print(&PROGRAM, bytes)
+    print(rt, &PROGRAM, bytes)
 }
 
 // The rows of a header that is accepted.
 fn convert_lines(
-    file: i32,
+    rt: HostRuntime,
+    file: &Source,
     name: &[u8],
     table: &[u8],
     most: u32,
@@ -134,13 +137,21 @@ fn convert_lines(
     requires in_bounds { 8192 ≤ length row.old }
     requires in_bounds_2 { 32784 ≤ length out.old }
 {
-    let done = convert_rows(file, name, table, most, front, header, row, out);
+    let done = convert_rows(rt, file, name, table, most, front, header, row, out);
     if done.failed {
         return;
     }
     if done.number == 0 {
-        hint_rest(file, name, front, header);
+        hint_rest(rt, file, name, front, header);
     }
     let held = done.held;
-    end(table, front, &row[..held], 0, done.number, done.rows as u64);
+    end(
+        rt,
+        table,
+        front,
+        &row[..held],
+        0,
+        done.number,
+        done.rows as u64,
+    );
 }

@@ -4,7 +4,7 @@ ghost use Rattle.pgm_to_sheet.specs.Picture.{SpanHeld};
 
 use crate::PROGRAM;
 use bitstream::copy::copy;
-use command::input::{Filled, fill};
+use command::input::{Filled, Source, fill};
 use pgm_format::PgmHeader;
 
 // The place of row r in the file.
@@ -19,7 +19,8 @@ pub fn row_place(header: PgmHeader, r: u32) -> usize
 
 // A row of so many bytes: what the front has of it, and what is read.
 pub fn fill_row(
-    file: i32,
+    rt: HostRuntime,
+    file: &Source,
     name: &[u8],
     front: &[u8],
     place: usize,
@@ -31,7 +32,7 @@ pub fn fill_row(
     ensures held { SpanHeld (drop place front.now) (take result.count row.new) span }
 {
     let n = copy_rest(front, place, span, row);
-    let got = fill(&PROGRAM, name, file, &mut row[n..span]);
+    let got = fill(rt, &PROGRAM, name, file, &mut row[n..span]);
     Filled {
         count: n + got.count,
         failed: got.failed,

@@ -5,6 +5,7 @@ ghost use Rattle.pgm_to_sheet.specs.Picture.{SpanHeld, PictureStands, LineMade, 
 
 use crate::PROGRAM;
 use crate::row::{fill_row, row_place};
+use command::input::Source;
 use command::say::print;
 use pgm_format::PgmHeader;
 use pgm_reader::pgm_row;
@@ -15,7 +16,7 @@ use sheet_format::SheetState;
 // number   the number of the row that is refused, 0 where all are written
 // rows     the rows written
 // held     the bytes that are held of the row that is refused
-#[derive(Drop)]
+#[derive(Clone, Copy)]
 pub struct Rows {
     pub failed: bool,
     pub number: u32,
@@ -30,7 +31,8 @@ pub struct Rows {
 // bytes: only that is left to tests. With it what is written is what the picture's conversion has. The bytes before row r stand in no
 // memory any more, but for those of the front: `LineAdded` and `PictureEnded` say that there are such, the header's and those of r rows.
 pub fn convert_rows(
-    file: i32,
+    rt: HostRuntime,
+    file: &Source,
     name: &[u8],
     table: &[u8],
     most: u32,
@@ -49,7 +51,7 @@ pub fn convert_rows(
     let rows = header.rows;
     let mut r = 0;
     while r < rows {
-        let turn = take_row(file, name, table, most, front, header, r, row, out);
+        let turn = take_row(rt, file, name, table, most, front, header, r, row, out);
         let held = turn.held;
         let number = turn.number;
         if turn.failed {
@@ -64,7 +66,7 @@ pub fn convert_rows(
             };
         }
         let count = turn.count;
-        if print_row(table, front, &row[..held], r, &out[..count]) {
+        if print_row(rt, table, front, &row[..held], r, &out[..count]) {
             r += 1;
         } else {
             return unfinished(r);
@@ -93,7 +95,7 @@ fn unfinished(rows: u32) -> Rows
 // held     the bytes that are held of the row
 // number   the row's
 // count    the bytes of its record
-#[derive(Drop)]
+#[derive(Clone, Copy)]
 pub struct RowTurn {
     pub failed: bool,
     pub held: usize,
@@ -103,7 +105,8 @@ pub struct RowTurn {
 
 // Row r is read, and its record put at the front of `out`.
 fn take_row(
-    file: i32,
+    rt: HostRuntime,
+    file: &Source,
     name: &[u8],
     table: &[u8],
     most: u32,
@@ -124,6 +127,7 @@ fn take_row(
     ensures made { LineMade table.now header.width r (take result.held row.new) result out.new }
 {
     let got = fill_row(
+        rt,
         file,
         name,
         front,
@@ -147,8 +151,8 @@ fn take_row(
 
 // Writes the record of row r; nothing else of it goes out. `table`, `front`, `held` and `r` say what the record must be; nothing else is
 // done with them.
-fn print_row(table: &[u8], front: &[u8], held: &[u8], r: u32, bytes: &[u8]) -> bool
+fn print_row(rt: HostRuntime, table: &[u8], front: &[u8], held: &[u8], r: u32, bytes: &[u8]) -> bool
     requires { LineAdded table.now front.now held.now r bytes.now }
 {
-    print(&PROGRAM, bytes)
+    print(rt, &PROGRAM, bytes)
 }

@@ -9,7 +9,7 @@ use command::{close, open, word_at};
 
 // Those of the file that the command line names at a place, and with no place the plain table's. A table has at most 32772 bytes: with one
 // more that is read it is too long, however much follows.
-pub fn fill_table(place: usize, bytes: &mut [u8]) -> Filled
+pub fn fill_table(rt: HostRuntime, place: usize, bytes: &mut [u8]) -> Filled
     requires { length bytes.old ≡ 32773 }
     ensures within { result.count ≤ 32773 }
     ensures plain { place ≡ 0 → take result.count bytes.new ≡ plain_bytes }
@@ -21,22 +21,21 @@ pub fn fill_table(place: usize, bytes: &mut [u8]) -> Filled
             failed: false,
         };
     }
-    let mut word = io::buffer();
-    let n = word_at(place, &mut word);
-    fill_named(&word[..n], bytes)
+    let mut word = [0u8; 4096];
+    let n = word_at(rt, place, &mut word);
+    fill_named(rt, &word[..n], bytes)
 }
 
-fn fill_named(name: &[u8], bytes: &mut [u8]) -> Filled
+fn fill_named(rt: HostRuntime, name: &[u8], bytes: &mut [u8]) -> Filled
     ensures { result.count ≤ length bytes.old }
 {
-    let file = open(&PROGRAM, name);
-    if file < 0 {
+    let Some(file) = open(rt, &PROGRAM, name) else {
         return Filled {
             count: 0,
             failed: true,
         };
-    }
-    let filled = fill(&PROGRAM, name, file, bytes);
+    };
+    let filled = fill(rt, &PROGRAM, name, &file, bytes);
     close(file);
     filled
 }

@@ -1,22 +1,30 @@
 // The verdict: how the conversion of a picture ended.
 ghost use Rattle.pgm_to_sheet.specs.Picture.{PictureEnded, PictureVerdict};
 
+use command::say::say;
 use fits_reader::verdict::put_verdict;
-use libc::STDERR_FILENO;
 
 // Says the verdict of a conversion that ended so; `held` is the bytes that it held last, of a row that is refused.
-pub fn end(table: &[u8], front: &[u8], held: &[u8], number: u32, fault: u32, rows: u64)
+pub fn end(
+    rt: HostRuntime,
+    table: &[u8],
+    front: &[u8],
+    held: &[u8],
+    number: u32,
+    fault: u32,
+    rows: u64,
+)
     requires { PictureEnded table.now front.now held.now number fault rows }
 {
     let mut line = [0u8; 128];
     let n = put_verdict(&mut line, number, fault, rows);
-    say_verdict(table, front, held, &line[..n]);
+    say_verdict(rt, table, front, held, &line[..n]);
 }
 
 // Writes the verdict to standard error; nothing else goes there but complaints and hints. The other three say what the line must be;
 // nothing else is done with them.
-fn say_verdict(table: &[u8], front: &[u8], held: &[u8], line: &[u8])
+fn say_verdict(rt: HostRuntime, table: &[u8], front: &[u8], held: &[u8], line: &[u8])
     requires { PictureVerdict table.now front.now held.now line.now }
 {
-    io::write_all(STDERR_FILENO, line);
+    say(rt, line);
 }

@@ -1,5 +1,7 @@
 // Whether the codewords of a table's words are free of prefixes: none equals or begins another. The words are parted by
 // one bit of their codewords after the other, as in the code tree, so each word is looked at once for each of its bits.
+#![tactic(auto)]
+
 mod part;
 
 ghost use Rattle.std.specs.Prelude.{◌≡◌, not, map, ◌<◌};

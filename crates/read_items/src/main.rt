@@ -1,37 +1,39 @@
 // Reads items by the struct that holds the table, the words and the place: opens a reader, takes two items, and prints what
 // came of each. The words are those of document 01's row `204 4095` under the plain table; under a table of no bytes the reader
 // never gives an item.
+#![tactic(auto)]
+
 use code_table::plain::plain_table;
-use libc::STDOUT_FILENO;
+use command::say::fail;
 use row_reader::reader::take_two;
 use row_reader::step::ItemRead;
+use std::io::Print;
 use text::number::put_field;
 use text::put::put_bytes;
 
-fn main() {
+fn main(rt: HostRuntime) {
     let mut table = [0u8; 2072];
     let words = [0x31u8, 0xc3, 0x00, 0x00];
     plain_table(&mut table);
-    print_items(&table, &words);
-    print_items(b"", &words);
+    print_items(rt, &table, &words);
+    print_items(rt, b"", &words);
 }
 
-fn print_items<'a>(table: &'a [u8], words: &'a [u8]) {
+fn print_items<'a>(rt: HostRuntime, table: &'a [u8], words: &'a [u8]) {
     let taken = take_two(table, words);
-    print_item(taken.first);
-    print_item(taken.second);
+    print_item(rt, taken.first);
+    print_item(rt, taken.second);
 }
 
 // One line: the number, the pixel, and the bit place after the item.
-fn print_item(x: ItemRead) {
+fn print_item(rt: HostRuntime, x: ItemRead) {
     let mut line = [0u8; 128];
     let place = x.place;
     let mut n = put_field(&mut line, 0, b"number ", x.number as u64);
     n = put_field(&mut line, n, b" pixel ", x.pixel as u64);
     n = put_field(&mut line, n, b" at ", place.at as u64);
     n = put_bytes(&mut line, n, b"\n");
-    if io::write_all(STDOUT_FILENO, &line[..n]) {
-        return;
+    if let Err(e) = rt.stdout().write_all(&line[..n]) {
+        fail(rt, b"standard output", e);
     }
-    os::fail(b"standard output");
 }

@@ -1,4 +1,6 @@
 // What the papers say of tables and rows. The definitions are in specs/; here are the limits and types that the code shares.
+#![tactic(auto)]
+
 pub mod place;
 
 // Document 01: "Pixels are 0 to 4095; at most 4096 a row."
@@ -10,7 +12,7 @@ pub const MAX_PIXELS: u64 = 4096;
 // stopped, from the row's first word: of the faulty item for 6 to 9, of the first unused bit for 10, and 0 for every other
 // number and where it is done.
 #[repr(C)]
-#[derive(Drop)]
+#[derive(Clone, Copy)]
 pub struct RowUnpacked {
     pub number: u32,
     pub count: u32,

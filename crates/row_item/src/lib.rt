@@ -1,10 +1,12 @@
 // The items of a row, as packing writes and reading gives them, and what a row's pixels have come to.
+#![tactic(auto)]
+
 ghost use Rattle.std.specs.Prelude.{◌≡◌};
 ghost use Rattle.row_format.specs.Row.{fresh};
 ghost use Rattle.row_item.specs.Coded.{Followed, progress};
 
 // Document 01: "An item is thus one of four: a step with its size, bad pixel, bad bias, or raw with its height".
-#[derive(Drop)]
+#[derive(Clone, Copy)]
 pub enum Item {
     Difference(i32),
     BadPixel,
@@ -13,7 +15,7 @@ pub enum Item {
 }
 
 // Whether a pixel of this row has become previous, and the previous height: 0 at the row's start.
-#[derive(Drop)]
+#[derive(Clone, Copy)]
 pub struct Progress {
     pub begun: bool,
     pub previous: u32,

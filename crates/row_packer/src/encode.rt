@@ -12,7 +12,7 @@ use row_item::{Progress, after};
 
 // field  the bits of the pixel's item
 // next   what the row has come to after it
-#[derive(Drop)]
+#[derive(Clone, Copy)]
 pub struct Encoded {
     pub field: Field,
     pub next: Progress,

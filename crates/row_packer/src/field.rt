@@ -11,7 +11,7 @@ use row_item::Item;
 
 // bits   the bits, the first one lowest
 // len    how many they are, at most 27
-#[derive(Drop)]
+#[derive(Clone, Copy)]
 pub struct Field {
     pub bits: u64,
     pub len: u32,

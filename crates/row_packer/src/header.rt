@@ -5,9 +5,9 @@ ghost use Rattle.row_packer.specs.Header.{HeaderOf};
 
 use code_table::header::{low_limit, table_size};
 
-// low    low_limit
-// size   table_size
-#[derive(Drop)]
+// low    lowLimit
+// size   tableSize
+#[derive(Clone, Copy)]
 pub struct Header {
     pub low: u32,
     pub size: u32,

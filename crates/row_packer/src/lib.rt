@@ -1,4 +1,6 @@
 // Packing one row under a table, and how much room a row may take.
+#![tactic(auto)]
+
 mod encode;
 mod field;
 mod header;

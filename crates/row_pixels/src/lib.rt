@@ -1,4 +1,6 @@
 // The pixels of a row, two little-endian bytes each.
+#![tactic(auto)]
+
 ghost use Rattle.std.specs.Prelude.{◌≡◌, ◌/◌, ◌<◌, length, get_or, ltb};
 ghost use Rattle.bitstream.specs.Bits.{halves_of};
 ghost use Rattle.row_format.specs.Lists.{any};

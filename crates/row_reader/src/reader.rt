@@ -6,7 +6,7 @@ ghost use Rattle.row_reader.specs.Taken.{taken_from};
 
 use crate::step::{ItemRead, Place, item_at, start};
 
-#[derive(Drop)]
+#[derive(Clone, Copy)]
 pub struct Reader<'a, 'b> {
     pub table: &'a [u8],
     pub words: &'b [u8],
@@ -37,7 +37,7 @@ pub fn next<'s, 'a, 'b>(r: &'s mut Reader<'a, 'b>) -> ItemRead
 }
 
 // What two calls give, one after the other.
-#[derive(Drop)]
+#[derive(Clone, Copy)]
 pub struct Taken {
     pub first: ItemRead,
     pub second: ItemRead,

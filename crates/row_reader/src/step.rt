@@ -12,7 +12,7 @@ use row_unpacker::item::{Read, read_item};
 // progress   what the row has come to
 // opening    the number that opening answered: where it is not 0, every later call answers it too, and 11 where it is none of
 //            the check's
-#[derive(Drop)]
+#[derive(Clone, Copy)]
 pub struct Place {
     pub at: usize,
     pub count: u32,
@@ -22,7 +22,7 @@ pub struct Place {
 
 // Document 01's number; where it is 0 the item, its pixel and the place after it. A refusal has the place as it was, the pixel
 // 0 and an item that stands for nothing.
-#[derive(Drop)]
+#[derive(Clone, Copy)]
 pub struct ItemRead {
     pub number: u32,
     pub item: Item,

@@ -17,7 +17,7 @@ use row_item::{Item, Progress};
 
 // The item, its pixel and the bit place after it; or the number of the refusal and the place of the faulty item. The pixel is
 // first, so that the number lies where it does, and no load of one reaches over both it and the item: that would wait for both.
-#[derive(Drop)]
+#[derive(Clone, Copy)]
 pub enum Read {
     Got { pixel: u32, item: Item, next: usize },
     Refused { number: u32, place: usize },

@@ -10,7 +10,7 @@ use bitstream::number::put_u16;
 use row_item::{after, start};
 
 // The bits used; or the number of the refusal and the place of the faulty item.
-#[derive(Drop)]
+#[derive(Clone, Copy)]
 pub enum RowRead {
     Done(usize),
     Refused { number: u32, place: usize },

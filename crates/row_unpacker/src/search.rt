@@ -8,7 +8,7 @@ use bitstream::shift::low_bits;
 use code_table::header::word_at;
 
 // The place of a codeword: 0 escape, 1 bad pixel, 2 bad bias, 3 + i entry i.
-#[derive(Drop)]
+#[derive(Clone, Copy)]
 pub enum Hit {
     At(usize),
     Nowhere,

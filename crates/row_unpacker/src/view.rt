@@ -7,7 +7,7 @@ use bitstream::field::peek32;
 
 // window   the next 32 bits, the first the lowest; bits past the end are 0
 // left     how many bits are left, 64 for more than that
-#[derive(Drop)]
+#[derive(Clone, Copy)]
 pub struct View {
     pub window: u32,
     pub left: u32,

@@ -1,4 +1,6 @@
 // What the papers say of sheets. The definitions are in specs/; here are the types, limits and rules that the code shares.
+#![tactic(auto)]
+
 pub mod kind;
 pub mod place;
 pub mod word;
@@ -14,7 +16,7 @@ pub const MAX_RECORD_BYTES: usize = 32778;
 // What a sheet holds so far: how many tables, of which any number but 0 means that it has its one, and the least row number
 // that may come next (0 to 65536).
 #[repr(C)]
-#[derive(Drop)]
+#[derive(Clone, Copy)]
 pub struct SheetState {
     pub has_table: u32,
     pub least_row: u32,
@@ -25,7 +27,7 @@ pub struct SheetState {
 // where reading stopped, from the row's first word. count is the words of a table, the pixels of a row, the numbers of a line;
 // row is for rows, bits and words for packed rows; length is the bytes of the whole record.
 #[repr(C)]
-#[derive(Drop)]
+#[derive(Clone, Copy)]
 pub struct RecordRead {
     pub number: u32,
     pub kind: u32,
@@ -68,7 +70,7 @@ pub fn refused(number: u32) -> RecordRead
 // What writing a record answers: the number, and where it is 0 the bytes written and the state after the record. A refusal
 // has 0 for the count and for the state's numbers.
 #[repr(C)]
-#[derive(Drop)]
+#[derive(Clone, Copy)]
 pub struct RecordWritten {
     pub number: u32,
     pub count: u32,

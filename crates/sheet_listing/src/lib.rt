@@ -1,5 +1,7 @@
 // The listing of a sheet, a record a call: the record is judged, and its line stands at the front of lent memory. The
 // definitions are in specs/Line.antt, specs/Listed.antt and, of a whole sheet, specs/Listing.antt.
+#![tactic(auto)]
+
 mod give;
 mod line;
 
@@ -17,7 +19,7 @@ use sheet_format::{RecordRead, SheetState, refused};
 use sheet_reader::judge_record;
 
 // What listing a record answers: what judging it answers, and the bytes of its line. A refusal, 5 among them, has no line.
-#[derive(Drop)]
+#[derive(Clone, Copy)]
 pub struct ListedRecord {
     pub read: RecordRead,
     pub count: u32,

@@ -1,5 +1,7 @@
 // The picture of a sheet, a row at a time: samples are indices of colours. The definitions are in specs/Colour.antt, Extent.antt,
 // Grid.antt and View.antt; specs/Theorems.antt says what a picture shows.
+#![tactic(auto)]
+
 pub mod claim;
 pub mod colour;
 pub mod count;
@@ -14,7 +16,7 @@ pub mod size;
 // beside          what stands to the right: 0 nothing, 1 the counts of a map, 2 a map that is refused
 // most            the largest count of the map, at least 1
 // width, height   the extent of the sheet, in heights
-#[derive(Drop)]
+#[derive(Clone, Copy)]
 pub struct View {
     pub times: u32,
     pub low: u32,

@@ -1,4 +1,6 @@
 // Judging and reading the record at the front of some bytes of a sheet. The definitions are sheet_format's.
+#![tactic(auto)]
+
 mod answers;
 mod frame;
 mod keep;

@@ -10,7 +10,7 @@ use sheet_format::word::word_of;
 
 // number   12 or 13 at the earliest number that is faulty, else 0
 // used     the bytes of the numbers
-#[derive(Drop)]
+#[derive(Clone, Copy)]
 pub struct LineJudged {
     pub number: u32,
     pub used: usize,

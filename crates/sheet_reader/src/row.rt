@@ -8,7 +8,7 @@ use sheet_format::place::row_place;
 // number   14 or 16, or 0 where the fields are there and the row may stand here
 // row      its row number
 // count    its pixels
-#[derive(Drop)]
+#[derive(Clone, Copy)]
 pub struct RowFields {
     pub number: u32,
     pub row: u32,

@@ -1,25 +1,31 @@
-// A record's bytes from a descriptor.
+// A record's bytes from an input.
 ghost use Rattle.std.specs.Prelude.{◌≡◌, List, ℕ, ◌≤◌, length, take};
 ghost use Rattle.sheet_format.specs.Record.{length_field, record_span};
 ghost use Rattle.sheet_format.specs.Stream.{held_of};
 
 use bitstream::number::read_u32;
-use command::input::{Filled, fill};
+use command::input::{Filled, Source, fill};
 use sheet_format::MAX_RECORD_BYTES;
 
 // Four bytes, and as many more as they say where a record may have that length: enough to judge it, whatever stands there
 // (sheet_format, `record-span`), and no more. Fewer come only at the input's end; none come at the sheet's.
-pub fn fill_record(program: &[u8], name: &[u8], file: i32, bytes: &mut [u8]) -> Filled
+pub fn fill_record(
+    rt: HostRuntime,
+    program: &[u8],
+    name: &[u8],
+    file: &Source,
+    bytes: &mut [u8],
+) -> Filled
     requires { 32778 ≤ length bytes.old }
     ensures within { result.count ≤ 32778 }
     ensures held { take result.count bytes.new ≡ held_of (take result.count bytes.new) }
 {
-    let front = fill(program, name, file, &mut bytes[..4]);
+    let front = fill(rt, program, name, file, &mut bytes[..4]);
     if front.count < 4 {
         return front;
     }
     let end = span(read_u32(bytes, 0));
-    let rest = fill(program, name, file, &mut bytes[4..end]);
+    let rest = fill(rt, program, name, file, &mut bytes[4..end]);
     Filled {
         count: 4 + rest.count,
         failed: rest.failed,

@@ -13,7 +13,7 @@ use text::put::put_bytes;
 // kept     the bytes of its table, which stands at the front of memory lent for it
 // index    the records so far
 // rows     the rows among them
-#[derive(Drop)]
+#[derive(Clone, Copy)]
 pub struct SheetProgress {
     pub state: SheetState,
     pub kept: usize,

@@ -6,6 +6,7 @@ ghost use Rattle.sheet_stream.specs.Step.{end_step, StepMade};
 
 use crate::input::fill_record;
 use crate::progress::{SheetProgress, keep_table, number_at_end, rows_after};
+use command::input::Source;
 use sheet_format::{RecordRead, refused};
 use sheet_reader::read_record;
 
@@ -14,7 +15,7 @@ use sheet_reader::read_record;
 // taken    the bytes that were read, none at the sheet's end
 // read     what reading the record answered; where the sheet has ended the number says how, and the place where
 // next     what is carried on
-#[derive(Drop)]
+#[derive(Clone, Copy)]
 pub struct SheetStep {
     pub failed: bool,
     pub last: bool,
@@ -27,9 +28,10 @@ pub struct SheetStep {
 // that of `table`. What comes next, by the bytes that were read, is what sheet_format defines (`next_of`). No contract can say that
 // reading moves the input's next bytes, fewer than asked only at its end: with that it is the sheet's next record (`front-held`).
 pub fn take_record(
+    rt: HostRuntime,
     program: &[u8],
     name: &[u8],
-    file: i32,
+    file: &Source,
     bytes: &mut [u8],
     table: &mut [u8],
     content: &mut [u8],
@@ -45,7 +47,7 @@ pub fn take_record(
     ensures made { result.failed ≡ false
         → StepMade (take result.taken bytes.new) at table.old result table.new content.new }
 {
-    let got = fill_record(program, name, file, bytes);
+    let got = fill_record(rt, program, name, file, bytes);
     let count = got.count;
     if got.failed {
         return unread(at);

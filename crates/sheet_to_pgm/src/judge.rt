@@ -6,6 +6,7 @@ ghost use Rattle.sheet_to_pgm.specs.LineShape.{shape_after, ShapeFound};
 
 use crate::PROGRAM;
 use crate::shape::{LineShape, shape_none, shape_with};
+use command::input::Source;
 use sheet_format::RecordRead;
 use sheet_format::kind::is_row;
 use sheet_stream::progress::begin;
@@ -14,7 +15,7 @@ use sheet_verdict::say_verdict;
 
 // accepted   whether the sheet is
 // shape      then the shape of its rows
-#[derive(Drop)]
+#[derive(Clone, Copy)]
 pub struct Judged {
     pub accepted: bool,
     pub shape: LineShape,
@@ -26,7 +27,8 @@ pub struct Judged {
 // content   the heights of a row
 // at        what is carried; its index is a number that no run uses up, so that the loop ends
 pub fn judge_sheet(
-    file: i32,
+    rt: HostRuntime,
+    file: &Source,
     name: &[u8],
     bytes: &mut [u8],
     table: &mut [u8],
@@ -40,13 +42,13 @@ pub fn judge_sheet(
     let mut at = begin();
     let mut shape = shape_none();
     while at.index < u64::MAX {
-        let step = take_record(&PROGRAM, name, file, bytes, table, content, at);
+        let step = take_record(rt, &PROGRAM, name, file, bytes, table, content, at);
         if step.failed {
             return ended_with(1, shape);
         }
         let taken = step.taken;
         if step.last {
-            say_verdict(&bytes[..taken], step);
+            say_verdict(rt, &bytes[..taken], step);
             return ended_with(step.read.number, shape);
         }
         shape = shape_after(shape, step.read);

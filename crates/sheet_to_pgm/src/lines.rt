@@ -7,14 +7,14 @@ use command::say::print;
 
 // The lines that went out. Only this module makes one, so that no line is passed over.
 // next   the number of the line that comes next
-#[derive(Drop)]
+#[derive(Clone, Copy)]
 pub struct Lines {
     next: u32,
 }
 
 // written   whether the last could be
 // lines     those that are out then
-#[derive(Drop)]
+#[derive(Clone, Copy)]
 pub struct Printed {
     pub written: bool,
     pub lines: Lines,
@@ -34,12 +34,19 @@ pub fn line_number(lines: Lines) -> u32
 
 // Writes the line that comes next; no line goes out by another way. `held`, the bytes that were read last, say with those before them
 // what it must be; nothing else is done with them.
-pub fn print_line(height: u32, width: u32, lines: Lines, held: &[u8], text: &[u8]) -> Printed
+pub fn print_line(
+    rt: HostRuntime,
+    height: u32,
+    width: u32,
+    lines: Lines,
+    held: &[u8],
+    text: &[u8],
+) -> Printed
     requires next_bound { lines.next < 65536 }
     requires line_written { LineWritten height width lines.next held.now text.now }
     ensures { result.lines.next ≡ lines.next + 1 }
 {
-    let written = print(&PROGRAM, text);
+    let written = print(rt, &PROGRAM, text);
     Printed {
         written,
         lines: Lines {

@@ -1,5 +1,7 @@
 // A sheet's heights as a binary PGM. The sheet is read twice: first it is judged and its rows are measured, then they are written, a
 // row at a time; how it ends is said on standard error.
+#![tactic(auto)]
+
 mod judge;
 mod lines;
 mod pads;
@@ -12,7 +14,8 @@ mod words;
 
 use command::option::{Asked, read_options};
 use command::say::{complain, print_version, refuse_lacking, refuse_option};
-use libc::{STDERR_FILENO, STDOUT_FILENO};
+use std::io;
+use std::io::Print;
 use words::write_words;
 
 pub const PROGRAM: [u8; 12] = *b"sheet_to_pgm";
@@ -20,40 +23,43 @@ pub const PROGRAM: [u8; 12] = *b"sheet_to_pgm";
 // The options and their values.
 pub const USAGE: [u8; 7] = *b"--pad H";
 
-fn main() {
-    match read_options(&USAGE) {
-        Asked::Help => print_help(),
-        Asked::Version => print_program(),
-        Asked::Unknown(i) => refuse(i),
-        Asked::Lacking(i) => refuse_short(i),
-        Asked::Words => write_words(),
+fn main(rt: HostRuntime) {
+    match read_options(rt, &USAGE) {
+        Asked::Help => print_help(rt),
+        Asked::Version => print_program(rt),
+        Asked::Unknown(i) => refuse(rt, i),
+        Asked::Lacking(i) => refuse_short(rt, i),
+        Asked::Words => write_words(rt),
     }
 }
 
-fn print_help() {
-    if help(STDOUT_FILENO) {
-        return;
+fn print_help(rt: HostRuntime) {
+    if let Err(e) = help(&rt.stdout()) {
+        complain(rt, &PROGRAM, b"standard output", e);
     }
-    complain(&PROGRAM, b"standard output");
 }
 
-fn print_program() {
-    print_version(&PROGRAM);
+fn print_program(rt: HostRuntime) {
+    print_version(rt, &PROGRAM);
 }
 
-fn refuse(i: usize) {
-    refuse_option(&PROGRAM, i);
-    help(STDERR_FILENO);
+fn refuse(rt: HostRuntime, i: usize) {
+    refuse_option(rt, &PROGRAM, i);
+    say_help(rt);
 }
 
-fn refuse_short(i: usize) {
-    refuse_lacking(&PROGRAM, i);
-    help(STDERR_FILENO);
+fn refuse_short(rt: HostRuntime, i: usize) {
+    refuse_lacking(rt, &PROGRAM, i);
+    say_help(rt);
 }
 
-pub fn help(file: i32) -> bool {
-    io::write_all(
-        file,
+// The same on standard error.
+pub fn say_help(rt: HostRuntime) {
+    let _ = help(&rt.stderr());
+}
+
+pub fn help(to: &impl Print) -> io::Result<()> {
+    to.write_all(
         b"usage: sheet_to_pgm [--pad H] [FILE]
 
 Writes the heights of a sheet as a binary PGM, a line of samples a row, two

@@ -8,7 +8,7 @@ ghost use Rattle.sheet_to_pgm.specs.Written.{pad_height};
 use pgm_reader::put::{put_sample, put_samples};
 
 // Whether such rows are at fault, or are filled with a height.
-#[derive(Drop)]
+#[derive(Clone, Copy)]
 pub enum Pads {
     Refused,
     Height(u32),

@@ -7,33 +7,33 @@ use crate::judge::judge_sheet;
 use crate::pads::Pads;
 use crate::picture::write_picture;
 use crate::reason::has_picture;
+use command::close;
+use command::input::Source;
 use sheet_stream::twice::{again, place, twice};
 
 // What cannot be read twice is copied first.
-pub fn write_pgm(file: i32, name: &[u8], pads: Pads)
+pub fn write_pgm(rt: HostRuntime, file: Source, name: &[u8], pads: Pads)
     requires { pad_height pads ≤ 4095 }
 {
-    let source = twice(&PROGRAM, name, file);
-    if source < 0 {
+    let Some(source) = twice(rt, &PROGRAM, name, file) else {
         return;
-    }
-    write_source(source, name, pads);
-    if source != file {
-        libc::close(source);
-    }
+    };
+    write_source(rt, &source, name, pads);
+    close(source);
 }
 
-fn write_source(file: i32, name: &[u8], pads: Pads)
+fn write_source(rt: HostRuntime, file: &Source, name: &[u8], pads: Pads)
     requires { pad_height pads ≤ 4095 }
 {
     let mut bytes = [0u8; 32778];
     let mut table = [0u8; 32772];
     let mut content = [0u8; 16384];
-    write_passes(file, name, pads, &mut bytes, &mut table, &mut content);
+    write_passes(rt, file, name, pads, &mut bytes, &mut table, &mut content);
 }
 
 fn write_passes(
-    file: i32,
+    rt: HostRuntime,
+    file: &Source,
     name: &[u8],
     pads: Pads,
     bytes: &mut [u8],
@@ -46,12 +46,13 @@ fn write_passes(
     requires pads_bound { pad_height pads ≤ 4095 }
 {
     let start = place(file);
-    let judged = judge_sheet(file, name, bytes, table, content);
+    let judged = judge_sheet(rt, file, name, bytes, table, content);
     let shape = judged.shape;
     if judged.accepted {
-        if has_picture(name, pads, shape) {
-            if again(&PROGRAM, name, file, start) {
+        if has_picture(rt, name, pads, shape) {
+            if again(rt, &PROGRAM, name, file, start) {
                 write_picture(
+                    rt,
                     file,
                     name,
                     pads,

@@ -5,13 +5,15 @@ ghost use Rattle.sheet_to_pgm.specs.Written.{pad_height, PictureFound, PictureFr
 use crate::PROGRAM;
 use crate::pads::{Pads, pad_height};
 use crate::rows::write_rows;
+use command::input::Source;
 use command::say::print;
 use pgm_reader::put::put_pgm_header;
 
 // bytes, table, content   as in the first pass
 // line                    the bytes that are written
 pub fn write_picture(
-    file: i32,
+    rt: HostRuntime,
+    file: &Source,
     name: &[u8],
     pads: Pads,
     width: u32,
@@ -27,8 +29,9 @@ pub fn write_picture(
     requires picture_found { PictureFound pads width count }
 {
     let mut line = [0u8; 8192];
-    if write_front(pads, width, count, &mut line) {
+    if write_front(rt, pads, width, count, &mut line) {
         write_rows(
+            rt,
             file,
             name,
             pad_height(pads),
@@ -42,17 +45,17 @@ pub fn write_picture(
     }
 }
 
-fn write_front(pads: Pads, width: u32, count: u32, line: &mut [u8]) -> bool
+fn write_front(rt: HostRuntime, pads: Pads, width: u32, count: u32, line: &mut [u8]) -> bool
     requires in_bounds { 8192 ≤ length line.old }
     requires picture_found { PictureFound pads width count }
 {
     let n = put_pgm_header(line, width, count);
-    print_front(pads, width, count, &line[..n])
+    print_front(rt, pads, width, count, &line[..n])
 }
 
 // Nothing else goes out before the lines.
-fn print_front(pads: Pads, width: u32, count: u32, text: &[u8]) -> bool
+fn print_front(rt: HostRuntime, pads: Pads, width: u32, count: u32, text: &[u8]) -> bool
     requires { PictureFront pads width count text.now }
 {
-    print(&PROGRAM, text)
+    print(rt, &PROGRAM, text)
 }

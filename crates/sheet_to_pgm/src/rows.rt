@@ -7,6 +7,7 @@ ghost use Rattle.sheet_to_pgm.specs.Written.{RowSettled, RowBrought, lines_after
 use crate::PROGRAM;
 use crate::lines::{Lines, Printed, line_number, no_lines, print_line};
 use crate::pads::put_line;
+use command::input::Source;
 use command::say::hint;
 use sheet_format::kind::is_row;
 use sheet_stream::progress::begin;
@@ -16,7 +17,8 @@ use sheet_stream::step::{SheetStep, take_record};
 // at      what is carried; its index is a number that no run uses up, so that the loop ends
 // lines   the lines that are out: those before the least row that may come
 pub fn write_rows(
-    file: i32,
+    rt: HostRuntime,
+    file: &Source,
     name: &[u8],
     height: u32,
     width: u32,
@@ -35,17 +37,19 @@ pub fn write_rows(
     let mut at = begin();
     let mut lines = no_lines();
     while at.index < u64::MAX {
-        let step = take_record(&PROGRAM, name, file, bytes, table, content, at);
+        let step = take_record(rt, &PROGRAM, name, file, bytes, table, content, at);
         if step.failed {
             return;
         }
         let taken = step.taken;
         if step.last {
-            end_rows(name, lines, count);
+            end_rows(rt, name, lines, count);
             return;
         }
         let held = &bytes[..taken];
-        let printed = write_record(name, height, width, count, held, lines, step, content, line);
+        let printed = write_record(
+            rt, name, height, width, count, held, lines, step, content, line,
+        );
         if printed.written {
             lines = printed.lines;
             at = step.next;
@@ -55,14 +59,15 @@ pub fn write_rows(
     }
 }
 
-fn end_rows(name: &[u8], lines: Lines, count: u32) {
+fn end_rows(rt: HostRuntime, name: &[u8], lines: Lines, count: u32) {
     if line_number(lines) != count {
-        changed(name);
+        changed(rt, name);
     }
 }
 
-fn changed(name: &[u8]) {
+fn changed(rt: HostRuntime, name: &[u8]) {
     hint(
+        rt,
         &PROGRAM,
         name,
         b"the sheet is not what it was when it was read first",
@@ -71,6 +76,7 @@ fn changed(name: &[u8]) {
 
 // The lines that the record read last settles: of a row, those of the numbers that it passes over, and its own.
 fn write_record(
+    rt: HostRuntime,
     name: &[u8],
     height: u32,
     width: u32,
@@ -88,11 +94,11 @@ fn write_record(
 {
     let read = step.read;
     if is_row(read.kind) {
-        if fits_picture(name, count, width, read.row, read.count) {
-            let gap = write_gap(height, width, held, lines, read.row, line);
+        if fits_picture(rt, name, count, width, read.row, read.count) {
+            let gap = write_gap(rt, height, width, held, lines, read.row, line);
             if gap.written {
                 let n = 2 * read.count as usize;
-                return write_line(height, width, held, gap.lines, &content[..n], line);
+                return write_line(rt, height, width, held, gap.lines, &content[..n], line);
             }
             return gap;
         }
@@ -108,15 +114,22 @@ fn write_record(
 }
 
 // Whether such a row is within the picture, as all were when the sheet was read first; where not, that is said.
-fn fits_picture(name: &[u8], count: u32, width: u32, row: u32, heights: u32) -> bool
+fn fits_picture(
+    rt: HostRuntime,
+    name: &[u8],
+    count: u32,
+    width: u32,
+    row: u32,
+    heights: u32,
+) -> bool
     ensures { result ≡ true → heights ≤ width }
 {
     if count <= row {
-        changed(name);
+        changed(rt, name);
         return false;
     }
     if width < heights {
-        changed(name);
+        changed(rt, name);
         return false;
     }
     true
@@ -124,6 +137,7 @@ fn fits_picture(name: &[u8], count: u32, width: u32, row: u32, heights: u32) -> 
 
 // The lines before number `to`, which are missing.
 fn write_gap(
+    rt: HostRuntime,
     height: u32,
     width: u32,
     held: &[u8],
@@ -141,7 +155,7 @@ fn write_gap(
     let n = put_line(line, height, width as usize, &none);
     let mut out = lines;
     while line_number(out) < to {
-        let printed = print_line(height, width, out, held, &line[..n]);
+        let printed = print_line(rt, height, width, out, held, &line[..n]);
         if printed.written {
             out = printed.lines;
         } else {
@@ -156,6 +170,7 @@ fn write_gap(
 
 // The line of a row with these heights.
 fn write_line(
+    rt: HostRuntime,
     height: u32,
     width: u32,
     held: &[u8],
@@ -171,5 +186,5 @@ fn write_line(
     ensures { result.lines.next ≡ lines.next + 1 }
 {
     let n = put_line(line, height, width as usize, pixels);
-    print_line(height, width, lines, held, &line[..n])
+    print_line(rt, height, width, lines, held, &line[..n])
 }

@@ -3,7 +3,7 @@ ghost use Rattle.std.specs.Prelude.{◌≡◌, ◌<◌};
 ghost use Rattle.sheet_to_pgm.specs.LineShape.{shape_none, fault_with, or_first, first_with, shape_width, shape_with};
 
 // The first fault of some rows: none, a row that is missing, or one, with so many heights, that is not as long as row 0.
-#[derive(Drop)]
+#[derive(Clone, Copy)]
 pub enum RowFault {
     Whole,
     Missing(u32),
@@ -14,7 +14,7 @@ pub enum RowFault {
 // count   the rows to the last one
 // first   the heights of row 0
 // fault   the first fault in row order
-#[derive(Drop)]
+#[derive(Clone, Copy)]
 pub struct LineShape {
     pub width: u32,
     pub count: u32,

@@ -5,14 +5,14 @@ ghost use Rattle.sheet_to_text.specs.RowRange.{before_dash, in_order_only, range
 use text::read::{Decimal, read_decimal};
 
 // The rows with these numbers and those between them.
-#[derive(Drop)]
+#[derive(Clone, Copy)]
 pub struct RowRange {
     pub first: u64,
     pub last: u64,
 }
 
 // What some bytes say, where they are read as a range.
-#[derive(Drop)]
+#[derive(Clone, Copy)]
 pub enum RangeRead {
     Range(RowRange),
     NoRange,

@@ -1,5 +1,7 @@
 // Writing the records of a sheet. What the one call answers is defined in sheet_format's specs/Writing.antt. A kind that
 // needs no table is written alike in every sheet of which the given state is kept, and its functions say so.
+#![tactic(auto)]
+
 mod done;
 mod fields;
 mod line;

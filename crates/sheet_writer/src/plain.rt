@@ -8,7 +8,7 @@ ghost use Rattle.sheet_writer.specs.BeforeRoom.{before_room};
 
 use crate::done::{refused, written};
 use crate::fields::put_row_fields;
-use bytes::copy;
+use bitstream::copy::copy;
 use row_format::MAX_PIXELS;
 use row_pixels::any_above;
 use sheet_format::place::{after_row, row_place};
@@ -32,7 +32,7 @@ pub fn write_plain(row: u32, content: &[u8], state: SheetState, out: &mut [u8]) 
     if out.len() < record_bytes {
         return refused(5);
     }
-    copy(&content[..end], &mut out[FIELD_BYTES..]);
+    copy(content, end, &mut out[FIELD_BYTES..]);
     put_row_fields(3, row, pixels as u32, record_bytes as u32, out);
     written(record_bytes as u32, after_row(row, state))
 }

@@ -8,7 +8,7 @@ ghost use Rattle.sheet_writer.specs.BeforeRoom.{before_room};
 
 use crate::done::{refused, written};
 use crate::fields::put_record_fields;
-use bytes::copy;
+use bitstream::copy::copy;
 use row_packer::pack::pack;
 use sheet_format::place::{after_table, table_place};
 use sheet_format::{RecordWritten, SheetState};
@@ -28,7 +28,7 @@ pub fn write_table(content: &[u8], state: SheetState, out: &mut [u8]) -> RecordW
     if out.len() < record_bytes {
         return refused(5);
     }
-    copy(content, &mut out[FIELD_BYTES..]);
+    copy(content, content.len(), &mut out[FIELD_BYTES..]);
     put_record_fields(1, record_bytes as u32, out);
     written(record_bytes as u32, after_table(state))
 }

@@ -1,5 +1,7 @@
 // The leaves of `bitstream::shift`, each compiled on its own and for every input, so that tests/shifts can read their machine
 // code: in the library they are parts of their callers. No part of the library.
+#![tactic(auto)]
+
 ghost use Rattle.std.specs.Prelude.{◌≡◌, ◌+◌, ◌*◌, ◌/◌, ◌%◌, ◌^◌};
 
 use bitstream::shift;

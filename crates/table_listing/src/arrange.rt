@@ -9,7 +9,7 @@ ghost use Rattle.table_listing.specs.Parted.{Parted};
 use crate::string::way_of;
 
 // Where the places that go into the 0-branch begin, and where those that go into the 1-branch do.
-#[derive(Drop)]
+#[derive(Clone, Copy)]
 struct Parts {
     ends: usize,
     zeros: usize,

@@ -1,5 +1,7 @@
 // The listing of a table: its strings in tree order, a line each. It is given out in blocks of whole lines, so that whoever
 // prints it needs little memory. The definitions are in specs/Listing.antt.
+#![tactic(auto)]
+
 mod arrange;
 mod block;
 mod line;
@@ -16,7 +18,7 @@ use code_table::check::check;
 
 // A number of document 01's table, 0 for done; how many lines a call put, and how many bytes they take. A refusal has 0 for
 // both.
-#[derive(Drop)]
+#[derive(Clone, Copy)]
 pub struct ListedLines {
     pub number: u32,
     pub lines: usize,

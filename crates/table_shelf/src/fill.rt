@@ -2,7 +2,7 @@
 ghost use Rattle.std.specs.Prelude.{◌≡◌, ◌++◌, ◌+◌, ◌-◌, ◌*◌, ◌≤◌, length, take, replicate};
 ghost use Rattle.shelf_format.specs.Shelf.{placed, filled};
 
-use bytes::copy;
+use bitstream::copy::copy;
 use shelf_format::PLACE_BYTES;
 
 // All bytes of the place: no word of what stood there is left behind.
@@ -20,7 +20,7 @@ fn fill(to: &mut [u8], table: &[u8])
     requires table_len_bound { length table.now ≤ 32772 }
     ensures { to.new ≡ filled table.now }
 {
-    copy(table, to);
+    copy(table, table.len(), to);
     clear(to, table.len());
 }
 

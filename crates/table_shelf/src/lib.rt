@@ -1,5 +1,7 @@
 // The calls on a shelf of tables that two parties share: open it, put and remove a table, and pack, unpack and ask for room under
 // the table of a place. Document 02, ticket 6; the definitions are in shelf_format.
+#![tactic(auto)]
+
 mod changed;
 mod fill;
 pub mod open;

@@ -41,7 +41,7 @@ fn free_number(shelf: &[u8], place: usize) -> u32
     if is_free(shelf, place) { 23 } else { 0 }
 }
 
-// Where the place's table ends on the shelf; where its place ends, if table_size says more than a place holds.
+// Where the place's table ends on the shelf; where its place ends, if tableSize says more than a place holds.
 pub fn table_end(shelf: &[u8], place: usize) -> usize
     requires { 32772 * place + 32772 ≤ length shelf.now }
     ensures { TableEnds shelf.now place result }

@@ -9,7 +9,7 @@ use row_reader::step::Place;
 // A reader's place. at: the bit place of the next item; count: the items given; previous: the previous height; begun: 0 where
 // no pixel has become previous, else 1. Numbers of one size, so that no bytes lie unused between or after them.
 #[repr(C)]
-#[derive(Drop)]
+#[derive(Clone, Copy)]
 pub struct ReaderPlace {
     pub at: u32,
     pub count: u32,
@@ -19,7 +19,7 @@ pub struct ReaderPlace {
 
 // What opening answers: the check's number, and the place of a row's first item.
 #[repr(C)]
-#[derive(Drop)]
+#[derive(Clone, Copy)]
 pub struct ReaderOpened {
     pub number: u32,
     pub place: ReaderPlace,
@@ -27,7 +27,7 @@ pub struct ReaderOpened {
 
 // kind: 1 a step, with its size, 2 a bad pixel, 3 a bad bias, 4 a raw height; 0 where refused, and then place is as it was.
 #[repr(C)]
-#[derive(Drop)]
+#[derive(Clone, Copy)]
 pub struct ItemAnswer {
     pub number: u32,
     pub kind: u32,

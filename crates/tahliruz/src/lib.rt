@@ -1,4 +1,6 @@
 // The calls that C links: each passes its arguments on to the proved call of the same name. include/tahliruz.h declares them.
+#![tactic(auto)]
+
 pub mod item;
 
 ghost use Rattle.std.specs.Prelude.{◌≡◌};

@@ -1,5 +1,7 @@
 // Turns text into a map: the counts, in decimal, are read from the text, and the map goes to standard output when all are known. One
 // line on standard error says how it ended: `done bytes N photons T` or `refused 14`. What is no text of counts is said there too.
+#![tactic(auto)]
+
 mod convert;
 mod take;
 mod verdict;
@@ -7,39 +9,43 @@ mod words;
 
 use command::say::{complain, print_version, refuse_option};
 use command::{Request, read_request};
-use libc::{STDERR_FILENO, STDOUT_FILENO};
+use std::io;
+use std::io::Print;
 use words::convert_words;
 
 pub const PROGRAM: [u8; 11] = *b"text_to_map";
 
-fn main() {
-    match read_request() {
-        Request::Help => print_help(),
-        Request::Version => print_program(),
-        Request::Unknown(i) => refuse(i),
-        Request::Files(words) => convert_words(words),
+fn main(rt: HostRuntime) {
+    match read_request(rt) {
+        Request::Help => print_help(rt),
+        Request::Version => print_program(rt),
+        Request::Unknown(i) => refuse(rt, i),
+        Request::Files(words) => convert_words(rt, words),
     }
 }
 
-fn print_help() {
-    if help(STDOUT_FILENO) {
-        return;
+fn print_help(rt: HostRuntime) {
+    if let Err(e) = help(&rt.stdout()) {
+        complain(rt, &PROGRAM, b"standard output", e);
     }
-    complain(&PROGRAM, b"standard output");
 }
 
-fn print_program() {
-    print_version(&PROGRAM);
+fn print_program(rt: HostRuntime) {
+    print_version(rt, &PROGRAM);
 }
 
-fn refuse(i: usize) {
-    refuse_option(&PROGRAM, i);
-    help(STDERR_FILENO);
+fn refuse(rt: HostRuntime, i: usize) {
+    refuse_option(rt, &PROGRAM, i);
+    say_help(rt);
 }
 
-pub fn help(file: i32) -> bool {
-    io::write_all(
-        file,
+// The same on standard error.
+pub fn say_help(rt: HostRuntime) {
+    let _ = help(&rt.stderr());
+}
+
+pub fn help(to: &impl Print) -> io::Result<()> {
+    to.write_all(
         b"usage: text_to_map GROUP [FILE]
 
 Turns text into a pressure mat map on standard output: 16384 counts in decimal,

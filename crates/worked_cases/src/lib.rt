@@ -1,1 +1,2 @@
 // The papers' worked cases as theorems, in specs/. No code.
+#![tactic(auto)]

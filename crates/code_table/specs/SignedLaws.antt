@@ -1,7 +1,7 @@
 -- The laws of signed differences as the code holds them, in i32. Assumes nothing.
 use Rattle.std.specs.Prelude.{ℕ, ◌≤◌, ◌≡◌, ℤ, pos, ◌+ℤ◌, ltb}
 use Rattle.std.proofs.Common.{arith, ap, ◌∙◌, SFits, to_z, of_z, to_z-of_z}
-use Rattle.std.proofs.Math.IntN.{-ℤ-+ℤ_cancel}
+use Rattle.std.proofs.Math.IntN.{ -ℤ-+ℤ_cancel}
 use Rattle.std.specs.Int.{w32}
 use Rattle.row_format.specs.Lists.Laws.{by-test}
 use Rattle.row_format.specs.Table.{signed_difference}
@@ -22,7 +22,7 @@ pub record DifferenceCount (z : ℤ) : Type 0 where
 -- ---- the count of a signed number as the code computes it, in i32
 module _ (z : ℤ) (f : SFits w32 z) (c : DifferenceCount z) where
   sum_is : to_z w32 (of_z w32 z) +ℤ pos 4093 ≡ pos c.count
-  sum_is = ap (_+ℤ pos 4093) (to_z-of_z f ∙ c.is) ∙ signed_back c.count
+  sum_is = ap (λ (k : ℤ). k +ℤ pos 4093) (to_z-of_z f ∙ c.is) ∙ signed_back c.count
 
   pub sum_fits : SFits w32 (to_z w32 (of_z w32 z) +ℤ pos 4093)
   sum_fits = rw sum_is (record { sfits = omega (arith, c.most) })

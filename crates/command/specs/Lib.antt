@@ -1,3 +1,4 @@
 pub mod Argument
 pub mod Number
 pub mod Option
+pub mod Prefix

@@ -1,7 +1,7 @@
 -- Source document 004's flags, one sentence each: which elements of the three arrays stand for which elements of a row, and which are
 -- refused. It is not how they are read: what stands for a row (`PartCode`, `RowCode`) says nothing of an order in which something is
 -- judged. What is refused (`FaultCode`) has 26 where 25 is not, and takes counts and how many values a flag wants from Row. max is MAX.
--- Definitions only; their laws are in Grammar/. Assumes nothing.
+-- Definitions only; their laws are in proofs/Grammar/. Assumes nothing.
 use Rattle.std.specs.Prelude.{ℕ, ◌+◌, ◌≤◌, ◌<◌, ◌≡◌, true, false, ◌⊎◌, List, [], ◌∷◌, ◌++◌, map, length, replicate, ℤ, pos, ◌+ℤ◌, ◌-ℤ◌}
 use Rattle.delta_format.specs.Numbers.{in32}
 use Rattle.delta_format.specs.Row.{
@@ -21,8 +21,6 @@ use Rattle.delta_format.specs.Row.{
   count_of,
   values_for,
 }
-pub mod Laws
-pub mod Exact
 
 -- ---- the five flags
 abbrev pub below_max : Flag → ℕ

@@ -2,4 +2,3 @@ pub mod Numbers
 pub mod Row
 pub mod Grammar
 pub mod Calls
-pub mod Theorems

@@ -1,10 +1,9 @@
 -- Source document 004, "Delta Compressed Array Form", as document 02's ticket 7 reads it: the row that elements of the three arrays
 -- are read as. max is MAX; ds, vs and rs are what is not read yet of DATA, VALUE and REPEAT, left is how many elements the row still
--- wants. No width is named: all nine combinations are this row. Definitions only; their laws are in Row/. Assumes nothing.
+-- wants. No width is named: all nine combinations are this row. Definitions only; their laws are in proofs/Row/. Assumes nothing.
 use Rattle.std.specs.Prelude.{ℕ, zero, suc, ◌-◌, cond, ◌||◌, List, [], ◌∷◌, ◌++◌, map, length, take, drop, replicate, ltb, eqb, ℤ, pos, negsuc, ◌+ℤ◌, ◌-ℤ◌}
 use Rattle.answer.specs.Outcome.{◌or_else◌, refuse_if, unless}
 use Rattle.delta_format.specs.Numbers.{in32}
-pub mod Laws
 
 -- an element of a row
 pub data Element : Type 0 where

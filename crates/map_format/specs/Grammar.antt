@@ -6,9 +6,6 @@ use Rattle.std.specs.Prelude.{ℕ, suc, ◌+◌, ◌^◌, ◌≤◌, ◌<◌, �
 use Rattle.bitstream.specs.Msb.{msb_digits}
 use Rattle.map_format.specs.Reading.{sum, photon, dark}
 pub mod Counts
-pub mod Exact
-pub mod Read
-pub mod Stands
 
 -- ---- pixels
 -- "111111 followed by the full 16-bit pixel value"

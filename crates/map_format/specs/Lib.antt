@@ -3,6 +3,5 @@ pub mod Cases
 pub mod Choice
 pub mod Grammar
 pub mod Reading
-pub mod Theorems
 pub mod Verdict
 pub mod Writing

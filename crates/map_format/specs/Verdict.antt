@@ -1,12 +1,11 @@
 -- What each number of the two calls says, in the words of document 02's ticket 3; a number has no other case than these. g is a group
--- size, s the bytes that are given and m the memory that is lent. Definitions only; their laws are in Verdict/. Assumes nothing.
+-- size, s the bytes that are given and m the memory that is lent. Definitions only; their laws are in proofs/Verdict/. Assumes nothing.
 use Rattle.std.specs.Prelude.{ℕ, ◌/◌, ◌≤◌, ◌<◌, ◌≡◌, ◌⊎◌, List, length}
 use Rattle.bitstream.specs.Bits.{halves_of}
 use Rattle.bitstream.specs.Msb.{msb_bits_of}
 use Rattle.map_format.specs.Reading.{sum}
 use Rattle.map_format.specs.Calls.{position_bits, map_groups, map_bytes}
 use Rattle.map_format.specs.Grammar.{Begins, Fault20, Unfinished}
-pub mod Laws
 
 abbrev pub GroupSize : ℕ → Type 0
 GroupSize g = (g ≡ 4) ⊎ (g ≡ 16)

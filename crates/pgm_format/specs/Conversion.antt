@@ -14,9 +14,7 @@ use Rattle.fits_format.specs.Image.{big_endian}
 use Rattle.fits_format.specs.Conversion.{RowsWritten, rows_end, row_first, Conversion, header_refused, after_header}
 use Rattle.pgm_format.specs.Header.{pgm_header}
 pub mod Laws
-pub mod Rows
 pub mod Again
-pub mod Call
 
 -- ---- a row of w samples, whose bytes s begins with
 -- 18 where they are cut short, then 4 for a sample above 4095

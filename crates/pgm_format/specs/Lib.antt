@@ -3,4 +3,3 @@ pub mod Samples
 pub mod Shape
 pub mod Conversion
 pub mod Cases
-pub mod Theorems

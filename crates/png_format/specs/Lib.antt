@@ -5,5 +5,4 @@ pub mod Stored
 pub mod Png
 pub mod Reading
 pub mod Chunks
-pub mod Theorems
 pub mod Cases

@@ -1,6 +1,6 @@
 -- A reader of pictures, from the PNG specification, RFC 1950 and RFC 1951 alone: IHDR, PLTE, then chunks of any kind, IEND last; a
 -- zlib stream of stored blocks of any lengths, scanlines without a filter. It knows nothing of how Png.antt cuts a picture up, and
--- refuses (none) what is not whole or does not match its checksum. Definitions only; their laws are in Reading/. Assumes nothing.
+-- refuses (none) what is not whole or does not match its checksum. Definitions only; their laws are in proofs/Reading/. Assumes nothing.
 use Rattle.std.specs.Prelude.{ℕ, zero, suc, ◌+◌, ◌*◌, ◌/◌, ◌%◌, Bool, false, cond, List, [], ◌∷◌, ◌++◌, length, take, drop, get_or, eqb, ltb}
 use Rattle.std.proofs.Math.Option.{Option, none, some}
 use Rattle.text.specs.Text.{ascii}
@@ -8,9 +8,6 @@ use Rattle.text.specs.Same.{same_bytes}
 use Rattle.png_format.specs.Crc.{crc}
 use Rattle.png_format.specs.Adler.{adler}
 use Rattle.png_format.specs.Png.{signature}
-pub mod Chunks
-pub mod Blocks
-pub mod Back
 
 -- the number that four bytes hold, the highest byte first; that of two bytes, the lower first
 abbrev pub big_number : List ℕ → ℕ

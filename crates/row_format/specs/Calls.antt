@@ -10,7 +10,6 @@ use Rattle.row_format.specs.Place.{place_shown}
 use Rattle.row_format.specs.declared.RowUnpacked.{RowUnpacked}
 use Rattle.answer.specs.declared.Answer.{Answer}
 use Rattle.answer.specs.Outcome.{Outcome, outcome, writes, answer_of, refusal, refused, wrote, ◌or_else◌, unless, lent, room_number}
-pub mod Laws
 
 -- ---- the table check: the number and, where accepted, M
 unfoldable pub checked : List ℕ → Answer

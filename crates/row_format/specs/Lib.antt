@@ -7,4 +7,3 @@ pub mod FirstHeight
 pub mod Place
 pub mod Reading
 pub mod Calls
-pub mod Theorems

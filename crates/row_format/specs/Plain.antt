@@ -8,7 +8,7 @@ unfoldable pub plain_entries : ℕ → ℕ → List ℕ
 plain_entries i zero = []
 plain_entries i (suc n) = (64 * i + 10) ∷ plain_entries (suc i) n
 
--- "Id 1, low_limit 3837, table_size 512, raw word 34, bad-pixel word 99, bad-bias word 227"
+-- "Id 1, lowLimit 3837, tableSize 512, raw word 34, bad-pixel word 99, bad-bias word 227"
 unfoldable pub plain_table : List ℕ
 plain_table = 1 ∷ 3837 ∷ 512 ∷ 34 ∷ 99 ∷ 227 ∷ plain_entries 0 512
 

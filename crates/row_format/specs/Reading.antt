@@ -6,7 +6,6 @@ use Rattle.answer.specs.Outcome.{◌or_else◌, refuse_if, unless, Lent, room_nu
 use Rattle.row_format.specs.Lists.{any, least}
 use Rattle.row_format.specs.Table.{codewords, codeword_at, entry_difference, table_number, has_difference}
 use Rattle.row_format.specs.Row.{Item, difference, bad_pixel, bad_bias, escape, State, fresh, previous, difference_to, pixel_of, pixels_of, after, after_all, bits, by_difference, too_many}
-pub mod Laws
 
 -- the place of the first string that begins the rest; in an accepted table it is the only one
 pub data Match : Type 0 where

@@ -1,4 +1,4 @@
--- Document 01, "A table". A table is a list of 32-bit words: table id, low_limit, table_size, raw, bad-pixel and bad-bias
+-- Document 01, "A table". A table is a list of 32-bit words: table id, lowLimit, tableSize, raw, bad-pixel and bad-bias
 -- string, then the entries. What the document calls a string is a codeword here, a step is a difference, and the raw
 -- string is the escape codeword. Every definition is total; accepted tables are those of verdict 0. Assumes nothing.
 use Rattle.std.specs.Prelude.{ℕ, ◌+◌, ◌/◌, ◌%◌, ◌^◌, max, ◌≤◌, ◌<◌, ◌≡◌, Bool, false, cond, not, ◌&&◌, ◌||◌, List, [], ◌∷◌, map, length, drop, get_or, ℤ, pos, ◌-ℤ◌, leb, ltb, eqb}
@@ -38,7 +38,7 @@ escape_length t = get_or t 3 0 % 32
 abbrev pub signed_difference : ℕ → ℤ
 signed_difference k = pos k -ℤ pos 4093
 
--- "Entry i stands for the signed step i + low_limit - 4093"
+-- "Entry i stands for the signed step i + lowLimit - 4093"
 abbrev pub entry_difference : List ℕ → ℕ → ℕ
 entry_difference t i = i + low_limit t
 
@@ -47,8 +47,8 @@ abbrev pub has_difference : List ℕ → ℕ → Bool
 has_difference t k = leb (low_limit t) k && ltb k (low_limit t + table_size t)
 
 -- ---- which tables are refused, and by which number
--- 1: "table_size is 1 to 8187, and low_limit + table_size is at most 8187, as a true sum that never wraps", and the table is
--- 6 + table_size words
+-- 1: "tableSize is 1 to 8187, and lowLimit + tableSize is at most 8187, as a true sum that never wraps", and the table is
+-- 6 + tableSize words
 unfoldable pub wrong_size : List ℕ → Bool
 wrong_size t = not (leb 1 (table_size t) && (leb (low_limit t + table_size t) 8187 && eqb (length t) (6 + table_size t)))
 

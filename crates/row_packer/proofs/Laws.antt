@@ -17,7 +17,7 @@ use Rattle.row_format.specs.Table.{table_number, max_item_bits}
 use Rattle.row_format.specs.Table.Laws.{max_item_bits-most, accepted-table}
 use Rattle.row_format.specs.Row.{row_bits}
 use Rattle.row_format.specs.Calls.{checked, pack_number, packed_row, packed, room}
-use Rattle.row_format.specs.Calls.Laws.{answer-number}
+use Rattle.row_format.proofs.Calls.Laws.{answer-number}
 use Rattle.code_table.specs.Check.Laws.{length-words}
 use Rattle.row_pixels.specs.Laws.{inside-halves, past-halves}
 use Rattle.row_packer.specs.Write.{Written}

@@ -1,5 +1,5 @@
 -- The bits of an item, as a number and its length. Definitions only. Assumes nothing.
-use Rattle.std.specs.Prelude.{ℕ, ◌+◌, ◌^◌, ◌≤◌, ◌<◌, ◌≡◌, List, ℤ, pos, nat_abs, ◌+ℤ◌}
+use Rattle.std.specs.Prelude.{ℕ, ◌+◌, ◌^◌, ◌≤◌, ◌<◌, ◌≡◌, List, pos, nat_abs, ◌+ℤ◌}
 use Prim.{Unit}
 use Rattle.bitstream.specs.Bits.{digits}
 use Rattle.row_format.specs.Table.{low_limit, table_size}

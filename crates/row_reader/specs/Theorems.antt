@@ -10,10 +10,10 @@ use Rattle.row_format.specs.Table.{table_number, max_item_bits}
 use Rattle.row_format.specs.Row.{pixel_bytes}
 use Rattle.row_format.specs.Reading.{bits_of_reading}
 use Rattle.row_format.specs.Calls.{row_refused, row_wrote, unpacked}
-use Rattle.row_format.specs.Theorems.Bounds.{read_item-uses}
-use Rattle.row_format.specs.Theorems.Done.{unpacked-accepts}
-use Rattle.row_format.specs.Theorems.Numbers.{table_number-in}
-use Rattle.row_format.specs.Theorems.Places.{unpacked-stopped}
+use Rattle.row_format.proofs.Theorems.Bounds.{read_item-uses}
+use Rattle.row_format.proofs.Theorems.Done.{unpacked-accepts}
+use Rattle.row_format.proofs.Theorems.Numbers.{table_number-in}
+use Rattle.row_format.proofs.Theorems.Places.{unpacked-stopped}
 use Rattle.row_reader.specs.declared.step.Place.{Place}
 use Rattle.row_reader.specs.Step.{start_place, impossible, refused_at, reading_at, item_read}
 use Rattle.row_reader.specs.Step.Laws.{place_number-unopened, place_number-impossible, place_number-given, item_read-number, item_read-in}

@@ -10,5 +10,4 @@ pub mod Sheet
 pub mod Size
 pub mod Stream
 pub mod Given
-pub mod Theorems
 pub mod Cases

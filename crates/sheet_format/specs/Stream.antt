@@ -1,5 +1,5 @@
 -- A sheet read one record at a time, as a program does that holds no more of it: of the bytes that are left it holds as many as
--- `record_span` says, judges the record there, and goes on behind it. Definitions only; their laws are in Stream/. Assumes nothing.
+-- `record_span` says, judges the record there, and goes on behind it. Definitions only; their laws are in proofs/Stream/. Assumes nothing.
 use Rattle.std.specs.Prelude.{ℕ, ◌+◌, ◌≡◌, cond, List, [], ◌∷◌, length, take, eqb}
 use Rattle.answer.specs.Outcome.{unless}
 use Rattle.sheet_format.specs.declared.SheetState.{SheetState}
@@ -10,10 +10,6 @@ use Rattle.sheet_format.specs.Kinds.{kind_of}
 use Rattle.sheet_format.specs.Record.{body_of, record_span}
 use Rattle.sheet_format.specs.Reading.{record_judged}
 use Rattle.sheet_format.specs.Sheet.{SheetRecord, Reaches, record_here, records, row_numbers}
-pub mod Held
-pub mod Laws
-pub mod Settled
-pub mod Taken
 
 -- the bytes that are held of what is left
 abbrev pub held_of : List ℕ → List ℕ

@@ -1,7 +1,7 @@
 -- Document 02's ticket 6: what opening a shelf, putting and removing a table, and using one come to, as functions of all their
 -- inputs, the shelf and the memory lent for writing included. s is the shelf, p the party and i the place that a call names, of any
 -- value; tb, pb and wb are the bytes of a table, of pixels and of words, and m is the memory lent for a row. Every call but opening
--- looks at the shelf's length, and at what it holds through the party's view of it, v. Definitions only; their laws are in Calls/.
+-- looks at the shelf's length, and at what it holds through the party's view of it, v. Definitions only; their laws are in proofs/Calls/.
 -- Assumes nothing.
 use Rattle.std.specs.Prelude.{ℕ, ◌+◌, ◌≤◌, ◌<◌, ◌≡◌, Bool, true, false, not, List, [], ◌∷◌, ◌++◌, length, replicate, eqb}
 use Rattle.answer.specs.declared.Answer.{Answer}
@@ -12,7 +12,6 @@ use Rattle.row_format.specs.Table.{table_number}
 use Rattle.row_format.specs.Calls.{packed, row_refused, unpacked, room}
 use Rattle.shelf_format.specs.declared.PlaceChanged.{PlaceChanged}
 use Rattle.shelf_format.specs.Shelf.{shelf_bytes, place, placed, filled, is_free, table_in, is_party, first_own, is_own, may_use, view, OnlyPlace}
-pub mod Laws
 
 -- "a later call on a shelf too short is refused 5 first"
 abbrev pub short_number : List ℕ → ℕ

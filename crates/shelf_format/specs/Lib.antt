@@ -1,4 +1,3 @@
 pub mod Shelf
 pub mod Calls
 pub mod Run
-pub mod Theorems

@@ -1,10 +1,9 @@
 -- Document 02's ticket 6, "The partner shares our shelf of tables": what a shelf holds, and whose its places are. A shelf s and
--- what stands in a place, b, are bytes; p is a party and i a place, of any value. Definitions only; their laws are in Shelf/.
+-- what stands in a place, b, are bytes; p is a party and i a place, of any value. Definitions only; their laws are in proofs/Shelf/.
 -- Assumes nothing.
 use Rattle.std.specs.Prelude.{ℕ, ◌+◌, ◌-◌, ◌*◌, ◌≡◌, Bool, cond, ◌&&◌, ◌||◌, List, [], ◌++◌, length, take, drop, replicate, ltb, leb, eqb}
 use Rattle.bitstream.specs.Bits.{words_of}
 use Rattle.row_format.specs.Table.{table_size}
-pub mod Laws
 
 -- ---- "One lent shelf holds twelve places of 8,193 words": of 32,772 bytes, and 393,264 in all. What follows is not the shelf's
 abbrev pub place_bytes : ℕ
@@ -24,11 +23,11 @@ placed s i b = take (place_bytes * i) s ++ (b ++ drop (place_bytes * i + place_b
 unfoldable pub filled : List ℕ → List ℕ
 filled tb = tb ++ replicate (place_bytes - length tb) 0
 
--- "a table_size of 0 means free", whatever the other words are
+-- "a tableSize of 0 means free", whatever the other words are
 unfoldable pub is_free : List ℕ → Bool
 is_free b = eqb (table_size (words_of b)) 0
 
--- "no word after a table is looked at": the table is as long as its table_size says, 6 + table_size words, or is all of its place where
+-- "no word after a table is looked at": the table is as long as its tableSize says, 6 + tableSize words, or is all of its place where
 -- that is longer, and then it is refused 1
 unfoldable pub table_in : List ℕ → List ℕ
 table_in b = take (24 + 4 * table_size (words_of b)) b

@@ -1,1 +1,4 @@
 pub mod Laws
+pub mod ArrangeLaws
+pub mod PickTurn
+pub mod PickEachLaws

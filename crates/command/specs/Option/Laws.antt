@@ -7,7 +7,6 @@ use borrow.Author.Tests.{eq-eqb, ne_eqb, eqb-true}
 use Rattle.row_format.specs.Lists.Laws.{by-test}
 use Rattle.text.specs.Same.{same_bytes}
 use Rattle.command.specs.Option.{in_front, usage_words, values_in, option_in}
-use Rattle.command.specs.declared.usage.Values.{Values}
 use Rattle.command.specs.declared.usage.Values.TheVariants.{NoOption, Count}
 
 -- the bytes of the first word

@@ -1,10 +1,9 @@
 -- The laws of what a flag takes. Assumes nothing.
-use Rattle.std.specs.Prelude.{ℕ, zero, suc, ◌+◌, ◌-◌, ◌≤◌, ◌<◌, ◌≡◌, refl, true, false, not, List, [], ◌∷◌, length, drop, get_or, eqb, ℤ, pos}
+use Rattle.std.specs.Prelude.{ℕ, zero, suc, ◌-◌, ◌≤◌, ◌<◌, ◌≡◌, refl, true, false, not, List, length, drop, get_or, eqb, ℤ, pos}
 use Rattle.std.proofs.Common.{arith, sym, ap, ◌∙◌, length-drop, drop_of_length-le, drop-cons, lt-ltb, le-ltb, ne_eqb, eq-eqb}
 use Rattle.row_format.specs.Lists.Laws.{true-false}
 use Rattle.delta_format.specs.Row.{Flag, full, same, bad-run, bad-one, fulls, count_of, values_for}
-use Rattle.delta_reader.specs.declared.flag.Taken.{Taken}
-use Rattle.delta_reader.specs.Flags.{flag_at, is_bad, is_counted, taken_none, taken_at, taken_next, taken_of}
+use Rattle.delta_reader.specs.Flags.{flag_at, is_bad, is_counted, taken_none, taken_at, taken_of}
 
 -- ---- which flag it is
 pub bad-else : (k : ℕ) → (k ≡ 2 → ⊥) → eqb k 3 ≡ is_bad (flag_at k)

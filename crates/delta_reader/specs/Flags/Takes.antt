@@ -1,6 +1,6 @@
 -- What a flag gives, from what it takes. Assumes nothing.
-use Rattle.std.specs.Prelude.{ℕ, zero, suc, ◌+◌, ◌≤◌, ◌<◌, ◌≡◌, refl, true, false, cond, List, [], ◌∷◌, ◌++◌, map, length, take, drop, replicate, ltb, eqb, ℤ}
-use Rattle.std.proofs.Common.{arith, sym, ap, ◌∙◌, subst, length-append, length-take-le, ltb-true, ltb-false, eqb-true, lt-ltb, le-ltb, eq-eqb, ne_eqb}
+use Rattle.std.specs.Prelude.{ℕ, zero, suc, ◌+◌, ◌≤◌, ◌<◌, ◌≡◌, refl, cond, List, [], ◌∷◌, ◌++◌, map, length, take, drop, replicate, eqb, ℤ}
+use Rattle.std.proofs.Common.{arith, sym, ap, ◌∙◌, subst, length-append, length-take-le, eqb-true}
 use Rattle.std.proofs.lemmas.List.{length-map, length-replicate}
 use Rattle.std.proofs.lemmas.Bool.{eqb-false}
 use Rattle.answer.specs.Outcome.{unless}
@@ -26,7 +26,7 @@ use Rattle.delta_format.specs.Row.{
   flag_gives,
   flag_part,
 }
-use Rattle.delta_format.specs.Row.Laws.{free-row, free-values, free-count}
+use Rattle.delta_format.proofs.Row.Laws.{free-row, free-values, free-count}
 use Rattle.delta_reader.specs.declared.flag.Taken.{Taken}
 use Rattle.delta_reader.specs.Flags.{taken_none, taken_at, taken_of, counts_after, elements_given, FlagValues, FlagTakes}
 

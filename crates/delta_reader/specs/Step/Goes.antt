@@ -1,5 +1,5 @@
 -- A flag's step, from what its parts leave. Assumes nothing.
-use Rattle.std.specs.Prelude.{ℕ, ◌+◌, ◌-◌, ◌≤◌, ◌<◌, ◌≡◌, refl, Bool, true, false, List, [], length, take, drop, leb, ℤ}
+use Rattle.std.specs.Prelude.{ℕ, ◌+◌, ◌≤◌, ◌<◌, ◌≡◌, refl, Bool, true, List, [], length, take, drop, leb, ℤ}
 use Rattle.std.proofs.Common.{arith, sym, ap, ◌∙◌, length-drop, drop_of_length-le, drop-drop, length-take-le, leb-true, leb-false}
 use Rattle.row_format.specs.Lists.Laws.{by-test}
 use Rattle.delta_format.specs.Row.{Flag, last_from, fault, gives, elements_for}

@@ -5,10 +5,10 @@ use Rattle.std.proofs.Common.{add-zero, arith, sym, ap, ◌∙◌, subst, length
 use Rattle.std.proofs.lemmas.List.{length-replicate, length-map}
 use Rattle.row_format.specs.Lists.Laws.{true-false}
 use Rattle.delta_format.specs.Row.{Element, good, bad, Flag, full, same, bad-run, bad-one, fulls, Previous, value, last_from, elements_for}
-use Rattle.delta_reader.specs.Offset.{Width, Offset, offset_value}
+use Rattle.delta_reader.specs.Offset.{Width, Offset}
 use Rattle.delta_reader.specs.Flags.{flag_at, is_bad, is_counted, elements_given, FlagValues}
-use Rattle.delta_reader.specs.Puts.{StandsFor, RoomFor, PutsElements, PutsAlike, AsLong, Unchanged, PutsIf}
-use Rattle.delta_reader.specs.Puts.Laws.{puts-more, holds-good, of-drop}
+use Rattle.delta_reader.specs.Puts.{RoomFor, PutsElements, PutsAlike, AsLong, PutsIf}
+use Rattle.delta_reader.specs.Puts.Laws.{puts-more, holds-good}
 use Rattle.delta_reader.specs.Step.{LastValue, count_place}
 
 -- ---- how many elements

@@ -1,5 +1,5 @@
 -- The laws of differences one after the other. Assumes nothing.
-use Rattle.std.specs.Prelude.{ℕ, ◌+◌, ◌-◌, ◌≤◌, ◌<◌, ◌≡◌, refl, Bool, true, false, List, [], ◌∷◌, length, get_or, eqb, ℤ, pos, nat_abs, ◌-ℤ◌}
+use Rattle.std.specs.Prelude.{ℕ, ◌+◌, ◌-◌, ◌≤◌, ◌<◌, ◌≡◌, refl, Bool, List, [], ◌∷◌, length, get_or, eqb, ℤ, pos, nat_abs}
 use Rattle.std.proofs.Common.{arith, sym, ap, ◌∙◌, subst, eqb-true}
 use Rattle.std.proofs.lemmas.Bool.{eqb-false}
 use Rattle.row_format.specs.Lists.Laws.{by-test}
@@ -12,7 +12,7 @@ use Rattle.delta_reader.specs.Puts.{PutsIf, RoomFor, AsLong}
 use Rattle.delta_reader.specs.Puts.Laws.{as_long, as-long-more}
 use Rattle.delta_reader.specs.Walk.{Walking, Walked}
 use Rattle.delta_reader.specs.Walk.Laws.{down, walk-below, walk-above, walk-sum}
-use Rattle.delta_reader.specs.Stretch.{WalksOn, WalksOut, Ordinary, Stretching, Stretched}
+use Rattle.delta_reader.specs.Stretch.{WalksOut, Ordinary, Stretching, Stretched}
 
 pub ordinary : {w : ℕ} (ds : List ℤ) (at : ℕ) {e h : ℕ} → Width w → at < length ds → Offset w (get_or ds at (pos 0)) e → h ≡ half_of w
     → e + 5 ≤ 2147483647 + h → Ordinary w ds at

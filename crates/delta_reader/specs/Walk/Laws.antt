@@ -1,6 +1,6 @@
 -- The laws of a row's walk. Assumes nothing.
-use Rattle.std.specs.Prelude.{ℕ, zero, suc, ◌+◌, ◌-◌, ◌≤◌, ◌<◌, ◌≡◌, Bool, true, false, List, [], ◌∷◌, ◌++◌, length, drop, get_or, ℤ, pos, ◌+ℤ◌, ◌-ℤ◌, eqb}
-use Rattle.std.proofs.Common.{zero-add, add-one, arith, sym, ap, ◌∙◌, subst, append_assoc, append-nil, length-append, drop_of_length-le, drop-cons, eqb-true, eq-eqb, ne_eqb}
+use Rattle.std.specs.Prelude.{ℕ, zero, suc, ◌+◌, ◌-◌, ◌≤◌, ◌<◌, ◌≡◌, Bool, false, List, [], ◌∷◌, ◌++◌, length, drop, get_or, ℤ, pos, ◌+ℤ◌, ◌-ℤ◌, eqb}
+use Rattle.std.proofs.Common.{zero-add, add-one, arith, sym, ap, ◌∙◌, subst, append-nil, length-append, drop_of_length-le, drop-cons, eqb-true, eq-eqb, ne_eqb}
 use Rattle.std.proofs.Math.Path.{refl}
 use Rattle.std.proofs.lemmas.Bool.{eqb-false}
 use Rattle.row_format.specs.Lists.Laws.{by-test}
@@ -31,7 +31,7 @@ use Rattle.delta_format.specs.declared.FirstData.{FirstData}
 use Rattle.delta_format.specs.declared.FirstValue.{FirstValue}
 use Rattle.delta_format.specs.declared.FirstRepeat.{FirstRepeat}
 use Rattle.delta_format.specs.Calls.{delta_row_at}
-use Rattle.delta_format.specs.Row.Laws.{joined-none, joined-joined, from_zero, from-ends, from_next}
+use Rattle.delta_format.proofs.Row.Laws.{joined-none, joined-joined, from_zero, from-ends, from_next}
 use Rattle.delta_reader.specs.declared.step.Step.{Step}
 use Rattle.delta_reader.specs.Offset.{Width, eight, sixteen, thirty_two, Offset, offset_value}
 use Rattle.delta_reader.specs.Offset.Laws.{down_is, sum_is, in-32, below-32, above-32}

@@ -1,6 +1,6 @@
 -- What is known of a sheet's rows while it is read: at the start, behind each record and at the end; and row n, once it is known.
 -- Assumes nothing.
-use Rattle.std.specs.Prelude.{ℕ, ◌+◌, ◌-◌, ◌*◌, ◌≤◌, ◌<◌, ◌≡◌, refl, Bool, true, false, List, [], ◌++◌, take, ltb, eqb}
+use Rattle.std.specs.Prelude.{ℕ, ◌+◌, ◌-◌, ◌*◌, ◌≤◌, ◌<◌, ◌≡◌, refl, Bool, true, false, List, [], ◌++◌, take, eqb}
 use Rattle.std.proofs.Math.Decide.{dec_lt}
 use Rattle.std.proofs.Common.{arith, ap, ◌∙◌, append_assoc, ne_eqb, eqb-true, le-ltb, lt-ltb, ltb-true, ltb-false}
 use Rattle.std.proofs.Math.Logic.{by_cases}
@@ -10,8 +10,8 @@ use Rattle.row_format.specs.Lists.Laws.{by-test, true-false}
 use Rattle.sheet_format.specs.Kind.{Payload, a_table, a_row, a_line, no_payload, is_row}
 use Rattle.sheet_format.specs.Sheet.{SheetRead, stored_rows, absent, present, heights_of}
 use Rattle.sheet_format.specs.Stream.{holds_of, Carried, Carries}
-use Rattle.sheet_format.specs.Stream.Settled.{heights-none}
-use Rattle.sheet_format.specs.Stream.Taken.{carries-none, carries-ended}
+use Rattle.sheet_format.proofs.Stream.Settled.{heights-none}
+use Rattle.sheet_format.proofs.Stream.Taken.{carries-none, carries-ended}
 use Rattle.sheet_stream.specs.declared.progress.SheetProgress.{SheetProgress}
 use Rattle.sheet_stream.specs.declared.step.SheetStep.{SheetStep}
 use Rattle.sheet_stream.specs.Progress.{carried_by}

@@ -1,5 +1,5 @@
 -- What stands beside the sheet, by what reading a map answered. Assumes nothing.
-use Rattle.std.specs.Prelude.{ℕ, ◌≡◌, false, List, length, ℤ}
+use Rattle.std.specs.Prelude.{ℕ, ◌≡◌, false, List, length}
 use Rattle.std.proofs.Common.{arith, sym, eq-eqb, ne_eqb}
 use Rattle.answer.specs.declared.Answer.{Answer}
 use Rattle.answer.specs.Outcome.{outcome}
@@ -19,8 +19,8 @@ module _ (g : ℕ) (b : List ℕ) (total : ℕ) (m : List ℕ) (room : length m 
   abbrev Both : MapSide → Type 0
   Both s = SideShown s c × SideRead g b total m s c
 
-  pub side-refused : {f : ℤ} → (a.number ≡ 0 → ⊥)
-      → Both (record { failed = false; beside = 2; most = 1; number = a.number; file = f })
+  pub side-refused : (a.number ≡ 0 → ⊥)
+      → Both (record { failed = false; beside = 2; most = 1; number = a.number })
   side-refused wrong = (
     record {
       shown = with_map g b total m room (rw (← read, ne_eqb a.number 0 wrong));
@@ -31,8 +31,8 @@ module _ (g : ℕ) (b : List ℕ) (total : ℕ) (m : List ℕ) (room : length m 
     record { beside = rw (← read, ne_eqb a.number 0 wrong); number = rw (← read) },
   )
 
-  pub side-read : {f : ℤ} {k : ℕ} → a.number ≡ 0 → k ≡ most_of (halves_of c)
-      → Both (record { failed = false; beside = 1; most = k; number = 0; file = f })
+  pub side-read : {k : ℕ} → a.number ≡ 0 → k ≡ most_of (halves_of c)
+      → Both (record { failed = false; beside = 1; most = k; number = 0 })
   side-read ok most = (
     record {
       shown = with_map g b total m room (rw (← read, eq-eqb a.number 0 ok));

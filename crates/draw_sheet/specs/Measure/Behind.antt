@@ -1,7 +1,7 @@
 -- What the records behind a fault claim, one record after another. Assumes nothing.
 use Prim.Native.Nat.{ℕ, zero, suc, ◌+◌, ◌≤◌, ◌<◌, max}
 use Rattle.std.proofs.Common.{lt_of_lt_of_le, arith, sym, ap, ◌∙◌, append_assoc, length-take, length-drop, take_all, take_at, pow_mono}
-use Rattle.std.specs.Prelude.{◌≡◌, refl, List, [], ◌∷◌, ◌++◌, length, take, ltb, eqb}
+use Rattle.std.specs.Prelude.{◌≡◌, refl, List, [], ◌∷◌, ◌++◌, length, take, ltb}
 use Rattle.std.proofs.Math.ListN.{drop, length-append}
 use Rattle.std.proofs.Math.Seq.{drop_at}
 use borrow.Author.Tests.{eq-eqb, ne_eqb, ltb-false}
@@ -12,8 +12,8 @@ use Rattle.sheet_format.specs.Fields.{two_at}
 use Rattle.sheet_format.specs.Record.{length_field, kind_field, length_number, record_span}
 use Rattle.sheet_format.specs.Record.Laws.{RightLength, right-length}
 use Rattle.sheet_format.specs.Stream.{held_of}
-use Rattle.sheet_format.specs.Stream.Held.{span_right}
-use Rattle.sheet_format.specs.Theorems.Locality.{Alike, alike, field-front}
+use Rattle.sheet_format.proofs.Stream.Held.{span_right}
+use Rattle.sheet_format.proofs.Theorems.Locality.{Alike, alike, field-front}
 use Rattle.sheet_picture.specs.Extent.{is_row_kind, row_claimed, rows_claimed}
 use Rattle.draw_sheet.specs.Measure.{Claims}
 

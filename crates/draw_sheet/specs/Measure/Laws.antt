@@ -14,12 +14,12 @@ use Rattle.sheet_format.specs.Record.{record_span}
 use Rattle.sheet_format.specs.Reading.{answer_bytes, record_judged}
 use Rattle.sheet_format.specs.Sheet.{SheetRecord, row_of, stored_rows, records, sheet_read}
 use Rattle.sheet_format.specs.Sheet.Laws.{records-end}
-use Rattle.sheet_format.specs.Stream.{held_of, holds_of, Carried, context_by, ended, next_of}
-use Rattle.sheet_format.specs.Stream.Laws.{next_of-held, is_row-row}
-use Rattle.sheet_format.specs.Stream.Settled.{stored_rows-append}
-use Rattle.sheet_format.specs.Stream.Taken.{carries-none, carries-ended}
-use Rattle.sheet_format.specs.Theorems.Locality.{span-whole}
-use Rattle.sheet_format.specs.Theorems.Rows as rows
+use Rattle.sheet_format.specs.Stream.{held_of, holds_of, Carried, context_by, next_of}
+use Rattle.sheet_format.proofs.Stream.Laws.{next_of-held, is_row-row}
+use Rattle.sheet_format.proofs.Stream.Settled.{stored_rows-append}
+use Rattle.sheet_format.proofs.Stream.Taken.{carries-none, carries-ended}
+use Rattle.sheet_format.proofs.Theorems.Locality.{span-whole}
+use Rattle.sheet_format.proofs.Theorems.Rows as rows
 use Rattle.sheet_format.specs.Size.{rows_width, rows_height}
 use Rattle.sheet_format.specs.Size.Laws.{width-more, height-more}
 use Rattle.sheet_stream.specs.declared.progress.SheetProgress.{SheetProgress}

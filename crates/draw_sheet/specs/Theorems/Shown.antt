@@ -11,7 +11,7 @@ use Rattle.sheet_format.specs.Sheet.{StoredRow, stored_rows, sheet_read}
 use Rattle.png_format.specs.Png.{png}
 use Rattle.png_format.specs.Reading.{picture_in}
 use Rattle.png_format.specs.Chunks.{RowsOf}
-use Rattle.png_format.specs.Theorems.{picture-read}
+use Rattle.png_format.proofs.Theorems.{picture-read}
 use Rattle.sheet_picture.specs.declared.View.{View}
 use Rattle.sheet_picture.specs.Colour.{palette}
 use Rattle.sheet_picture.specs.Colour.Laws.{length-colours}

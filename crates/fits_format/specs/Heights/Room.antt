@@ -7,7 +7,7 @@ use Rattle.bitstream.specs.Bits.{halves_of, words_of, words_for, flat}
 use Rattle.bitstream.specs.Bits.Laws.{length_cut}
 use Rattle.row_format.specs.Table.{max_item_bits}
 use Rattle.row_format.specs.Row.{row_bits, row_bytes, pixel_bytes}
-use Rattle.row_format.specs.Theorems.Bounds.{length-row_bits}
+use Rattle.row_format.proofs.Theorems.Bounds.{length-row_bits}
 use Rattle.sheet_format.specs.Fields.{two_bytes}
 use Rattle.sheet_format.specs.Fields.Laws.{length-two_bytes}
 use Rattle.sheet_format.specs.Kind.Row.Laws.{given-pixels}

@@ -12,7 +12,7 @@ use Rattle.answer.specs.Outcome.{◌or_else◌, lent, room_number}
 use Rattle.answer.specs.Outcome.Laws.{less_number-none}
 use Rattle.row_format.specs.Table.{table_number}
 use Rattle.row_format.specs.Row.{pixel_bytes, too_high}
-use Rattle.row_format.specs.Theorems.Words.{halves_of-bytes_of}
+use Rattle.row_format.proofs.Theorems.Words.{halves_of-bytes_of}
 use Rattle.sheet_format.specs.Context.{no_heading, new_sheet}
 use Rattle.sheet_format.specs.Kind.Table.{table_place}
 use Rattle.sheet_format.specs.Kind.Row.{row_place}
@@ -22,7 +22,7 @@ use Rattle.sheet_format.specs.Writing.{record_for, write_number, RecordWritable}
 use Rattle.sheet_format.specs.Writing.Laws.{write_number-writable, record_written-number, record_written-front}
 use Rattle.sheet_format.specs.Sheet.{SheetRead, sheet_read, stored_rows}
 use Rattle.sheet_format.specs.Given.{Write, bytes_written, Done, AllDone, sheet_bytes, given_by, sheet_given}
-use Rattle.sheet_format.specs.Theorems.Sheets.{sheet_read-written}
+use Rattle.sheet_format.proofs.Theorems.Sheets.{sheet_read-written}
 use Rattle.fits_format.specs.Image.Laws.{below-heights}
 use Rattle.fits_format.specs.Heights.{table_bytes, under_table, heights_record, heights_records, numbered, LineRight, LinesRight}
 

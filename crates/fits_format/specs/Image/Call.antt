@@ -11,7 +11,7 @@ use Rattle.std.proofs.Math.Seq.{take-append_seam}
 use Rattle.std.proofs.Math.Dec.{eqb}
 use borrow.Author.Tests.{eqb-false, ne_eqb, eq-eqb}
 use Rattle.bitstream.specs.Bits.{Below}
-use Rattle.answer.specs.Outcome.{Outcome, outcome, wrote, refused, answer_of, refuse_if, ◌or_else◌, unless, lent, room_number}
+use Rattle.answer.specs.Outcome.{Outcome, outcome, wrote, refused, answer_of, refuse_if, unless, lent, room_number}
 use Rattle.answer.specs.declared.Answer.{Answer}
 use Rattle.answer.specs.Outcome.Laws.{or_else-zero-left, or_else-zero-right, or_else-same, less_number-zero, less_number-none, less_number-given, refuse_if-zero, unless-part, unless-first, unless-number, refuse_if-in, or_else-in}
 use Rattle.row_format.specs.Lists.{any}

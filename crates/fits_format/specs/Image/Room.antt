@@ -2,7 +2,7 @@
 use Rattle.std.specs.Prelude.{ℕ, ◌≤◌, ◌≡◌, List, length}
 use Rattle.std.proofs.Common.{arith, ◌∙◌}
 use Rattle.std.proofs.lemmas.List.{length-map}
-use Rattle.answer.specs.Outcome.{refuse_if, ◌or_else◌}
+use Rattle.answer.specs.Outcome.{refuse_if}
 use Rattle.answer.specs.Outcome.Laws.{or_else-same, less_number-none}
 use Rattle.row_format.specs.Lists.{any}
 use Rattle.row_format.specs.Plain.{plain_bytes}

@@ -1,5 +1,5 @@
 -- What is held of a header, block by block. Assumes nothing.
-use Rattle.std.specs.Prelude.{ℕ, ◌+◌, ◌-◌, ◌*◌, ◌≤◌, ◌<◌, ◌≡◌, refl, false, List, [], length, take, ltb}
+use Rattle.std.specs.Prelude.{ℕ, ◌+◌, ◌*◌, ◌≤◌, ◌<◌, ◌≡◌, refl, false, List, [], length, take, ltb}
 use Rattle.std.proofs.Common.{arith, sym, ap, ◌∙◌, length-take, take_all, take-take, ltb-true, ltb-false}
 use borrow.Rule.Slice.PartMut.{put_mid, take_put}
 use Rattle.row_format.specs.Lists.{any}

@@ -9,14 +9,14 @@ use Rattle.bitstream.specs.Bits.Laws.{length_cut}
 use Rattle.bitstream.specs.Msb.{msb_bits_of}
 use Rattle.bitstream.specs.Msb.Laws.{below-msb_bits_of}
 use Rattle.row_format.specs.Row.{pixel_bytes}
-use Rattle.row_format.specs.Theorems.Words.{halves_of-bytes_of}
+use Rattle.row_format.proofs.Theorems.Words.{halves_of-bytes_of}
 use Rattle.text.specs.Lines.{refused_line}
 use Rattle.map_format.specs.Reading.{Parse, stops, got}
 use Rattle.map_format.specs.Reading.Laws.{stops-got}
 use Rattle.map_format.specs.Calls.{position_bits, size_number, read_map, map_read, map_left}
 use Rattle.map_format.specs.Calls.Laws.{position_bits-most}
-use Rattle.map_format.specs.Verdict.Laws.{size_number-zero, map_read-readable, map_read-got}
-use Rattle.map_format.specs.Theorems.Again.{read_map-got}
+use Rattle.map_format.proofs.Verdict.Laws.{size_number-zero, map_read-readable, map_read-got}
+use Rattle.map_format.proofs.Theorems.Again.{read_map-got}
 use Rattle.map_text.specs.MapText.{listing_text}
 use Rattle.map_text.specs.MapText.Laws.{listing-refused}
 use Rattle.list_map.specs.Listed.{reading_text, map_listing}

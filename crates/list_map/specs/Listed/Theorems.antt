@@ -8,9 +8,9 @@ use Rattle.row_format.specs.Lists.Laws.{by-test}
 use Rattle.map_format.specs.Reading.{got}
 use Rattle.map_format.specs.Calls.{position_bits, size_number, max_map_bytes, read_map}
 use Rattle.map_format.specs.Calls.Laws.{position_bits-most}
-use Rattle.map_format.specs.Theorems.Again.{read_map-got}
-use Rattle.map_format.specs.Theorems.Ample.{read-enough}
-use Rattle.map_format.specs.Theorems.Unread.{read_more}
+use Rattle.map_format.proofs.Theorems.Again.{read_map-got}
+use Rattle.map_format.proofs.Theorems.Ample.{read-enough}
+use Rattle.map_format.proofs.Theorems.Unread.{read_more}
 use Rattle.map_text.specs.Scan.{counts, text_counts}
 use Rattle.map_text.specs.Theorems.{listing-text-back}
 use Rattle.map_text.specs.MapText.{listing_text}

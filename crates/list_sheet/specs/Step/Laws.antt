@@ -8,10 +8,10 @@ use Rattle.sheet_format.specs.declared.RecordRead.{RecordRead}
 use Rattle.sheet_format.specs.Reading.{record_judged}
 use Rattle.sheet_format.specs.Sheet.{record_here}
 use Rattle.sheet_format.specs.Stream.{holds_of, rows_of, Carried, context_by, carried_next, end_number}
-use Rattle.sheet_format.specs.Stream.Held.{held-short}
-use Rattle.sheet_format.specs.Stream.Laws.{next_of-end}
-use Rattle.sheet_format.specs.Stream.Taken.{carries-more}
-use Rattle.sheet_format.specs.Theorems.{record-length}
+use Rattle.sheet_format.proofs.Stream.Held.{held-short}
+use Rattle.sheet_format.proofs.Stream.Laws.{next_of-end}
+use Rattle.sheet_format.proofs.Stream.Taken.{carries-more}
+use Rattle.sheet_format.proofs.Theorems.{record-length}
 use Rattle.sheet_listing.specs.declared.ListedRecord.{ListedRecord}
 use Rattle.sheet_listing.specs.Line.{record_line, last_line}
 use Rattle.sheet_listing.specs.Listed.{LineShort, record_listed}

@@ -7,7 +7,7 @@ use Rattle.bitstream.specs.Msb.{msb_bits_of, msb_bytes_of, bytes_for}
 use Rattle.bitstream.specs.Msb.Laws.{msb_bits_of-append, msb_bits_of-bytes, length-msb_bytes_of}
 use Rattle.row_format.specs.Lists.Laws.{by-test}
 use Rattle.row_format.specs.Row.{pixel_bytes}
-use Rattle.row_format.specs.Theorems.Words.{bytes_of-halves_of}
+use Rattle.row_format.proofs.Theorems.Words.{bytes_of-halves_of}
 use Rattle.map_format.specs.Writing.Laws.{below-groups_bits}
 use Rattle.map_format.specs.Calls.{position_bits, map_groups, map_bits, map_bytes}
 

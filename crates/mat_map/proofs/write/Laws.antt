@@ -17,7 +17,7 @@ use Rattle.bitstream.specs.Msb.Laws.{front_bytes, length-msb_bytes_of}
 use Rattle.map_format.specs.Writing.{group_bits, groups_bits}
 use Rattle.map_format.specs.Calls.{map_groups, map_bits, map_bytes, counts_number, map_written}
 use Rattle.map_format.specs.Calls.Laws.{map-pixels}
-use Rattle.map_format.specs.Theorems.{map-bits-most}
+use Rattle.map_format.proofs.Theorems.{map-bits-most}
 use Rattle.bitstream.specs.MsbWriter.{msb_held, MsbGood, MsbClosable, MsbFinished}
 use Rattle.mat_map.specs.Putting.{Room, Puts, Putting}
 use Rattle.mat_map.specs.Putting.Laws.{putting-none, putting-room, putting-more, putting-all}

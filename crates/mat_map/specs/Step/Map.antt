@@ -17,7 +17,7 @@ use Rattle.bitstream.specs.Bits.Laws.{length_cut}
 use Rattle.bitstream.specs.Msb.{msb_bits_of}
 use Rattle.bitstream.specs.Msb.Laws.{length-msb_bits_of}
 use Rattle.row_format.specs.Row.{pixel_bytes}
-use Rattle.row_format.specs.Theorems.Words.{bytes_of-halves_of}
+use Rattle.row_format.proofs.Theorems.Words.{bytes_of-halves_of}
 use Rattle.row_pixels.specs.Laws.{length-halves}
 use Rattle.map_format.specs.Reading.{stops, sum, read_groups}
 use Rattle.map_format.specs.Calls.{map_groups, read_map, map_left, map_read}

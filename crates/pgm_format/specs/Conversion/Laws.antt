@@ -1,6 +1,6 @@
 -- The laws of a picture's rows. Assumes nothing.
 use Rattle.std.specs.Prelude.{ℕ, ◌*◌, ◌≤◌, ◌≡◌, List, length, ltb}
-use Rattle.answer.specs.Outcome.{outcome, refuse_if, ◌or_else◌}
+use Rattle.answer.specs.Outcome.{outcome, refuse_if}
 use Rattle.answer.specs.Outcome.Laws.{less_number-zero, or_else-zero-left, or_else-zero-right, unless-refused}
 use Rattle.row_format.specs.Row.{pixel_bytes}
 use Rattle.sheet_format.specs.declared.SheetState.{SheetState}

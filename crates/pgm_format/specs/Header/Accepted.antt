@@ -3,7 +3,7 @@ use Rattle.std.specs.Prelude.{ℕ, ◌≤◌, ◌<◌, ◌≡◌, refl, Bool, tr
 use Rattle.std.proofs.Common.{arith, sym, ap, ◌∙◌, length-take, ltb-true, ltb-false}
 use Rattle.std.proofs.Math.ListN.{get_or-eq_default}
 use Rattle.std.proofs.lemmas.Bool.{eqb-false, not-false}
-use Rattle.answer.specs.Outcome.{refuse_if, ◌or_else◌}
+use Rattle.answer.specs.Outcome.{refuse_if}
 use Rattle.answer.specs.Outcome.Laws.{refuse_if-zero, less_number-zero, or_else-zero-left, or_else-zero-right, unless-number, unless-refused}
 use Rattle.row_format.specs.Lists.Laws.{by-test, true-false}
 use Rattle.text.specs.Text.{ascii}

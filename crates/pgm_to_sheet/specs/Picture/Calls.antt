@@ -20,7 +20,7 @@ use Rattle.pgm_format.specs.declared.PgmHeader.{PgmHeader}
 use Rattle.pgm_format.specs.Header.{pgm_header, PgmAccepted}
 use Rattle.pgm_format.specs.Header.Accepted.{pgm-accepted}
 use Rattle.pgm_format.specs.Conversion.{line_refusal, before_samples, pgm_row}
-use Rattle.pgm_format.specs.Conversion.Call.{pgm_row-number, pgm_row-bytes, table_written-bytes, table_written-count}
+use Rattle.pgm_format.proofs.Conversion.Call.{pgm_row-number, pgm_row-bytes, table_written-bytes, table_written-count}
 use Rattle.pgm_to_sheet.specs.declared.rows.RowTurn.{RowTurn}
 use Rattle.pgm_to_sheet.specs.Picture.{SpanHeld, LineHeld, PictureStands, TableWritten, LinesBefore, LineAdded, LineMade, PictureEnded}
 use Rattle.pgm_to_sheet.specs.Picture.Laws.{ended-refused, no_header, first-record}

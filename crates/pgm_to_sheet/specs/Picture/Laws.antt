@@ -22,8 +22,8 @@ use Rattle.pgm_format.specs.Header.Alike.{pgm-alike}
 use Rattle.pgm_format.specs.Samples.{lines_in}
 use Rattle.pgm_format.specs.Samples.Laws.{length-lines_in, lines_in-front, lines_in-last}
 use Rattle.pgm_format.specs.Conversion.{line_refusal, line_record, line_records, pgm_conversion}
-use Rattle.pgm_format.specs.Conversion.Rows.{UpToLine, line-there, lines-up-to, rows_are, bytes-are, number_is, number-none}
-use Rattle.pgm_format.specs.Conversion.Rows.{line_refusal-front, heights_records-append}
+use Rattle.pgm_format.proofs.Conversion.Rows.{UpToLine, line-there, lines-up-to, rows_are, bytes-are, number_is, number-none}
+use Rattle.pgm_format.proofs.Conversion.Rows.{line_refusal-front, heights_records-append}
 use Rattle.fits_reader.specs.Verdict.{verdict_text}
 use Rattle.pgm_to_sheet.specs.Picture.{Agrees, header_bytes, LineHeld, TableWritten, LinesTaken, LineAdded, PictureEnded, PictureVerdict}
 use Rattle.pgm_to_sheet.specs.Picture.Front.{agrees-front, agrees-more}

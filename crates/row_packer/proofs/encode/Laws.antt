@@ -5,7 +5,7 @@ use mathlib.Core.Path.{◌≡◌, sym, ap, ◌∙◌, subst}
 use mathlib.Core.List.{List}
 use Rattle.row_format.specs.Row as row
 use Rattle.row_format.specs.Row.{State, previous, item_for, item_bits, after}
-use Rattle.row_format.specs.Theorems.Items.{Right, item_for-right, after-height}
+use Rattle.row_format.proofs.Theorems.Items.{Right, item_for-right, after-height}
 use Rattle.row_item.specs.declared.Item.{Item}
 use Rattle.row_item.specs.declared.Progress.{Progress}
 use Rattle.row_item.specs.Coded.{progress, coded, Followed, row_state}

@@ -13,7 +13,7 @@ use Rattle.row_format.specs.Table.{low_limit, table_size, codeword, codeword_at,
 use Rattle.row_format.specs.Table.Laws.{length-codeword_at}
 use Rattle.row_format.specs.Reading.{Fits}
 use Rattle.row_format.specs.Row as row
-use Rattle.row_format.specs.Theorems.Items.{entry}
+use Rattle.row_format.proofs.Theorems.Items.{entry}
 use Rattle.code_table.specs.SignedLaws.{DifferenceCount, signed-fits, signed_back, sum_fits, sum-count}
 use Rattle.row_item.specs.declared.Item.{Item}
 use Rattle.row_item.specs.declared.Item.TheVariants.{Difference, BadPixel, BadBias, Escape}

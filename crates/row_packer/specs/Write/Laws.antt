@@ -5,7 +5,7 @@ use Rattle.bitstream.specs.Bits.{halves_of, words_for}
 use Rattle.row_format.specs.Table.{max_item_bits, Accepted}
 use Rattle.row_format.specs.Table.Laws.{max_item_bits-most}
 use Rattle.row_format.specs.Row.{row_bits}
-use Rattle.row_format.specs.Theorems.Bounds.{length-row_bits}
+use Rattle.row_format.proofs.Theorems.Bounds.{length-row_bits}
 use Rattle.row_pixels.specs.Laws.{length-halves}
 
 module _ {t : List ℕ} (accepted : Accepted t) (pb : List ℕ) {most : ℕ} (is : most ≡ max_item_bits t) (few : length pb / 2 ≤ 4096) where

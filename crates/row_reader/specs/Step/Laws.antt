@@ -11,7 +11,7 @@ use Rattle.answer.specs.Outcome.Laws.{unless-refused, unless-in, or_else-in, ref
 use Rattle.row_format.specs.Lists.Laws.{by-test, or-false-left, or-false-right}
 use Rattle.row_format.specs.Row as row
 use Rattle.row_format.specs.Reading.{Reading, item, fault}
-use Rattle.row_format.specs.Theorems.Numbers.{FaultIn, read_item-in}
+use Rattle.row_format.proofs.Theorems.Numbers.{FaultIn, read_item-in}
 use Rattle.row_item.specs.declared.Item.{Item}
 use Rattle.row_item.specs.declared.Progress.{Progress}
 use Rattle.row_item.specs.Coded.{coded, progress, Followed, row_state}

@@ -15,10 +15,10 @@ use Rattle.row_format.specs.Table.Laws.{accepted, table_number-verdict, max_item
 use Rattle.row_format.specs.Row as row
 use Rattle.row_format.specs.Row.{pixels_of}
 use Rattle.row_format.specs.Reading.{Reading, item, fault, bits_of_reading, Run, done, stop, prepend, read_item, read_by}
-use Rattle.row_format.specs.Theorems.Bounds.{read_item-uses}
-use Rattle.row_format.specs.Theorems.Items.{after-height}
-use Rattle.row_format.specs.Theorems.Numbers.{FaultIn, read_item-in}
-use Rattle.row_format.specs.Theorems.Standing as standing
+use Rattle.row_format.proofs.Theorems.Bounds.{read_item-uses}
+use Rattle.row_format.proofs.Theorems.Items.{after-height}
+use Rattle.row_format.proofs.Theorems.Numbers.{FaultIn, read_item-in}
+use Rattle.row_format.proofs.Theorems.Standing as standing
 use Rattle.row_item.specs.declared.Progress.{Progress}
 use Rattle.row_item.specs.Coded.{progress, row_state}
 use Rattle.row_item.specs.Coded.Laws.{row_state-progress}

@@ -12,10 +12,10 @@ use Rattle.row_format.specs.Table.{table_number}
 use Rattle.row_format.specs.Row as row
 use Rattle.row_format.specs.Row.{pixel_bytes}
 use Rattle.row_format.specs.Reading.{Run, done, stop, run_number, run_place, read_items, stray, without_stray, row_reading, Readable, StoppedAt}
-use Rattle.row_format.specs.Reading.Laws.{first_number-readable, lent-room, room-lent}
+use Rattle.row_format.proofs.Reading.Laws.{first_number-readable, lent-room, room-lent}
 use Rattle.row_format.specs.Calls.{row_refused, row_wrote, row_outcome, unpacked, Accepts}
-use Rattle.row_format.specs.Theorems.Shown.{read_items-shown}
-use Rattle.row_format.specs.Theorems.Stops.{stopped-read_items}
+use Rattle.row_format.proofs.Theorems.Shown.{read_items-shown}
+use Rattle.row_format.proofs.Theorems.Stops.{stopped-read_items}
 use Rattle.row_reader.specs.declared.step.Place.{Place}
 use Rattle.row_reader.specs.Step.{start_place}
 use Rattle.row_reader.specs.Walk.{Walk, gave, ended, walk, Handed, RefusedWithin}

@@ -16,7 +16,7 @@ use Rattle.row_format.specs.Table.{low_limit, codewords, codeword_at, signed_dif
 use Rattle.row_format.specs.Table.Laws.{length-codeword_at, length-codewords}
 use Rattle.row_format.specs.Row.{State, previous}
 use Rattle.row_format.specs.Reading.{Match, none, found, find, unmatched, raw_height, matched, read_item}
-use Rattle.row_format.specs.Theorems.Search.{Found, find-found}
+use Rattle.row_format.proofs.Theorems.Search.{Found, find-found}
 use Rattle.code_table.specs.Check.Laws.{length-words}
 use Rattle.code_table.specs.SignedLaws.{signed-fits}
 use Rattle.row_item.specs.declared.Item.TheVariants.{Difference, BadPixel, BadBias, Escape}
@@ -86,7 +86,7 @@ module _ (t : List ℕ) (s : State) (at i n low prev : ℕ) (low-is : low ≡ lo
         → Got (prev + (i + low) - 4093) (Difference (to_z w32 (of_z w32 z))) (at + n) ≡ entry_at t s at i n
     unfolding entry_at
     entry-got h z e =
-        let kept : to_z w32 (of_z w32 z) ≡ signed_difference (i + low) = to_z-of_z (rw e (signed-fits (i + low) (omega arith))) ∙ e in
+        let kept : to_z w32 (of_z w32 z) ≡ signed_difference (i + low) = to_z-of_z {w = w32} (rw e (signed-fits (i + low) (omega arith))) ∙ e in
         rw (le-leb 4093 (previous s + (i + low_limit t)) above, le-leb (previous s + (i + low_limit t)) 8186 (rw (← prev-is, ← low-is) h))
         (rw (kept, low-is, prev-is))
 

@@ -15,7 +15,7 @@ use Rattle.row_format.specs.Table.Laws.{get_d-codewords, length-codeword_at, lon
 use Rattle.row_format.specs.Row.{State, fresh, pixel_of, after, pixels_of}
 use Rattle.row_format.specs.Row as row
 use Rattle.row_format.specs.Reading.{bits_of_reading, Reading, item, fault, Run, done, stop, prepend, follow, read_by, read_item}
-use Rattle.row_format.specs.Theorems.Bounds.{read_item-uses}
+use Rattle.row_format.proofs.Theorems.Bounds.{read_item-uses}
 use Rattle.row_pixels.specs.Laws.{bytes-cons}
 use Rattle.row_item.specs.declared.Item.{Item}
 use Rattle.row_item.specs.declared.Progress.{Progress}

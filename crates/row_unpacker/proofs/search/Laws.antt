@@ -16,7 +16,7 @@ use Rattle.row_format.specs.BitLaws.{begins-length, begins-drop, begins-append}
 use Rattle.row_format.specs.Table.{codeword, codewords, codeword_at, table_number}
 use Rattle.row_format.specs.Table.Laws.{length-codeword, length-codewords, length-codeword_at, get_d-codewords, accepted, table_number-verdict}
 use Rattle.row_format.specs.Reading.{none, found, find}
-use Rattle.row_format.specs.Theorems.Search.{find-only}
+use Rattle.row_format.proofs.Theorems.Search.{find-only}
 use Rattle.code_table.specs.Check.Laws.{length-words}
 use Rattle.row_unpacker.specs.View.{Seen}
 use Rattle.row_unpacker.proofs.view.Laws.{low-window}
@@ -189,6 +189,6 @@ finds-only tb v ok i w least h is b yes' = record {
       sym (ap hit (find-only t a (i - 3) r (omega (arith, a.words, length-words tb)) begins-it));
 }
 
--- "A table is 6 + table_size words", of at most 8187 entries
+-- "A table is 6 + tableSize words", of at most 8187 entries
 pub words-most : (tb : List ℕ) → table_number tb ≡ 0 → length tb / 4 ≤ 8193
 words-most tb ok = let a = accepted (words_of tb) (table_number-verdict tb ok) in omega (arith, a.words, a.size-most, length-words tb)

@@ -20,11 +20,11 @@ use Rattle.row_format.specs.Table.{table_number}
 use Rattle.row_format.specs.Row.{fresh, pixels_of}
 use Rattle.row_format.specs.Row.Laws.{length-pixels_of}
 use Rattle.row_format.specs.Reading.{Run, done, stop, bits_of_run, read_item, read_items, stray, without_stray, first_number, row_reading}
-use Rattle.row_format.specs.Reading.Laws.{Counted, read_by-counted, first_number-readable, lent-room}
+use Rattle.row_format.proofs.Reading.Laws.{Counted, read_by-counted, first_number-readable, lent-room}
 use Rattle.row_format.specs.Calls.{checked, row_outcome, unpacked}
-use Rattle.row_format.specs.Calls.Laws.{answer-number}
-use Rattle.row_format.specs.Theorems.Bounds.{read_items-uses}
-use Rattle.row_format.specs.Theorems.Shown.{read_items-shown, read_items-place}
+use Rattle.row_format.proofs.Calls.Laws.{answer-number}
+use Rattle.row_format.proofs.Theorems.Bounds.{read_items-uses}
+use Rattle.row_format.proofs.Theorems.Shown.{read_items-shown, read_items-place}
 use Rattle.row_unpacker.specs.View.{Seen}
 use Rattle.row_unpacker.proofs.view.Laws.{low-window}
 use Rattle.row_unpacker.specs.Row.{row_reached, RowIs}

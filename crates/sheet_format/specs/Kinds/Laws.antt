@@ -5,7 +5,7 @@ use Rattle.std.proofs.Common.{arith, sym, ap, ◌∙◌, ne_eqb, eqb-true}
 use Rattle.std.proofs.Math.Logic.{by_cases}
 use Rattle.answer.specs.Outcome.{Lent, room_number}
 use Rattle.answer.specs.Outcome.Laws.{room_number-none}
-use Rattle.row_format.specs.Theorems.Numbers.{table_number-in}
+use Rattle.row_format.proofs.Theorems.Numbers.{table_number-in}
 use Rattle.sheet_format.specs.Context.{Context}
 use Rattle.sheet_format.specs.Kind.{unknown, a_table, is_table, is_row}
 use Rattle.sheet_format.specs.Kind.Lawful.{ListedBody, Lawful}

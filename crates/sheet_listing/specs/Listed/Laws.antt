@@ -13,7 +13,7 @@ use Rattle.sheet_format.specs.declared.RecordRead.{RecordRead}
 use Rattle.sheet_format.specs.Context.{Context, context_of}
 use Rattle.sheet_format.specs.Reading.{refused_record, record_judged}
 use Rattle.sheet_format.specs.Sheet.{record_here}
-use Rattle.sheet_format.specs.Theorems.{record-length, kept_table, judged-refused-keeps}
+use Rattle.sheet_format.proofs.Theorems.{record-length, kept_table, judged-refused-keeps}
 use Rattle.text.specs.Put.{Put}
 use Rattle.sheet_listing.specs.Line.{answer_line, record_line}
 use Rattle.sheet_listing.specs.Listed.{no_room, line_given, judged_listed, line_listed, record_listed}

@@ -11,8 +11,8 @@ use Rattle.sheet_format.specs.Reading.{context_after, record_judged}
 use Rattle.sheet_format.specs.Sheet.{SheetRecord, SheetRead, ends_with, put_first, record_here, rest_next, records, sheet_read}
 use Rattle.sheet_format.specs.Sheet.{record_holds, row_of, stored_rows, row_numbers}
 use Rattle.sheet_format.specs.Stream.{rows_of}
-use Rattle.sheet_format.specs.Stream.Laws.{length-with_row, length-row_numbers}
-use Rattle.sheet_format.specs.Theorems.{sheet-end, sheet-refused, sheet-more}
+use Rattle.sheet_format.proofs.Stream.Laws.{length-with_row, length-row_numbers}
+use Rattle.sheet_format.proofs.Theorems.{sheet-end, sheet-refused, sheet-more}
 use Rattle.text.specs.Lines.{refused_at_line, refused_bit_line}
 use Rattle.sheet_listing.specs.Line.{record_line, last_line}
 use Rattle.sheet_listing.specs.Line.Laws.{last_bit, last-placeless}

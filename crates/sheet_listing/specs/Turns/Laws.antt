@@ -8,8 +8,8 @@ use Rattle.sheet_format.specs.Reading.{record_judged}
 use Rattle.sheet_format.specs.Reading.Laws.{judged-length}
 use Rattle.sheet_format.specs.Sheet.{record_here, records}
 use Rattle.sheet_format.specs.Stream.{held_of, Carried, carried_first, context_by, carried_next, Next, ended, more, next_of}
-use Rattle.sheet_format.specs.Stream.Laws.{next_of-end, next_of-refused, next_of-accepted, next_of-goes-on, goes_on, next_of-held, context-next}
-use Rattle.sheet_format.specs.Theorems.Locality.{span-whole}
+use Rattle.sheet_format.proofs.Stream.Laws.{next_of-end, next_of-refused, next_of-accepted, next_of-goes-on, goes_on, next_of-held, context-next}
+use Rattle.sheet_format.proofs.Theorems.Locality.{span-whole}
 use Rattle.sheet_listing.specs.Line.{record_line}
 use Rattle.sheet_listing.specs.Listing.{listing}
 use Rattle.sheet_listing.specs.Listing.Laws.{listing_from, listing-end, listing-refused, listing-more, listing-nothing, listing-some}

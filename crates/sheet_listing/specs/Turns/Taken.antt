@@ -10,9 +10,9 @@ use Rattle.row_format.specs.Lists.Laws.{by-test}
 use Rattle.sheet_format.specs.Context.{new_sheet}
 use Rattle.sheet_format.specs.Sheet.{SheetRecord, SheetRead, records, sheet_read, row_numbers}
 use Rattle.sheet_format.specs.Stream.{held_of, Carried, context_by, next_of, Carries}
-use Rattle.sheet_format.specs.Stream.Laws.{next_of-end}
-use Rattle.sheet_format.specs.Stream.Taken.{put_before, records-append, rows_append, none-context, none-index, none_rows, some-index, carries-ended}
-use Rattle.sheet_format.specs.Theorems.{sheet-end}
+use Rattle.sheet_format.proofs.Stream.Laws.{next_of-end}
+use Rattle.sheet_format.proofs.Stream.Taken.{put_before, records-append, rows_append, none-context, none-index, none_rows, some-index, carries-ended}
+use Rattle.sheet_format.proofs.Theorems.{sheet-end}
 use Rattle.sheet_listing.specs.Line.{record_line}
 use Rattle.sheet_listing.specs.Listing.{record_lines, last_of, listing}
 use Rattle.sheet_listing.specs.Listing.Laws.{listing_from, listing-nothing, listing-some}

@@ -1,12 +1,9 @@
 -- The laws of a sheet's extent. Assumes nothing.
-use Rattle.std.specs.Prelude.{ℕ, ◌+◌, ◌≤◌, ◌<◌, max, ◌≡◌, List, [], ◌∷◌, ◌++◌, length, eqb}
-use Rattle.std.proofs.Common.{arith}
+use Rattle.std.specs.Prelude.{ℕ, ◌+◌, ◌≤◌, ◌<◌, ◌≡◌, List, eqb}
 use Rattle.std.proofs.Math.Bool.{or-true}
 use borrow.Author.Tests.{eq-eqb, ne_eqb, lt-ltb, le-ltb}
 use Rattle.sheet_format.specs.Fields.{two_at}
 use Rattle.sheet_format.specs.Record.{length_field, kind_field}
-use Rattle.sheet_format.specs.Sheet.{StoredRow}
-use Rattle.sheet_format.specs.Size.{rows_width, rows_height}
 use Rattle.sheet_picture.specs.Extent.{row_claimed}
 
 -- ---- what a record behind a fault claims

@@ -7,7 +7,7 @@ use mathlib.Core.List.Memᴰ
 use mathlib.Core.List.{List, [], ◌∷◌, ◌++◌, Memᴰ}
 use Rattle.std.proofs.Math.ListN.{drop}
 use Rattle.sheet_format.specs.Sheet.{StoredRow, stored_rows, sheet_read}
-use Rattle.sheet_format.specs.Theorems.Rising.{Rising, sheet_read-rows}
+use Rattle.sheet_format.proofs.Theorems.Rising.{Rising, sheet_read-rows}
 use Rattle.sheet_format.specs.Size.{rows_width, rows_height}
 use Rattle.sheet_format.specs.Size.Laws.{height-more}
 use Rattle.sheet_picture.specs.Extent.{Extent, rows_claimed, records_length}

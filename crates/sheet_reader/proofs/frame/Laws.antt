@@ -20,7 +20,7 @@ use Rattle.sheet_format.specs.Record.{length_field, kind_field, length_number, c
 use Rattle.sheet_format.specs.Record.Laws.{RightLength, length_number-right, right-length}
 use Rattle.sheet_format.specs.Reading.{refused_record, record_stop, body_held, record_held, record_content}
 use Rattle.sheet_format.specs.Reading.Laws.{refused-anywhere}
-use Rattle.sheet_format.specs.Theorems.Numbers.{length_number-in}
+use Rattle.sheet_format.proofs.Theorems.Numbers.{length_number-in}
 use Rattle.sheet_reader.specs.Leaves.{ContentLeaves, BodyLeaves, RecordLeaves, table_judged}
 use Rattle.sheet_reader.specs.Leaves.Laws.{leaves_nothing, refuses}
 

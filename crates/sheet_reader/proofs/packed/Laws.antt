@@ -21,12 +21,12 @@ use Rattle.row_format.specs.Place.Laws.{place_shown-twice}
 use Rattle.row_format.specs.Row.{Item, fresh, pixels_of, pixel_bytes, too_many}
 use Rattle.row_format.specs.Row.Laws.{length-pixels_of, too_many-zero}
 use Rattle.row_format.specs.Reading.{Run, done, stop, run_number, run_place, bits_of_run, first_number, row_reading}
-use Rattle.row_format.specs.Reading.Laws.{row_reading-room}
+use Rattle.row_format.proofs.Reading.Laws.{row_reading-room}
 use Rattle.row_format.specs.Calls.{row_wrote, row_outcome, unpacked}
-use Rattle.row_format.specs.Calls.Laws.{row_outcome-number, row_outcome-at}
-use Rattle.row_format.specs.Theorems.Numbers.{StopIn, row_reading-stops}
-use Rattle.row_format.specs.Theorems.Shown.{row_reading-shown}
-use Rattle.row_format.specs.Theorems.Done.{GivesRow, row_reading-gives, row_reading-reads}
+use Rattle.row_format.proofs.Calls.Laws.{row_outcome-number, row_outcome-at}
+use Rattle.row_format.proofs.Theorems.Numbers.{StopIn, row_reading-stops}
+use Rattle.row_format.proofs.Theorems.Shown.{row_reading-shown}
+use Rattle.row_format.proofs.Theorems.Done.{GivesRow, row_reading-gives, row_reading-reads}
 use Rattle.sheet_format.specs.declared.SheetState.{SheetState}
 use Rattle.sheet_format.specs.declared.RecordRead.{RecordRead}
 use Rattle.sheet_format.specs.Context.{Context, table_for, state_of, context_of}
@@ -41,7 +41,7 @@ use Rattle.sheet_format.specs.Record.{content_number}
 use Rattle.sheet_format.specs.Record.Laws.{content-passed}
 use Rattle.sheet_format.specs.Reading.{refused_record}
 use Rattle.sheet_format.specs.Reading.Laws.{refused-shown, refused-anywhere}
-use Rattle.sheet_format.specs.Theorems.Room.{own-content}
+use Rattle.sheet_format.proofs.Theorems.Room.{own-content}
 use Rattle.sheet_reader.specs.declared.row.RowFields.{RowFields}
 use Rattle.sheet_reader.specs.Leaves.{accepted_record, ContentLeaves}
 use Rattle.sheet_reader.specs.Leaves.Laws.{refuses, holds}

@@ -25,7 +25,7 @@ use Rattle.sheet_format.specs.Kind.PlainRow.Laws.{plain-lawful}
 use Rattle.sheet_format.specs.Record.{content_number}
 use Rattle.sheet_format.specs.Record.Laws.{content-passed}
 use Rattle.sheet_format.specs.Reading.{refused_record}
-use Rattle.sheet_format.specs.Theorems.Room.{own-content}
+use Rattle.sheet_format.proofs.Theorems.Room.{own-content}
 use Rattle.sheet_reader.specs.declared.row.RowFields.{RowFields}
 use Rattle.sheet_reader.specs.Leaves.{accepted_record, ContentLeaves}
 use Rattle.sheet_reader.specs.Leaves.Laws.{refuses, holds}

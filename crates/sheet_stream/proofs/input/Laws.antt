@@ -9,7 +9,7 @@ use borrow.Rule.Slice.PartMut.{put_mid}
 use Rattle.bitstream.specs.Bits.{number_of}
 use Rattle.sheet_format.specs.Record.{length_field, record_span}
 use Rattle.sheet_format.specs.Stream.{held_of}
-use Rattle.sheet_format.specs.Stream.Held.{held-short, held-span}
+use Rattle.sheet_format.proofs.Stream.Held.{held-short, held-span}
 
 -- the front of some memory, where it is short
 pub held-front : (k : ℕ) (m : List ℕ) → k ≤ 4 → take k m ≡ held_of (take k m)

@@ -8,10 +8,10 @@ use Rattle.sheet_format.specs.Kinds.{kind_of}
 use Rattle.sheet_format.specs.Reading.{answer_bytes, record_content, record_judged}
 use Rattle.sheet_format.specs.Sheet.{SheetRecord, record_here, record_holds, row_of, records}
 use Rattle.sheet_format.specs.Stream.{context_by}
-use Rattle.sheet_format.specs.Stream.Taken.{carries-records}
-use Rattle.sheet_format.specs.Stream.Laws.{is_row-row}
-use Rattle.sheet_format.specs.Theorems.Rows.{row_small, row_count, row-bytes, row-heights}
-use Rattle.sheet_format.specs.Theorems.StoredRows.{content-size}
+use Rattle.sheet_format.proofs.Stream.Taken.{carries-records}
+use Rattle.sheet_format.proofs.Stream.Laws.{is_row-row}
+use Rattle.sheet_format.proofs.Theorems.Rows.{row_small, row_count, row-bytes, row-heights}
+use Rattle.sheet_format.proofs.Theorems.StoredRows.{content-size}
 use Rattle.sheet_stream.specs.declared.progress.SheetProgress.{SheetProgress}
 use Rattle.sheet_stream.specs.declared.step.SheetStep.{SheetStep}
 use Rattle.sheet_stream.specs.Progress.{carried_by, Underway}

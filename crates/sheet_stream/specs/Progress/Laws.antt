@@ -6,7 +6,7 @@ use Rattle.sheet_format.specs.Context.{new_sheet, state_of}
 use Rattle.sheet_format.specs.Reading.{record_judged}
 use Rattle.sheet_format.specs.Reading.Laws.{judged-body}
 use Rattle.sheet_format.specs.Stream.{rows_of, holds_of, Carried, context_by, carried_next}
-use Rattle.sheet_format.specs.Stream.Taken.{carries-none}
+use Rattle.sheet_format.proofs.Stream.Taken.{carries-none}
 use Rattle.sheet_stream.specs.declared.progress.SheetProgress.{SheetProgress}
 use Rattle.sheet_stream.specs.Progress.{carried_by, table_after, CarriedFits, Underway}
 

@@ -24,11 +24,11 @@ use Rattle.sheet_format.specs.Stream.{
   next_of,
   Carries,
 }
-use Rattle.sheet_format.specs.Stream.Held.{held-short}
-use Rattle.sheet_format.specs.Stream.Laws.{goes_on, next_of-end, next_of-refused, next_of-accepted, next_of-goes-on}
-use Rattle.sheet_format.specs.Stream.Taken.{carries-records, carries-more, carries-ended}
-use Rattle.sheet_format.specs.Theorems.{record-length, read-judged}
-use Rattle.sheet_format.specs.Theorems.Room.{record_number-enough, content-bytes}
+use Rattle.sheet_format.proofs.Stream.Held.{held-short}
+use Rattle.sheet_format.proofs.Stream.Laws.{goes_on, next_of-end, next_of-refused, next_of-accepted, next_of-goes-on}
+use Rattle.sheet_format.proofs.Stream.Taken.{carries-records, carries-more, carries-ended}
+use Rattle.sheet_format.proofs.Theorems.{record-length, read-judged}
+use Rattle.sheet_format.proofs.Theorems.Room.{record_number-enough, content-bytes}
 use Rattle.sheet_stream.specs.declared.progress.SheetProgress.{SheetProgress}
 use Rattle.sheet_stream.specs.declared.step.SheetStep.{SheetStep}
 use Rattle.sheet_stream.specs.Progress.{carried_by, table_after, Underway}

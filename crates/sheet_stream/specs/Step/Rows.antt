@@ -9,9 +9,9 @@ use Rattle.sheet_format.specs.Kind.{a_row, is_row}
 use Rattle.sheet_format.specs.Reading.{answer_bytes, record_content, record_judged}
 use Rattle.sheet_format.specs.Sheet.{SheetRead, records, sheet_read, stored_rows, absent, present, heights_of}
 use Rattle.sheet_format.specs.Stream.{holds_of, context_by, Carries}
-use Rattle.sheet_format.specs.Stream.Laws.{is_row-row}
-use Rattle.sheet_format.specs.Stream.Settled.{heights-none, settled-row, settled-gap, least-same, rows_same}
-use Rattle.sheet_format.specs.Theorems.Rows as rows
+use Rattle.sheet_format.proofs.Stream.Laws.{is_row-row}
+use Rattle.sheet_format.proofs.Stream.Settled.{heights-none, settled-row, settled-gap, least-same, rows_same}
+use Rattle.sheet_format.proofs.Theorems.Rows as rows
 use Rattle.sheet_stream.specs.declared.progress.SheetProgress.{SheetProgress}
 use Rattle.sheet_stream.specs.declared.step.SheetStep.{SheetStep}
 use Rattle.sheet_stream.specs.Progress.{carried_by}
@@ -41,39 +41,39 @@ module _ {b : List ℕ} {p : SheetProgress} {table : List ℕ} {s : SheetStep} {
 
     -- ---- a row
     module _ (row : is_row (holds_of s.read) ≡ true) where
-      is_row : holds_of (record_judged (context_by (carried_by p table)) b) ≡ a_row
-      is_row = ap holds_of (sym (step-read step on)) ∙ is_row-row (holds_of s.read) row
+      is-row : holds_of (record_judged (context_by (carried_by p table)) b) ≡ a_row
+      is-row = ap holds_of (sym (step-read step on)) ∙ is_row-row (holds_of s.read) row
 
       abbrev same : s.read ≡ record_judged (context_by (carried_by p table)) b
       same = step-read step on
 
       pub row-least : p.state.least_row ≤ s.read.row
-      row-least = rw same (rows.row-least _ b (step-accepted step on) is_row)
+      row-least = rw same (rows.row-least _ b (step-accepted step on) is-row)
 
       pub row_small : s.read.row < 65536
-      row_small = rw same (rows.row_small _ b (step-accepted step on) is_row)
+      row_small = rw same (rows.row_small _ b (step-accepted step on) is-row)
 
       pub row_next : s.next.state.least_row ≡ s.read.row + 1
-      row_next = rw (step-state step on, same) (rows.row_next _ b (step-accepted step on) is_row)
+      row_next = rw (step-state step on, same) (rows.row_next _ b (step-accepted step on) is-row)
 
       pub row_count : s.read.count ≤ 4096
-      row_count = rw same (rows.row_count _ b (step-accepted step on) is_row)
+      row_count = rw same (rows.row_count _ b (step-accepted step on) is-row)
 
       row-bytes : answer_bytes s.read ≡ 2 * s.read.count
-      row-bytes = rw same (rows.row-bytes _ b (step-accepted step on) is_row)
+      row-bytes = rw same (rows.row-bytes _ b (step-accepted step on) is-row)
 
       row-content : take (2 * s.read.count) content' ≡ record_content (context_by (carried_by p table)) b
       row-content = ap (λ (n : ℕ). take n content') (sym row-bytes) ∙ step-content step on
 
       pub row-heights : Below 4096 (halves_of (take (2 * s.read.count) content'))
-      row-heights = rw row-content (rows.row-heights _ b (step-accepted step on) is_row)
+      row-heights = rw row-content (rows.row-heights _ b (step-accepted step on) is-row)
 
       -- after the bytes t, and whatever follows, it stands in the sheet under its number; the numbers that it passes over do not
       module _ {t : List ℕ} (at : Carries t (carried_by p table)) (rest : List ℕ) where
         pub row-there : heights_of s.read.row (stored_rows (sheet_read (t ++ b ++ rest)).records)
             ≡ present (halves_of (take (2 * s.read.count) content'))
-        row-there = rw (row-content, same) (settled-row at b step.held (step-accepted step on) is_row rest)
+        row-there = rw (row-content, same) (settled-row at b step.held (step-accepted step on) is-row rest)
 
         pub gap-absent : (n : ℕ) → p.state.least_row ≤ n → n < s.read.row
             → heights_of n (stored_rows (sheet_read (t ++ b ++ rest)).records) ≡ absent
-        gap-absent n least less = settled-gap at b step.held (step-accepted step on) is_row n least (rw same at less) rest
+        gap-absent n least less = settled-gap at b step.held (step-accepted step on) is-row n least (rw same at less) rest

@@ -1,5 +1,5 @@
 -- The laws of the shape of rows: none, and one more behind the others. Assumes nothing.
-use Prim.Native.Nat.{ℕ, zero, suc, ◌+◌, ◌-◌, ◌≤◌, ◌<◌, max}
+use Prim.Native.Nat.{ℕ, zero, suc, ◌+◌, ◌-◌, ◌≤◌, ◌<◌}
 use Rattle.std.proofs.Common.{zero-add, sym, ◌∙◌}
 use native.Mathlib.Omega.{arith}
 use Rattle.std.specs.Prelude.{◌≡◌, List, [], ◌∷◌, ◌++◌, length, ltb, eqb}
@@ -7,7 +7,7 @@ use Rattle.std.proofs.Math.Path.{refl, ap}
 use borrow.Author.Tests.{eq-eqb, ne_eqb, ltb-true, ltb-false, eqb-true, eqb-false}
 use Rattle.row_format.specs.Lists.Laws.{by-test}
 use Rattle.sheet_format.specs.Sheet.{StoredRow, absent, present, heights_of}
-use Rattle.sheet_format.specs.Stream.Settled.{heights_of-before, heights_of-behind}
+use Rattle.sheet_format.proofs.Stream.Settled.{heights_of-before, heights_of-behind}
 use Rattle.sheet_format.specs.Size.{rows_width, rows_height}
 use Rattle.sheet_format.specs.Size.Laws.{width-more, height-more}
 use Rattle.pgm_format.specs.Shape.{LineFault, no_fault, row_missing, row_unequal}

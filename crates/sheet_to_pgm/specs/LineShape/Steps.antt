@@ -1,5 +1,5 @@
 -- The shape of a sheet's rows, step by step. Assumes nothing.
-use Rattle.std.specs.Prelude.{ℕ, ◌+◌, ◌*◌, ◌≤◌, ◌≡◌, true, false, List, [], ◌∷◌, ◌++◌, length, take}
+use Rattle.std.specs.Prelude.{ℕ, ◌*◌, ◌≤◌, ◌≡◌, true, false, List, [], ◌∷◌, ◌++◌, length, take}
 use Rattle.std.proofs.Common.{arith, subst, ◌∙◌, length-take-le}
 use Rattle.std.proofs.Math.Path.{ap}
 use Rattle.row_format.specs.Lists.Laws.{by-test}
@@ -10,9 +10,9 @@ use Rattle.sheet_format.specs.Kinds.{kind_of}
 use Rattle.sheet_format.specs.Sheet.{SheetRead, StoredRow, record_holds, row_of, with_row, stored_rows, records}
 use Rattle.sheet_format.specs.Sheet.Laws.{records-end}
 use Rattle.sheet_format.specs.Stream.{Carried}
-use Rattle.sheet_format.specs.Stream.Laws.{is_row-row}
-use Rattle.sheet_format.specs.Stream.Settled.{stored_rows-append}
-use Rattle.sheet_format.specs.Stream.Taken.{carries-none}
+use Rattle.sheet_format.proofs.Stream.Laws.{is_row-row}
+use Rattle.sheet_format.proofs.Stream.Settled.{stored_rows-append}
+use Rattle.sheet_format.proofs.Stream.Taken.{carries-none}
 use Rattle.sheet_format.specs.Size.{rows_height}
 use Rattle.sheet_stream.specs.declared.progress.SheetProgress.{SheetProgress}
 use Rattle.sheet_stream.specs.declared.step.SheetStep.{SheetStep}

@@ -10,7 +10,7 @@ use Rattle.text.specs.Text.{ascii, field, fields}
 use Rattle.sheet_format.specs.Kind.{is_row}
 use Rattle.sheet_format.specs.Kinds.{kind_of}
 use Rattle.sheet_format.specs.Sheet.{StoredRow, Heights, absent, present, heights_of, stored_rows, sheet_read}
-use Rattle.sheet_format.specs.Theorems.StoredRows.{stored-within}
+use Rattle.sheet_format.proofs.Theorems.StoredRows.{stored-within}
 use Rattle.sheet_format.specs.Size.{rows_width, rows_height}
 use Rattle.sheet_stream.specs.declared.progress.SheetProgress.{SheetProgress}
 use Rattle.sheet_stream.specs.declared.step.SheetStep.{SheetStep}
@@ -24,7 +24,6 @@ use Rattle.pgm_format.specs.Samples.{samples_of, lines_bytes, pgm_bytes}
 use Rattle.pgm_format.specs.Samples.Laws.{samples_of-append}
 use Rattle.pgm_format.specs.Shape.{LineFault, row_missing, row_unequal, padded_line, padded_lines}
 use Rattle.pgm_format.specs.Shape.{no_padding, pad_with, unless_fault, SheetPgm, no_heights, at_fault, pgm_picture, sheet_pgm}
-use Rattle.sheet_to_pgm.specs.declared.shape.RowFault.{RowFault}
 use Rattle.sheet_to_pgm.specs.declared.shape.RowFault.TheVariants.{Whole, Missing, Unequal}
 use Rattle.sheet_to_pgm.specs.declared.shape.LineShape.{LineShape}
 use Rattle.sheet_to_pgm.specs.declared.pads.Pads.{Pads}

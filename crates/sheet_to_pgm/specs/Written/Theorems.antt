@@ -1,6 +1,6 @@
 -- What the picture says: its lines come one after another, the one that is written as line n is the picture's where the sheet is the
 -- same, each row stands in its line whole, and none is outside. Assumes nothing.
-use Rattle.std.specs.Prelude.{ℕ, suc, ◌+◌, ◌-◌, ◌≤◌, ◌<◌, ◌≡◌, refl, length, take, replicate}
+use Rattle.std.specs.Prelude.{ℕ, suc, ◌-◌, ◌≤◌, ◌<◌, ◌≡◌, refl, length, take, replicate}
 use Rattle.std.proofs.Common.{arith, sym, ap, ◌∙◌, ⊎_elim, take_at}
 use mathlib.Core.List.Memᴰ
 use mathlib.Core.List.{List, [], ◌∷◌, ◌++◌, Memᴰ}

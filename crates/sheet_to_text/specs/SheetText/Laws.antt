@@ -8,7 +8,7 @@ use Rattle.sheet_format.specs.Context.{new_sheet}
 use Rattle.sheet_format.specs.Kind.{Payload, a_table, a_row, a_line, no_payload, is_row}
 use Rattle.sheet_format.specs.Kinds.{kind_of}
 use Rattle.sheet_format.specs.Sheet.{SheetRecord, StoredRow, record_holds, row_of, with_row, stored_rows, records}
-use Rattle.sheet_format.specs.Stream.Settled.{stored_rows-append}
+use Rattle.sheet_format.proofs.Stream.Settled.{stored_rows-append}
 use Rattle.sheet_stream.specs.Step.{record_by}
 use Rattle.sheet_stream.specs.AcceptedRecord.{AcceptedRecord, row_answered}
 use Rattle.sheet_stream.specs.AcceptedRecord.Laws.{next-records, next_row}

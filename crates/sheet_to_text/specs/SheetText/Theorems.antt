@@ -12,9 +12,9 @@ use Rattle.sheet_format.specs.Record.{record_span}
 use Rattle.sheet_format.specs.Reading.{record_judged}
 use Rattle.sheet_format.specs.Sheet.{SheetRead, StoredRow, records, stored_rows, sheet_read}
 use Rattle.sheet_format.specs.Stream.{held_of, context_by, carried_next, ended, next_of, Carried, Carries}
-use Rattle.sheet_format.specs.Stream.Settled.{stored_rows-append, sheet_read-records}
-use Rattle.sheet_format.specs.Stream.Taken.{records-append, carries-more, carries-ended}
-use Rattle.sheet_format.specs.Theorems.StoredRows.{stored-within}
+use Rattle.sheet_format.proofs.Stream.Settled.{stored_rows-append, sheet_read-records}
+use Rattle.sheet_format.proofs.Stream.Taken.{records-append, carries-more, carries-ended}
+use Rattle.sheet_format.proofs.Theorems.StoredRows.{stored-within}
 use Rattle.sheet_to_text.specs.declared.range.RowRange.{RowRange}
 use Rattle.sheet_to_text.specs.RowRange.{between, is_asked}
 use Rattle.sheet_to_text.specs.RowRange.Laws.{asked-within}

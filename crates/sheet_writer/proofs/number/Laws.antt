@@ -20,7 +20,7 @@ use Rattle.sheet_format.specs.Kind.ContourLine.{given_numbers}
 
 -- ---- an i32 is held as its bits
 pub same-i32 : (v : ℤ) → mag v < 2147483648 → to_z w32 (of_z w32 v) ≡ v
-same-i32 v small = to_z-of_z (record { sfits = small })
+same-i32 v small = to_z-of_z {w = w32} (record { sfits = small })
 
 -- ---- the numbers given
 pub length-given : (x : List ℕ) → length (given_numbers x) ≡ length x / 4

@@ -19,8 +19,8 @@ use Rattle.answer.specs.Outcome.{outcome, wrote, ◌or_else◌, refuse_if}
 use Rattle.answer.specs.Outcome.Laws.{less_number-none, less_number-given, or_else-assoc, given-first}
 use Rattle.row_format.specs.Row.{row_bits, row_bytes}
 use Rattle.row_format.specs.Calls.{pack_number, packed, Packable}
-use Rattle.row_format.specs.Calls.Laws.{packable, packed-done, packed-number}
-use Rattle.row_format.specs.Theorems.Memory.{packed-kept, packed-within}
+use Rattle.row_format.proofs.Calls.Laws.{packable, packed-done, packed-number}
+use Rattle.row_format.proofs.Theorems.Memory.{packed-kept, packed-within}
 use Rattle.row_format.specs.Table.Laws.{accepted-table}
 use Rattle.row_pixels.specs.Laws.{length-halves}
 use Rattle.row_packer.specs.Write.Laws.{row_bits-most}

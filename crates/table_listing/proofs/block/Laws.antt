@@ -160,6 +160,10 @@ module _ (t list : List ℕ) (first i : ℕ) where
       let there : first + (i - first) ≡ i = omega arith in
       sym (get_or-drop first (map (line t) list) (i - first) [] ∙ rw there (get_d_map (line t) list i 0 [] inside))
 
+-- the lines that are asked for
+abbrev pub asked : List ℕ → List ℕ → ℕ → List (List ℕ)
+asked t list first = drop first (map (line t) list)
+
 pub length-lines : (t list : List ℕ) (first : ℕ) → length (drop first (map (line t) list)) ≡ length list - first
 length-lines t list first = length-drop first (map (line t) list) ∙ ap (◌- first) (length-map list (line t))
 
@@ -171,3 +175,17 @@ stop-some (suc n) h = refl
 pub line-some : (t : List ℕ) (p : ℕ) → 1 ≤ length (line t p)
 unfolding line
 line-some t p = rw (length-append (name t p ++ ascii " " ++ map digit (codeword_at t p)) (ascii "\n")) (omega arith)
+
+-- what a turn has done when its line is put or not
+pub turned : (t list : List ℕ) (first i : ℕ) {m m' m'' : List ℕ} {at r : ℕ} → first ≤ i → i < length list
+    → Filling (asked t list first) m (i - first) at m' → Appended m' at (line t (get_or list i 0)) r m''
+    → Turn (asked t list first) m m' (i - first) at r m''
+turned t list first i h inside f a =
+    record {
+      filling = f;
+      inside = omega (arith, length-lines t list first);
+      line = line t (get_or list i 0);
+      next = line_at t list first i h inside;
+      some = line-some t (get_or list i 0);
+      appended = a;
+    }

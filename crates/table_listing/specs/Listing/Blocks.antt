@@ -7,7 +7,7 @@ use Rattle.std.proofs.Math.ListN.{get_or-eq_default}
 use Rattle.bitstream.specs.Bits.{words_of}
 use Rattle.row_format.specs.Lists.Laws.{by-test}
 use Rattle.row_format.specs.Table.{codeword_at, table_number}
-use Rattle.row_format.specs.Theorems.Numbers.{table_number-in}
+use Rattle.row_format.proofs.Theorems.Numbers.{table_number-in}
 use Rattle.code_table.specs.Check.Laws.{length-words, whole-table-words}
 use Rattle.text.specs.Text.{ascii, field, decimal}
 use Rattle.text.specs.Text.Laws.{length-decimal}

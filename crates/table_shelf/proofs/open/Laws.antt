@@ -12,9 +12,9 @@ use Rattle.answer.specs.Outcome.{outcome, answer_of, refused, wrote, ◌or_else�
 use Rattle.answer.specs.Outcome.Laws.{or_else-none, or_else-zero-left, or_else-zero-right, given-first, given-next}
 use Rattle.row_format.specs.Table.{table_number}
 use Rattle.shelf_format.specs.Shelf.{placed, filled}
-use Rattle.shelf_format.specs.Shelf.Laws.{length-filled, table-bytes}
+use Rattle.shelf_format.proofs.Shelf.Laws.{length-filled, table-bytes}
 use Rattle.shelf_format.specs.Calls.{short_number, tables_number, shelved, shelf_opened}
-use Rattle.shelf_format.specs.Calls.Laws.{short_none, refuses, passes, length-opened}
+use Rattle.shelf_format.proofs.Calls.Laws.{short_none, refuses, passes, length-opened}
 
 -- ---- numbers
 module _ (t0 t1 t2 t3 : List ℕ) where

@@ -11,7 +11,7 @@ use Rattle.bitstream.specs.Bits.{words_of}
 use Rattle.row_format.specs.Table.{table_size}
 use Rattle.shelf_format.specs.Shelf.{place, is_free, table_in}
 use Rattle.shelf_format.specs.Calls.{short_number, held_number}
-use Rattle.shelf_format.specs.Calls.Laws.{short_none}
+use Rattle.shelf_format.proofs.Calls.Laws.{short_none}
 use Rattle.table_shelf.specs.Place.{TableEnds}
 
 pub place-part : (s : List ℕ) (i : ℕ) → take (32772 * i + 32772 - 32772 * i) (drop (32772 * i) s) ≡ place s i

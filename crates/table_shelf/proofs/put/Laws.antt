@@ -13,9 +13,9 @@ use Rattle.answer.specs.Outcome.Laws.{or_else-assoc, or_else-zero-left, or_else-
 use Rattle.row_format.specs.Table.{table_number}
 use Rattle.shelf_format.specs.declared.PlaceChanged.{PlaceChanged}
 use Rattle.shelf_format.specs.Shelf.{place, placed, filled, is_free, is_party, first_own, view}
-use Rattle.shelf_format.specs.Shelf.Laws.{table-bytes}
+use Rattle.shelf_format.proofs.Shelf.Laws.{table-bytes}
 use Rattle.shelf_format.specs.Calls.{short_number, not_changed, first_free, put_place, offer_number, put_refusal, shelf_put, changed}
-use Rattle.shelf_format.specs.Calls.Laws.{short_none, refuses, passes, least_at, first_free-places, first_free-most, Offered, offered}
+use Rattle.shelf_format.proofs.Calls.Laws.{short_none, refuses, passes, least_at, first_free-places, first_free-most, Offered, offered}
 
 -- ---- before the shelf is looked through
 module _ (s : List ℕ) (p : ℕ) (tb : List ℕ) where

@@ -8,7 +8,7 @@ use Rattle.answer.specs.Outcome.{outcome}
 use Rattle.shelf_format.specs.declared.PlaceChanged.{PlaceChanged}
 use Rattle.shelf_format.specs.Shelf.{placed, filled, is_own, view}
 use Rattle.shelf_format.specs.Calls.{not_changed, changed, remove_refusal, shelf_removed}
-use Rattle.shelf_format.specs.Calls.Laws.{refuses, passes, held, own-few}
+use Rattle.shelf_format.proofs.Calls.Laws.{refuses, passes, held, own-few}
 
 module _ (s : List ℕ) (p i : ℕ) where
   abbrev number : ℕ

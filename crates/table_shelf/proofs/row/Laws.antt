@@ -10,9 +10,9 @@ use Rattle.row_format.specs.declared.RowUnpacked.{RowUnpacked}
 use Rattle.row_format.specs.Place.Laws.{place_shown-zero}
 use Rattle.row_format.specs.Calls.{packed, row_refused, unpacked, room}
 use Rattle.shelf_format.specs.Shelf.{table_in, may_use, view}
-use Rattle.shelf_format.specs.Shelf.Laws.{view-usable}
+use Rattle.shelf_format.proofs.Shelf.Laws.{view-usable}
 use Rattle.shelf_format.specs.Calls.{use_refusal, shelf_packed, shelf_unpacked, shelf_room}
-use Rattle.shelf_format.specs.Calls.Laws.{refuses, passes, held, use-few}
+use Rattle.shelf_format.proofs.Calls.Laws.{refuses, passes, held, use-few}
 use Rattle.table_shelf.specs.Place.{TableEnds}
 
 module _ (s : List ℕ) (p i : ℕ) where

@@ -6,7 +6,7 @@ use Rattle.answer.specs.Outcome.Laws.{or_else-in, refuse_if-in, unless-in, unles
 use Rattle.answer.specs.Outcome.Laws.{given-first, given-next}
 use Rattle.row_format.specs.Lists.Laws.{by-test}
 use Rattle.row_format.specs.Table.{table_number}
-use Rattle.row_format.specs.Theorems.Numbers.{table_number-in}
+use Rattle.row_format.proofs.Theorems.Numbers.{table_number-in}
 use Rattle.row_reader.specs.declared.step.Place.{Place}
 use Rattle.row_reader.specs.declared.step.ItemRead.{ItemRead}
 use Rattle.row_reader.specs.Step.{impossible, item_read}

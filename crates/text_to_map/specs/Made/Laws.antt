@@ -8,13 +8,13 @@ use Rattle.bitstream.specs.Bits.{flat, halves_of, Below}
 use Rattle.bitstream.specs.Bits.Laws.{length_cut}
 use Rattle.row_format.specs.Lists.Laws.{by-test}
 use Rattle.row_format.specs.Row.{pixel_bytes}
-use Rattle.row_format.specs.Theorems.Words.{halves_of-bytes_of}
+use Rattle.row_format.proofs.Theorems.Words.{halves_of-bytes_of}
 use Rattle.text.specs.Lines.{refused_line}
 use Rattle.map_format.specs.Reading.{sum}
 use Rattle.map_format.specs.Calls.{position_bits, size_number, counts_number, map_bytes, map_written}
 use Rattle.map_format.specs.Verdict.{MapWritable}
-use Rattle.map_format.specs.Verdict.Laws.{size_number-zero, map_written-got, map_written-done}
-use Rattle.map_format.specs.Theorems.Bytes.{bytes_most}
+use Rattle.map_format.proofs.Verdict.Laws.{size_number-zero, map_written-got, map_written-done}
+use Rattle.map_format.proofs.Theorems.Bytes.{bytes_most}
 use Rattle.map_text.specs.declared.counts.Taken.{Taken}
 use Rattle.map_text.specs.declared.scan.Scan.TheVariants.{Line}
 use Rattle.map_text.specs.MapText.{done_bytes_line}

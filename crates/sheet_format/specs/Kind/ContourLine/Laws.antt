@@ -2,7 +2,7 @@
 use Prim.Native.Nat.{ℕ, zero, suc, ◌+◌, ◌*◌, ◌/◌, ◌≤◌, ◌<◌}
 use Rattle.std.proofs.Common.{le_refl, arith, sym, ap, ◌∙◌, length-append}
 use Rattle.std.specs.Prelude.{◌≡◌, refl, length, drop, ltb, ℤ}
-use mathlib.Core.List.{List, [], ◌∷◌, ◌++◌, append-nil, map}
+use mathlib.Core.List.{List, [], ◌++◌, append-nil, map}
 use Rattle.std.proofs.lemmas.List.{length-map}
 use Rattle.bitstream.specs.Bits.{flat, bits_of, words_of, Below}
 use Rattle.bitstream.specs.Bits.Laws.{below-flat, below-cut, length_cut}

@@ -14,11 +14,11 @@ use Rattle.row_format.specs.Table.Laws.{accepted, table_number-verdict, max_item
 use Rattle.row_format.specs.Row.{fresh, pixels_of, items_for, row_bits, row_bytes, pixel_bytes, too_many, too_high}
 use Rattle.row_format.specs.Row.Laws.{length-pixels_of, too_many-zero}
 use Rattle.row_format.specs.Reading.{Run, done, stop, run_number, pixels_of_run, read_items, without_stray, first_number, row_reading}
-use Rattle.row_format.specs.Theorems.Bounds.{length-row_bits}
-use Rattle.row_format.specs.Theorems.Done.{GivesRow, row_reading-gives}
-use Rattle.row_format.specs.Theorems.Numbers.{StopIn, table_number-in, row_reading-stops, row_reading-number-in}
-use Rattle.row_format.specs.Theorems.RoundTrip.{row_reading-row_bytes, pixels_of-items_for}
-use Rattle.row_format.specs.Theorems.Words.{bytes_of-halves_of}
+use Rattle.row_format.proofs.Theorems.Bounds.{length-row_bits}
+use Rattle.row_format.proofs.Theorems.Done.{GivesRow, row_reading-gives}
+use Rattle.row_format.proofs.Theorems.Numbers.{StopIn, table_number-in, row_reading-stops, row_reading-number-in}
+use Rattle.row_format.proofs.Theorems.RoundTrip.{row_reading-row_bytes, pixels_of-items_for}
+use Rattle.row_format.proofs.Theorems.Words.{bytes_of-halves_of}
 use Rattle.sheet_format.specs.Context.{Heading, Context, table_for}
 use Rattle.sheet_format.specs.Fields.{shorter_than}
 use Rattle.sheet_format.specs.Kind.{a_row, after_record}

@@ -4,9 +4,9 @@ use native.Mathlib.Omega.{arith}
 use Rattle.std.proofs.Common.{sym, ap, ◌∙◌, length-append, drop-drop, length-take-le, eq-eqb}
 use Rattle.bitstream.specs.Bits.{bits_of, halves_of, Below}
 use Rattle.bitstream.specs.Bits.Laws.{below-flat, below-cut, length_cut}
-use Rattle.answer.specs.Outcome.{◌or_else◌, refuse_if}
+use Rattle.answer.specs.Outcome.{refuse_if}
 use Rattle.answer.specs.Outcome.Laws.{less_number-zero, or_else-zero-left, or_else-zero-right, refuse_if-in, or_else-in}
-use Rattle.row_format.specs.Theorems.Words.{bytes_of-halves_of, halves_of-bytes_of}
+use Rattle.row_format.proofs.Theorems.Words.{bytes_of-halves_of, halves_of-bytes_of}
 use Rattle.sheet_format.specs.Context.{Heading, Context}
 use Rattle.sheet_format.specs.Fields.{two_bytes}
 use Rattle.sheet_format.specs.Fields.Laws.{number_of-two_bytes, length-two_bytes, take-two_bytes, drop-two_bytes}

@@ -7,7 +7,7 @@ use Rattle.answer.specs.Outcome.{◌or_else◌, Lent, room_number}
 use Rattle.answer.specs.Outcome.Laws.{unequal_number-zero, unequal_number-none, refuse_if-in, or_else-none, room_number-none}
 use Rattle.row_format.specs.Table.{table_number}
 use Rattle.row_format.specs.Table.Laws.{accepted, table_number-whole, table_number-verdict}
-use Rattle.row_format.specs.Theorems.Numbers.{table_number-in}
+use Rattle.row_format.proofs.Theorems.Numbers.{table_number-in}
 use Rattle.sheet_format.specs.Context.{Heading, Context}
 use Rattle.sheet_format.specs.Kind.Lawful.{Back, Lawful}
 use Rattle.sheet_format.specs.Kind.Table.{table_place, table_own, table_kind}

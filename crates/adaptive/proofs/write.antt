@@ -1,0 +1,3 @@
+pub mod LaterBytesTurn
+pub mod PutBytesTurn
+pub mod WriteBytesLaws

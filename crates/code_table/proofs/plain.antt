@@ -1,0 +1,2 @@
+pub mod PlainTableLaws
+pub mod StoreTurn

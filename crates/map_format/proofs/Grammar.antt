@@ -1,0 +1,3 @@
+pub mod Exact
+pub mod Read
+pub mod Stands

@@ -1,0 +1,3 @@
+pub mod ShortestTurn
+pub mod SplitExchange
+pub mod SplitTurn

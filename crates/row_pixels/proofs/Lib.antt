@@ -1,0 +1,2 @@
+pub mod AnyAboveTurn
+pub mod PixelAtLaws

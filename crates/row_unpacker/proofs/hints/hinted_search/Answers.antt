@@ -1,0 +1,8 @@
+-- `hints::hinted_search`: a codeword that begins the rest is the only one, and where the hint has none the whole table is
+-- searched. Assumes nothing.
+use Rattle.row_unpacker.proofs.search.Laws.{finds-only}
+use Rattle.row_unpacker.proofs.hints.hinted_search.Goals as goal
+
+pub returns-then-begins_rest : goal.returns-then-begins_rest
+returns-then-begins_rest c = finds-only c.args.table.now c.args.v c.requires c.guess-i.result c.word_at.result c.if-i-ge3.true
+    c.if-i-table.true c.word_at.ensures c.begins_rest.ensures c.if-begins_rest.true

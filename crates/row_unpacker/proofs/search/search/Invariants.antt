@@ -1,0 +1,14 @@
+-- `search::search`. The invariant: no codeword in the words before word i begins the rest. The measure is the words that are
+-- left. Assumes nothing.
+use Prim.Native.Nat.{◌-◌, ◌/◌}
+use lib.ListN.{length}
+use Rattle.bitstream.specs.Bits.{words_of}
+use Rattle.row_unpacker.specs.Search.{begun_by}
+use Rattle.row_unpacker.proofs.search.Laws.{Passed}
+use Rattle.row_unpacker.proofs.search.search.Given as goal
+
+abbrev pub invariant-loop-i : goal.invariant-loop-i
+invariant-loop-i l = Passed begun_by (words_of l.table) l.v l.i
+
+abbrev pub decreases-loop-i : goal.decreases-loop-i
+decreases-loop-i l = length l.table / 4 - l.i

@@ -1,0 +1,4 @@
+pub mod Held
+pub mod Laws
+pub mod Settled
+pub mod Taken

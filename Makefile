@@ -37,7 +37,7 @@ ARCHIVE := target/staticlib/libtahliruz.a
 SHARED := target/shared/libtahliruz.so.$(VERSION)
 SECOND := second/target/release
 # What the proofs depend on. A folder counts too: it changes with a file that goes.
-SOURCES := crates.txt $(shell find crates -name must-fail -prune -o -print)
+SOURCES := crates.txt $(shell find crates -mindepth 2 \( -name must-fail -o -name out \) -prune -o -print)
 
 all: build
 	target/bin/list_sheet < samples/small.sheet
@@ -47,16 +47,20 @@ build: $(PROGRAMS) $(ARCHIVE) $(SHARED)
 have_rt = command -v rt > /dev/null || { echo "rt, the Rattle toolchain, is not found. It is needed to build: where it is" \
     "at hand, run make before make install" >&2; exit 1; }
 
-# rt goes by contents and leaves what is proved already as it is, hence the touch.
+# rt goes by contents: what is proved already it does not prove again. A program that it has proved it runs, so here for its version.
 $(PROGRAMS) &: $(SOURCES)
 	@$(have_rt)
-	rt check $(notdir $(PROGRAMS))
-	@touch $(PROGRAMS)
+	@mkdir -p target/bin
+	@for program in $(notdir $(PROGRAMS)); do \
+	    (cd crates/$$program && rt run -- --version) > target/rt.log 2>&1 || { cat target/rt.log; exit 1; }; \
+	    install -m 755 crates/$$program/out/$$program target/bin/$$program || exit; echo "$$program is proved and built"; \
+	done
 
 $(ARCHIVE): $(SOURCES)
 	@$(have_rt)
-	rt staticlib tahliruz
-	@touch $@
+	@mkdir -p $(@D)
+	@(cd crates/tahliruz && rt lib) > target/rt.log 2>&1 || { cat target/rt.log; exit 1; }
+	@install -m 644 crates/tahliruz/out/libtahliruz.a $@ && echo "$(notdir $@) is proved and built"
 
 # What rt compiles is position independent.
 $(SHARED): $(ARCHIVE) package/tahliruz.map VERSION
@@ -86,7 +90,7 @@ bench: $(ARCHIVE) $(PROGRAMS)
 
 fuzz:
 	@tests/sanitized
-	@target/sanitized/second/release/fuzz 600
+	@target/sanitized/cargo/x86_64-unknown-linux-gnu/release/fuzz 600
 	@tests/second build
 	@$(SECOND)/fuzz 120 5
 
@@ -144,4 +148,4 @@ uninstall:
 	@$(update_mime)
 
 clean:
-	rm -rf target second/target
+	rm -rf target second/target crates/*/out

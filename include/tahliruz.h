@@ -60,10 +60,10 @@ extern "C" {
 #endif
 
 /* The version of this header. While MAJOR is 0, a new MINOR may change structs and calls. */
-#define TAHLIRUZ_VERSION "0.2.5"
+#define TAHLIRUZ_VERSION "0.2.4"
 #define TAHLIRUZ_VERSION_MAJOR 0
 #define TAHLIRUZ_VERSION_MINOR 2
-#define TAHLIRUZ_VERSION_PATCH 5
+#define TAHLIRUZ_VERSION_PATCH 4
 
 /* Sizes that are always enough. */
 #define TAHLIRUZ_MAX_PIXELS 4096            /* the pixels of a row */
@@ -122,7 +122,7 @@ enum tahliruz_number {
     TAHLIRUZ_BYTES_END = 12,    /* the bytes end before an adaptive-precision number does */
     TAHLIRUZ_NUMBER_RANGE = 13, /* a number's fifth byte asks for a sixth, or its value is outside its range */
     TAHLIRUZ_RECORD = 14,       /* length, fixed fields, word alignment or leftover of a record is wrong,
-                                   or a map's group size or number of counts, or the bits of a delta array's elements */
+                                   or a map's group size or number of counts */
     TAHLIRUZ_KIND = 15,         /* the record's kind is unknown */
     TAHLIRUZ_PLACE = 16,        /* no table first, a second table, or a row number not risen or above 65535 */
     TAHLIRUZ_FITS_HEADER = 17,  /* the FITS header is not of two axes of unscaled 16-bit pixels, or has no END in ten blocks */
@@ -159,7 +159,7 @@ static inline const char *tahliruz_number_text(uint32_t number)
     case TAHLIRUZ_NUMBER_RANGE: return "a number's fifth byte asks for a sixth, or its value is outside its range";
     case TAHLIRUZ_RECORD:
         return "length, fixed fields, word alignment or leftover of a record is wrong, "
-               "or a map's group size or number of counts, or the bits of a delta array's elements";
+               "or a map's group size or number of counts";
     case TAHLIRUZ_KIND: return "the record's kind is unknown";
     case TAHLIRUZ_PLACE: return "no table first, a second table, or a row number not risen or above 65535";
     case TAHLIRUZ_FITS_HEADER:

@@ -1,7 +1,7 @@
 """Whether docs/CLAIMS.md and its chapters, docs/claims/*.md, close. It fails where
 
 - what a chapter cites is not there: a definition, theorem or contract, a must-fail edit, a test;
-- a must-fail edit, or a theorem on a page of theorems (specs/Theorems.antt), is there that no chapter cites;
+- a must-fail edit, or a theorem on a page of theorems (specs/ or proofs/Theorems.antt), is there that no chapter cites;
 - an entry is said by what the reading path does not list;
 - a statement on the reading path uses a definition of ours that the path does not list.
 
@@ -201,7 +201,7 @@ def check_edits_cited():
 
 
 def check_theorems_cited():
-    for path in sorted(CRATES.glob("*/specs/Theorems.antt")):
+    for path in sorted(path for folder in ("specs", "proofs") for path in CRATES.glob(f"*/{folder}/Theorems.antt")):
         for theorem in sources.read(path).declared.values():
             if theorem.public and (path, theorem.name) not in said:
                 fault(path, f"no entry is said by {theorem.name}")

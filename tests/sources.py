@@ -8,27 +8,34 @@ from functools import lru_cache
 from pathlib import Path
 
 CRATES = Path("crates")
-# ends of names, in specifications and in Rattle
-BREAKS = re.compile(r"[\s(){}\[\];,:&<>\"⌜⌝]+")
+# crates below `Rattle.` that are the toolchain's
+TOOLCHAIN = {"std"}
+# ends of names, in specifications and in Rattle; «» may stand around a name
+BREAKS = re.compile(r"[\s(){}\[\];,:&<>\"«»]+")
 
 
 class Declaration:
     def __init__(self, path, name, public, text):
         self.path, self.name, self.public, self.text = path, name, public, text
+        self.clauses = ""  # what a Rattle function requires and ensures, in names of specifications
         self.parts = []  # constructors and variants, which are read with it
         self.fields = []  # fields, which are cited, and used only by values whose type is named elsewhere
         self.bound = set()  # parameters and fields of Rattle, which hide a name that is imported
 
 
 class Source:
-    """The declarations of a file, and what its `use` lines mean: a name is (path, name), a module's alias is a path."""
+    """The declarations of a file, and what its `use` lines mean: a name is (path, name), a module's alias is a path.
+
+    In Rattle a function may have the name of a definition: `ghost use` gives names to clauses, `use` gives types to signatures.
+    """
 
     def __init__(self, path):
         self.path = path
-        self.declared, self.names, self.modules = {}, {}, {}
+        self.declared, self.names, self.modules, self.types = {}, {}, {}, {}
 
     def declare(self, name, public, text):
         self.declared[name] = Declaration(self.path, name, public, text)
+        self.names |= {word: (self.path, name) for word in words_of(name) if word != name}
         return self.declared[name]
 
     def owner(self, name):
@@ -39,6 +46,11 @@ class Source:
     def cited(self, name):
         """The declaration that a citation of this name means: it may name a field too."""
         return self.owner(name) or next((d for d in self.declared.values() if name in d.fields), None)
+
+
+def words_of(name):
+    """What stands for a name where it is used: of a mixfix name the words between its gaps."""
+    return [word for word in name.split("◌") if word]
 
 
 @lru_cache(maxsize=None)
@@ -119,48 +131,62 @@ def read_use(source, text):
     if names is None:
         source.modules[alias or module.split(".")[-1]] = path
         return
+    for real, local in listed(names):
+        # a variant belongs to its enum
+        for word in words_of(local):
+            source.names[word] = (path, owner or real)
+
+
+def listed(names):
+    """The names between the braces of a `use` line, each with the name that it has here."""
     for name in filter(None, (part.strip() for part in names.split(","))):
         real, _, local = name.partition(" as ")
-        # a mixfix name is used by the words between its gaps; a variant belongs to its enum
-        for word in filter(None, (local or real).strip().split("_")) if "_" in real else [(local or real).strip()]:
-            source.names[word] = (path, owner or real.strip())
+        yield real.strip(), (local or real).strip()
 
 
 def module_path(user, module):
     """Where a module of ours stands, and, of a struct or enum, its name; (None, None) of the toolchain's."""
     parts = module.split(".")
-    if parts[0].startswith("Rattle·"):
-        crate, inner = parts[0].split("·")[1], parts[2:]
+    if parts[0] == "Rattle":
+        crate, folder, inner = parts[1], parts[2], parts[3:]
+        if crate in TOOLCHAIN:
+            return None, None
         if inner[0] == "declared":
-            inner = [part for part in inner[1:] if part != "the-variants"]
+            inner = [part for part in inner[1:] if part != "TheVariants"]
             return rattle_path(crate, inner[:-1]), inner[-1]
-        return CRATES / crate / "specs" / ("/".join(inner) + ".antt"), None
+        return CRATES / crate / folder / ("/".join(inner) + ".antt"), None
     beside = user.with_suffix("") / ("/".join(parts) + ".antt")
     return (beside, None) if beside.exists() else (None, None)
 
 
 # ---- Rattle
+# a clause, and the name that it may have
+CLAUSE = re.compile(r"\s+(requires|ensures)(\s+\w+)?\s+(?={)")
 ITEM = re.compile(r'(pub\s+)?(?:extern\s+""\s+)?(?:const\s+)?(fn|struct|enum|const|type)\s+(\w+)')
 
 
 def read_rattle(source, lines):
     crate = source.path.parts[1]
     for number, line in enumerate(lines):
+        text = "".join(lines[number:]).partition(";")[0] if "use " in line else ""
         if line.startswith("ghost use "):
-            read_use(source, line.removeprefix("ghost ").rstrip(";"))
+            read_use(source, text.removeprefix("ghost "))
         elif re.match(r"(pub )?use ", line):
-            read_rattle_use(source, crate, line)
+            read_rattle_use(source, crate, text)
         elif ITEM.match(line):
             read_item(source, lines[number:])
 
 
-def read_rattle_use(source, crate, line):
-    parts = re.sub(r"^(pub )?use ", "", line).rstrip(";").split("::")
+def read_rattle_use(source, crate, text):
+    module, _, names = re.sub(r"^(pub )?use ", "", text).rstrip(" }").partition("{")
+    parts = module.split("::")
+    names = names or parts[-1]
     if parts[0] == "crate" or not (CRATES / parts[0]).exists():
         parts = [crate] + parts[parts[0] == "crate" :]
     path = rattle_path(parts[0], parts[1:-1])
     if path and path.exists():
-        source.names[parts[-1]] = (path, parts[-1])
+        for real, local in listed(names):
+            source.types[local] = (path, real)
 
 
 def rattle_path(crate, modules):
@@ -174,11 +200,13 @@ def read_item(source, lines):
     if kind in ("const", "type"):
         source.declare(name, bool(public), lines[0])
         return
-    last = {"fn": lambda line: line == "{" or line.endswith(" {"), "struct": lambda line: line.endswith(("}", ";"))}
+    last = {"fn": lambda line: re.match(r"(\S.* )?{$", line), "struct": lambda line: line.endswith(("}", ";"))}
     ends = last.get(kind, lambda line: line == "}")
     end = next(i for i, line in enumerate(lines) if ends(line))
-    declaration = source.declare(name, bool(public), "\n".join(lines[: end + 1]))
+    clauses = next((i for i, line in enumerate(lines[:end]) if CLAUSE.match(line)), end + 1)
+    declaration = source.declare(name, bool(public), "\n".join(lines[:clauses]))
     declaration.bound = set(re.findall(r"(\w+):(?!:)", declaration.text))
+    declaration.clauses = "\n".join(CLAUSE.sub("", line) for line in lines[clauses:end])
     inner = [re.match(r"\s+(?:pub )?(\w+)", line) for line in lines[1:end]]
     if kind == "enum":
         declaration.parts = [match.group(1) for match in inner if match]
@@ -193,20 +221,23 @@ def uses(declaration):
     Fields (`.answer`) are left out: a field is read of a value, and the value's type is that of a name in some statement.
     """
     source = read(declaration.path)
-    for word in set(BREAKS.split(declaration.text)):
-        word = word.rstrip(".")
-        if word in declaration.bound:
-            continue
-        if word in source.names:
-            path, name = source.names[word]
-            yield path, owner_name(path, name)
-        elif word == declaration.name:
-            continue
-        elif source.owner(word):
-            yield source.path, owner_name(source.path, word)
-        elif "." in word and word.split(".")[0] in source.modules:
-            alias, name = word.split(".", 1)
-            yield source.modules[alias], owner_name(source.modules[alias], name)
+    for text, names in ((declaration.text, source.names | source.types), (declaration.clauses, source.types | source.names)):
+        for word in set(BREAKS.split(text)):
+            yield from meaning(source, declaration, names, word.rstrip("."))
+
+
+def meaning(source, declaration, names, word):
+    head, _, rest = word.partition(".")
+    if head in declaration.bound:
+        return
+    if rest and head in source.modules:
+        name = rest.split(".")[0]
+        yield source.modules[head], owner_name(source.modules[head], name)
+    elif head in names:
+        path, name = names[head]
+        yield path, owner_name(path, name)
+    elif head != declaration.name and source.owner(head):
+        yield source.path, owner_name(source.path, head)
 
 
 def owner_name(path, name):

@@ -62,6 +62,6 @@ END {
     print "  br i1 %is, label %trap, label %hold"
     print "trap:\n  call void @llvm.trap()\n  unreachable"
     print "hold:\n  ret void\n}"
-    if (marked != 1 || checks < 100) { print "the module is not of the form known here" > "/dev/stderr"; exit 1 }
+    if (marked != 1 || checks < 5) { print "the module is not of the form known here" > "/dev/stderr"; exit 1 }
     print checks " assumptions checked" > "/dev/stderr"
 }

@@ -1,12 +1,20 @@
 -- Document 01: what the four calls on adaptive-precision numbers answer, the memory lent for writing included.
 -- Assumes nothing.
-use Rattle.std.specs.Prelude.{ℕ, List, length, ℤ, pos}
+use Rattle.std.specs.Prelude.{ℕ, List, length, ℤ, pos, Result, Ok, Err}
 use Rattle.answer.specs.declared.Answer.{Answer}
+use Rattle.answer.specs.declared.refusal.Refusal.{Refusal}
 use Rattle.answer.specs.Outcome.{Outcome, wrote_or_full}
+use Rattle.answer.specs.Refusal.{refusal_number}
+use Rattle.adaptive.specs.declared.number.Number.{Number}
 use Rattle.adaptive.specs.declared.SignedRead.{SignedRead}
 use Rattle.adaptive.specs.declared.UnsignedRead.{UnsignedRead}
 use Rattle.adaptive.specs.Number.{NumberReading, accepted, rejected, signed_type, unsigned_type, read_as, shortest}
 pub mod Laws
+
+-- what a reading in Rattle gives
+abbrev pub reading_of : {A : Type 0} → Result (Number A) Refusal → NumberReading A
+reading_of (Ok x) = accepted x.value x.used
+reading_of (Err e) = rejected (refusal_number e)
 
 -- "The answer is the value and the bytes used"
 abbrev pub signed_answer : NumberReading ℤ → SignedRead

@@ -3,14 +3,17 @@
 #![tactic(auto)]
 
 mod gather;
+mod number;
 mod read;
 mod sign;
 mod write;
 
-pub use read::{read_signed, read_unsigned};
+pub use number::Number;
+pub use read::{read_signed, read_unsigned, signed_number};
 pub use write::{write_signed, write_unsigned};
 
-// What reading answers: document 01's number, and where it is 0 the value and the bytes used. A refusal has 0 for both.
+// What reading answers: document 01's number, and where it is 0 the value and the bytes used. A refusal has 0 for both. Two
+// structs with a number in each, since C has them so; in Rattle a reading is a Result of one generic Number.
 #[repr(C)]
 #[derive(Clone, Copy)]
 pub struct SignedRead {

@@ -1,73 +1,64 @@
 // Reading a number from the front of some bytes.
 ghost use Rattle.std.specs.Prelude.{◌≡◌, cond, leb};
-ghost use Rattle.adaptive.specs.Number.{accepted, rejected};
-ghost use Rattle.adaptive.specs.Calls.{signed_answer, signed_read, unsigned_read};
+ghost use Rattle.adaptive.specs.Number.{accepted, rejected, read_as, signed_type, unsigned_type};
+ghost use Rattle.adaptive.specs.Calls.{reading_of, signed_read, unsigned_read};
 ghost use Rattle.adaptive.specs.Gather.{with_sign};
 
 use crate::gather::gather;
+use crate::number::Number;
 use crate::sign::with_sign;
 use crate::{SignedRead, UnsignedRead};
+use answer::refusal::Refusal;
 
 // The unsigned number at the front of s. 12 where the bytes end before it does; 13 where a fifth byte asks for a sixth, or
 // the value is above 4294967295.
 pub fn read_unsigned(s: &[u8]) -> UnsignedRead
     ensures { result ≡ unsigned_read s.now }
 {
-    let g = gather(s);
-    if g.number != 0 {
-        return UnsignedRead {
-            number: g.number,
-            value: 0,
-            used: 0,
-        };
-    }
-    if 4294967295 < g.raw {
-        return UnsignedRead {
-            number: 13,
-            value: 0,
-            used: 0,
-        };
-    }
-    UnsignedRead {
-        number: 0,
-        value: g.raw as u32,
-        used: g.used,
-    }
-}
-
-// The answer for a whole number of this sign and magnitude.
-fn signed_answer(negative: bool, m: u64, used: u32) -> SignedRead
-    ensures { result ≡ signed_answer (cond (leb m 2147483647) (accepted (with_sign negative m) used) (rejected 13)) }
-{
-    if 2147483647 < m {
-        return SignedRead {
-            number: 13,
-            value: 0,
-            used: 0,
-        };
-    }
-    SignedRead {
-        number: 0,
-        value: with_sign(negative, m),
-        used,
-    }
+    unsigned_number(s).into()
 }
 
 // The signed number at the front of s. 12 and 13 as above, the range being that of an i32.
 pub fn read_signed(s: &[u8]) -> SignedRead
     ensures { result ≡ signed_read s.now }
 {
-    let g = gather(s);
-    if g.number != 0 {
-        return SignedRead {
-            number: g.number,
-            value: 0,
-            used: 0,
-        };
+    signed_number(s).into()
+}
+
+fn unsigned_number(s: &[u8]) -> Result<Number<u32>, Refusal>
+    ensures { reading_of result ≡ read_as unsigned_type s.now }
+{
+    let Number { value, used } = gather(s)?;
+    if 4294967295 < value.raw {
+        return Err(Refusal::NumberRange);
     }
+    Ok(Number {
+        value: value.raw as u32,
+        used,
+    })
+}
+
+// What read_signed answers, for a caller that isn't C.
+pub fn signed_number(s: &[u8]) -> Result<Number<i32>, Refusal>
+    ensures { reading_of result ≡ read_as signed_type s.now }
+{
+    let Number { value, used } = gather(s)?;
     // the sign is the highest of the data bits
-    if g.raw < g.span / 2 {
-        return signed_answer(false, g.raw, g.used);
+    if value.raw < value.span / 2 {
+        return in_range(false, value.raw, used);
     }
-    signed_answer(true, g.span - 1 - g.raw, g.used)
+    in_range(true, value.span - 1 - value.raw, used)
+}
+
+// A whole number of this sign and magnitude.
+fn in_range(negative: bool, m: u64, used: u32) -> Result<Number<i32>, Refusal>
+    ensures { reading_of result ≡ cond (leb m 2147483647) (accepted (with_sign negative m) used) (rejected 13) }
+{
+    if 2147483647 < m {
+        return Err(Refusal::NumberRange);
+    }
+    Ok(Number {
+        value: with_sign(negative, m),
+        used,
+    })
 }

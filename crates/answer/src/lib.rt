@@ -1,6 +1,8 @@
 // What every call of the library answers. The definitions are in specs/.
 #![tactic(auto)]
 
+pub mod refusal;
+
 // A number of document 01's table, 0 for done, and a count, which is 0 for every refusal.
 #[repr(C)]
 #[derive(Clone, Copy)]

@@ -3,7 +3,7 @@ ghost use Rattle.std.specs.Prelude.{◌≡◌, ◌+◌, ◌*◌, ◌^◌, ◌≤
 ghost use Rattle.bitstream.specs.Bits.{pad};
 ghost use Rattle.bitstream.specs.Msb.{msb_num, msb_bits_of};
 
-use crate::byte::{byte_at, byte_or_zero};
+use crate::byte::byte_or_zero;
 use crate::shift::above;
 
 // Whether the bytes end before n bits from bit place `at` on.
@@ -46,9 +46,5 @@ fn four_msb(s: &[u8], i: usize) -> u32
     requires { i + 4 ≤ length s.now }
     ensures { result ≡ msb_num (pad 32 (msb_bits_of (drop i s.now))) }
 {
-    let b0 = byte_at(s, i);
-    let b1 = byte_at(s, i + 1);
-    let b2 = byte_at(s, i + 2);
-    let b3 = byte_at(s, i + 3);
-    ((b0 * 256 + b1) * 256 + b2) * 256 + b3
+    u32::from_be_bytes([s[i], s[i + 1], s[i + 2], s[i + 3]])
 }

@@ -77,8 +77,5 @@ fn put_four(s: &mut [u8], at: usize, v: u32)
     requires { at + 4 ≤ length s.old }
     ensures { s.new ≡ overwritten s.old at (msb_bytes_of 4 (msb_digits 32 v)) }
 {
-    s[at] = (v / 16777216 % 256) as u8;
-    s[at + 1] = (v / 65536 % 256) as u8;
-    s[at + 2] = (v / 256 % 256) as u8;
-    s[at + 3] = (v % 256) as u8;
+    s[at..at + 4].copy_from_slice(&v.to_be_bytes());
 }

@@ -1,11 +1,10 @@
 -- What the stages of the table check establish. Definitions only; their laws are in Check/Laws.antt. Assumes nothing.
-use Rattle.std.specs.Prelude.{ℕ, ◌+◌, ◌%◌, max, ◌≡◌, Bool, true, false, cond, List, map, length, take, drop}
+use Rattle.std.specs.Prelude.{ℕ, ◌+◌, ◌%◌, max, ◌≡◌, Bool, true, false, cond, List, Option, Some, None, map, length, take, drop}
 use Rattle.bitstream.specs.Bits.{words_of}
 use Rattle.row_format.specs.Lists.{any}
 use Rattle.row_format.specs.Table.{wrong_size, wrong_word, codeword, longest, clash, table_number}
 use Rattle.answer.specs.declared.Answer.{Answer}
 use Rattle.answer.specs.Outcome.{answer_of}
-use Rattle.code_table.specs.declared.check.Gathered.{Gathered}
 pub mod Laws
 
 -- the table's bytes are whole words and as many as its header says
@@ -22,12 +21,16 @@ pub record SizeJudged (b : List ℕ) (r : Bool) : Type 0 where
 abbrev pub codeword_words : List ℕ → ℕ → List ℕ
 codeword_words b n = take n (drop 3 (words_of b))
 
--- what a pass over the string words ws leaves: whether each is in order, and then a copy of them and the longest length
-pub record AllGathered (ws : List ℕ) (r : Gathered) (out : List ℕ) : Type 0 where
-  pub copied : r.ok ≡ true → out ≡ ws
-  pub right : r.ok ≡ true → any wrong_word ws ≡ false
-  pub most : r.ok ≡ true → r.longest ≡ longest (map codeword ws)
-  pub wrong : r.ok ≡ false → any wrong_word ws ≡ true
+-- what a pass over the string words ws leaves where each is in order: a copy of them, and the longest length
+pub record Gathered (ws : List ℕ) (m : ℕ) (out : List ℕ) : Type 0 where
+  pub copied : out ≡ ws
+  pub right : any wrong_word ws ≡ false
+  pub most : m ≡ longest (map codeword ws)
+
+-- and where some word is not in order
+abbrev pub AllGathered : List ℕ → Option ℕ → List ℕ → Type 0
+AllGathered ws None out = any wrong_word ws ≡ true
+AllGathered ws (Some m) out = Gathered ws m out
 
 -- what is answered of string words that are in order, by their longest length and the escape's
 unfoldable pub codewords_judged : List ℕ → ℕ → ℕ → Answer

@@ -1,11 +1,13 @@
 // The check of a table, which every call makes anew: it answers for every byte slice.
-ghost use Rattle.std.specs.Prelude.{◌≡◌, true, false, not, ◌+◌, ◌/◌, ◌≤◌, ◌<◌, max, length};
+ghost use Rattle.std.specs.Prelude.{◌≡◌, not, ◌+◌, ◌/◌, ◌≤◌, ◌<◌, length};
+ghost use Rattle.answer.specs.Refusal.{as_answer};
 ghost use Rattle.row_format.specs.Table.{wrong_word};
 ghost use Rattle.row_format.specs.Calls.{checked};
 ghost use Rattle.code_table.specs.Check.{WholeTable, SizeJudged, AllGathered, codeword_words, codewords_judged};
 
 use crate::header::{low_limit, table_size, word_at};
 use answer::Answer;
+use answer::refusal::Refusal;
 use bitstream::shift::power;
 use prefix_free::prefix_free;
 
@@ -16,58 +18,50 @@ const FIRST_CODEWORD: usize = 3;
 pub fn check(table: &[u8]) -> Answer
     ensures { result ≡ checked table.now }
 {
-    if well_sized(table) {
-        // a table has at most 8190 string words
-        let mut scratch = [0u32; 8190];
-        return check_codewords(table, &mut scratch);
+    max_item_bits(table).into()
+}
+
+// M of a table's bytes, or why they are refused.
+pub fn max_item_bits(table: &[u8]) -> Result<u32, Refusal>
+    ensures { as_answer result ≡ checked table.now }
+{
+    if !well_sized(table) {
+        return Err(Refusal::TableSize);
     }
-    Answer {
-        number: 1,
-        count: 0,
-    }
+    // a table has at most 8190 string words
+    let mut scratch = [0u32; 8190];
+    check_codewords(table, &mut scratch)
 }
 
 // The same, where the sizes are in order; the string words are copied to `scratch` and moved about there.
-fn check_codewords(table: &[u8], scratch: &mut [u32]) -> Answer
+#[tactic(auto, using(crate::specs::Check::Laws::whole_table))]
+fn check_codewords(table: &[u8], scratch: &mut [u32]) -> Result<u32, Refusal>
     requires whole_table { WholeTable table.now }
     requires in_bounds { 8190 ≤ length scratch.old }
-    ensures { result ≡ checked table.now }
+    ensures { as_answer result ≡ checked table.now }
 {
     let escape = word_at(table, 3) % 32;
     if 15 < escape {
-        return Answer {
-            number: 2,
-            count: 0,
-        };
+        return Err(Refusal::TableString);
     }
     let count = table.len() / 4 - FIRST_CODEWORD;
     let words = &mut scratch[..count];
-    let found = gather(table, words);
-    let ok = found.ok;
-    if ok {
-        let longest = found.longest;
-        return judge(words, longest, escape);
-    }
-    Answer {
-        number: 2,
-        count: 0,
-    }
+    let Some(longest) = gather(table, words) else {
+        return Err(Refusal::TableString);
+    };
+    judge(words, longest, escape)
 }
 
 // Of string words that are in order.
-fn judge(words: &mut [u32], longest: u32, escape: u32) -> Answer
+#[tactic(auto, unfolding(crate::specs::Check::codewords_judged))]
+fn judge(words: &mut [u32], longest: u32, escape: u32) -> Result<u32, Refusal>
     requires { escape < 32 }
-    ensures { result ≡ codewords_judged words.old longest escape }
+    ensures { as_answer result ≡ codewords_judged words.old longest escape }
 {
     if prefix_free(words) {
-        return Answer {
-            number: 0,
-            count: greater(longest, escape + 12),
-        };
-    }
-    Answer {
-        number: 3,
-        count: 0,
+        Ok(longest.max(escape + 12))
+    } else {
+        Err(Refusal::TablePrefix)
     }
 }
 
@@ -91,51 +85,27 @@ fn well_sized(table: &[u8]) -> bool
 }
 
 // Whether a string word is in order: its length is 1 to 27 and no bit is set above the string.
+#[tactic(auto, unfolding(row_format::specs::Table::wrong_word))]
 fn well_formed(w: u32) -> bool
     ensures { result ≡ not (wrong_word w) }
 {
     let len = w % 32;
-    if len < 1 {
-        return false;
-    }
-    if 27 < len {
-        return false;
-    }
-    w / 32 < power(len)
+    1 <= len && len <= 27 && w / 32 < power(len)
 }
 
-// What one pass over the string words finds.
-#[derive(Clone, Copy)]
-struct Gathered {
-    ok: bool,
-    longest: u32,
-}
-
-// Copies the string words of a table, and tells whether each is in order and how long the longest codeword is.
-fn gather(table: &[u8], words: &mut [u32]) -> Gathered
+// Copies the string words of a table, and answers how long the longest codeword is; nothing where a word is not in order.
+fn gather(table: &[u8], words: &mut [u32]) -> Option<u32>
     requires { length words.old + 3 ≤ length table.now / 4 }
     ensures { AllGathered (codeword_words table.now (length words.old)) result words.new }
 {
     let mut longest: u32 = 0;
-    let mut i = 0;
-    while i < words.len() {
+    for (i, word) in words.iter_mut().enumerate() {
         let w = word_at(table, i + FIRST_CODEWORD);
-        if well_formed(w) {
-            words[i] = w;
-            longest = greater(longest, w % 32);
-            i += 1;
-        } else {
-            return Gathered {
-                ok: false,
-                longest: 0,
-            };
+        if !well_formed(w) {
+            return None;
         }
+        *word = w;
+        longest = longest.max(w % 32);
     }
-    Gathered { ok: true, longest }
-}
-
-fn greater(a: u32, b: u32) -> u32
-    ensures { result ≡ max a b }
-{
-    if a < b { b } else { a }
+    Some(longest)
 }

@@ -15,6 +15,7 @@ pub fn signed_difference(k: u32) -> i32
 }
 
 // The difference of entry i: "Entry i stands for the signed step i + lowLimit - 4093".
+#[tactic(auto, using(crate::specs::Check::Laws::whole_table))]
 pub fn difference_of(table: &[u8], i: u32) -> i32
     requires whole_table { WholeTable table.now }
     requires i_bound { i < table_size (words_of table.now) }

@@ -6,6 +6,7 @@ ghost use Rattle.row_format.specs.Table.{low_limit, table_size};
 use bitstream::number::read_u32;
 
 // Word i of a table.
+#[tactic(auto, using(crate::specs::Check::Laws::get_d_words))]
 pub fn word_at(table: &[u8], i: usize) -> u32
     requires { i < length table.now / 4 }
     ensures { result ≡ get_or (words_of table.now) i 0 }

@@ -1,10 +1,12 @@
 // The plain table: it serves until a fitted one exists.
 ghost use Rattle.std.specs.Prelude.{◌≡◌, ◌++◌, ◌*◌, ◌≤◌, length, drop};
 ghost use Rattle.answer.specs.Outcome.{outcome};
+ghost use Rattle.answer.specs.Refusal.{as_answer};
 ghost use Rattle.row_format.specs.Plain.{plain_table};
 ghost use Rattle.code_table.specs.Plain.{plain_lent, word_bytes};
 
 use answer::Answer;
+use answer::refusal::Refusal;
 use bitstream::number::put_u32;
 
 // Document 01: id 1, lowLimit 3837, tableSize 512, the raw, bad-pixel and bad-bias words, then 64 x i + 10 for entry i.
@@ -50,6 +52,7 @@ const PLAIN: [u32; 518] = [
 ];
 
 // The words of the plain table.
+#[tactic(auto, unfolding(row_format::specs::Plain::plain_table, row_format::specs::Plain::plain_entries))]
 fn plain_words() -> [u32; 518]
     ensures { result ≡ plain_table }
 {
@@ -60,18 +63,18 @@ fn plain_words() -> [u32; 518]
 pub fn plain_table(out: &mut [u8]) -> Answer
     ensures { outcome result out.new ≡ plain_lent out.old }
 {
+    put_plain_table(out).into()
+}
+
+fn put_plain_table(out: &mut [u8]) -> Result<u32, Refusal>
+    ensures { outcome (as_answer result) out.new ≡ plain_lent out.old }
+{
     if out.len() < 2072 {
-        return Answer {
-            number: 5,
-            count: 0,
-        };
+        return Err(Refusal::Room);
     }
     let words = plain_words();
     store(&words, out);
-    Answer {
-        number: 0,
-        count: 2072,
-    }
+    Ok(2072)
 }
 
 // Writes words, little-endian, to the front of `out`.
@@ -79,9 +82,7 @@ fn store(words: &[u32], out: &mut [u8])
     requires { 4 * length words.now ≤ length out.old }
     ensures { out.new ≡ word_bytes words.now ++ drop (4 * length words.now) out.old }
 {
-    let mut i = 0;
-    while i < words.len() {
-        put_u32(out, 4 * i, words[i]);
-        i += 1;
+    for (i, w) in words.iter().enumerate() {
+        put_u32(out, 4 * i, *w);
     }
 }

@@ -1,12 +1,10 @@
 -- Options with values, by a usage text such as `-o OUT --range LOW HIGH`: a word that begins with `-` is an option, and the words
 -- behind it that do not are its values. Definitions only; their laws are in Option/Laws.antt. Assumes nothing.
-use Rattle.std.specs.Prelude.{ℕ, ◌+◌, cond, List, [], ◌∷◌, get_or, eqb}
+use Rattle.std.specs.Prelude.{ℕ, ◌+◌, cond, List, [], ◌∷◌, get_or, eqb, Option, Some, None}
 use Rattle.text.specs.Same.{same_bytes}
 use Rattle.command.specs.Argument.{argument_of}
 use Rattle.command.specs.declared.argument.Argument.{Argument}
 use Rattle.command.specs.declared.argument.Argument.TheVariants as argument
-use Rattle.command.specs.declared.usage.Values.{Values}
-use Rattle.command.specs.declared.usage.Values.TheVariants.{NoOption, Count}
 use Rattle.command.specs.declared.option.Role.{Role}
 use Rattle.command.specs.declared.option.Role.TheVariants.{Help, Version, End, Plain, Unknown, Takes}
 pub mod Laws
@@ -27,16 +25,16 @@ values_in [] = 0
 values_in (w ∷ ws) = cond (eqb (get_or w 0 0) 45) 0 (values_in ws + 1)
 
 -- the values of an option, where it is one
-unfoldable pub option_in : List (List ℕ) → List ℕ → Values
-option_in [] s = NoOption
-option_in (w ∷ ws) s = cond (same_bytes w s) (Count (values_in ws)) (option_in ws s)
+unfoldable pub option_in : List (List ℕ) → List ℕ → Option ℕ
+option_in [] s = None
+option_in (w ∷ ws) s = cond (same_bytes w s) (Some (values_in ws)) (option_in ws s)
 
 -- what a word of a command line is, while options may still come
-abbrev pub takes_of : Values → Role
-takes_of NoOption = Unknown
-takes_of (Count k) = Takes k
+abbrev pub takes_of : Option ℕ → Role
+takes_of None = Unknown
+takes_of (Some k) = Takes k
 
-abbrev pub role_by : Argument → Values → Role
+abbrev pub role_by : Argument → Option ℕ → Role
 role_by argument.Help v = Help
 role_by argument.Version v = Version
 role_by argument.End v = End

@@ -1,8 +1,6 @@
 // What an argument is, by its bytes.
 ghost use Rattle.std.specs.Prelude.{◌≡◌};
-ghost use Rattle.command.specs.Argument.{dashed_of, argument_of};
-
-use text::same::same_bytes;
+ghost use Rattle.command.specs.Argument.{argument_of};
 
 // Help, Version   the two options
 // End             `--`, which ends the options
@@ -19,33 +17,21 @@ pub enum Argument {
     Name,
 }
 
+#[tactic(auto, using(text::specs::Same::Laws::same_pointwise), unfolding(crate::specs::Argument::argument_of, crate::specs::Argument::dashed_of))]
 pub fn argument_of(word: &[u8]) -> Argument
     ensures { result ≡ argument_of word.now }
 {
-    if same_bytes(word, b"--help") {
-        return Argument::Help;
+    if word == b"--help".as_slice() {
+        Argument::Help
+    } else if word == b"--version".as_slice() {
+        Argument::Version
+    } else if word == b"--".as_slice() {
+        Argument::End
+    } else if word == b"-".as_slice() {
+        Argument::Input
+    } else if word.starts_with(b"-") {
+        Argument::Unknown
+    } else {
+        Argument::Name
     }
-    if same_bytes(word, b"--version") {
-        return Argument::Version;
-    }
-    if same_bytes(word, b"--") {
-        return Argument::End;
-    }
-    dashed(word)
-}
-
-// The same of a word that is none of the options.
-fn dashed(word: &[u8]) -> Argument
-    ensures { result ≡ dashed_of word.now }
-{
-    if same_bytes(word, b"-") {
-        return Argument::Input;
-    }
-    if word.len() == 0 {
-        return Argument::Name;
-    }
-    if word[0] == b'-' {
-        return Argument::Unknown;
-    }
-    Argument::Name
 }

@@ -1,11 +1,14 @@
 // Bytes from an input that is open.
-ghost use Rattle.std.specs.Prelude.{◌≤◌, length};
+ghost use Rattle.std.specs.Prelude.{◌≤◌, IfOk, IfErr, length};
 ghost use Rattle.std.specs.Io.{ReadsAtMost};
 
-use crate::say::complain;
+use crate::argument::{Argument, argument_of};
+use crate::path::path_of;
+use crate::program::{Program, Unread};
 use std::fs::File;
 use std::io;
-use std::io::{Read, Stdin};
+use std::io::{Error, Read, Stdin};
+use std::rt::HostRuntime;
 
 // Standard   standard input
 // Named      a file that was opened by its name; it is closed where it is dropped
@@ -15,73 +18,79 @@ pub enum Source {
     Named(File),
 }
 
-// count    how many came
-// failed   whether a read failed, which is said on standard error
-#[derive(Clone, Copy)]
-pub struct Filled {
-    pub count: usize,
-    pub failed: bool,
-}
-
-// Reads until `bytes` is full or the input ends. No contract can say which bytes come, nor that fewer than `bytes` holds mean
-// the input's end.
-pub fn fill(rt: HostRuntime, program: &[u8], name: &[u8], file: &Source, bytes: &mut [u8]) -> Filled
-    ensures { result.count ≤ length bytes.old }
-{
-    let mut count = 0;
-    while count < bytes.len() {
-        let more = read_some(rt, program, name, file, &mut bytes[count..]);
-        if more.count == 0 {
-            return Filled {
-                count,
-                failed: more.failed,
-            };
-        }
-        count += more.count;
-    }
-    Filled {
-        count,
-        failed: false,
-    }
-}
-
-// One read; no bytes at the end of the input.
-fn read_some(
-    rt: HostRuntime,
-    program: &[u8],
-    name: &[u8],
-    file: &Source,
-    bytes: &mut [u8],
-) -> Filled
-    ensures { result.count ≤ length bytes.old }
-{
-    match read_once(file, bytes) {
-        Ok(count) => Filled {
-            count,
-            failed: false,
-        },
-        Err(e) => {
-            complain(rt, program, name, e);
-            Filled {
-                count: 0,
-                failed: true,
+impl Source {
+    // One read.
+    pub fn read_once(&self, bytes: &mut [u8]) -> io::Result<usize>
+        ensures { ReadsAtMost result bytes.new }
+    {
+        match self {
+            Source::Standard(stdin) => {
+                let mut reader = *stdin;
+                reader.read(bytes)
+            }
+            Source::Named(file) => {
+                let mut reader = file;
+                reader.read(bytes)
             }
         }
     }
 }
 
-// The same, with the error where it fails.
-pub fn read_once(file: &Source, bytes: &mut [u8]) -> io::Result<usize>
-    ensures { ReadsAtMost result bytes.new }
-{
-    match file {
-        Source::Standard(stdin) => {
-            let mut reader = *stdin;
-            reader.read(bytes)
-        }
-        Source::Named(file) => {
-            let mut reader = file;
-            reader.read(bytes)
-        }
+// An input that a program reads.
+// name   as it stands on the command line
+#[derive(Drop)]
+pub struct Input<'a> {
+    pub program: Program<'a>,
+    pub name: &'a [u8],
+    pub source: Source,
+}
+
+impl<'a> Input<'a> {
+    // What is read by that name; nothing where it cannot be opened, which is said on standard error. `-` is standard input.
+    pub fn open(program: Program<'a>, name: &'a [u8]) -> Option<Input<'a>> {
+        let source = match argument_of(name) {
+            Argument::Input => Source::Standard(program.rt.stdin()),
+            _ => Source::Named(program.or_complain(name, open_named(program.rt, name))?),
+        };
+        Some(Input {
+            program,
+            name,
+            source,
+        })
     }
+
+    // Reads until `bytes` is full or the input ends. No contract can say which bytes come, nor that fewer than `bytes` holds mean
+    // the input's end.
+    pub fn fill(&self, bytes: &mut [u8]) -> Result<usize, Unread>
+        ensures ok { IfOk result (λ count. count ≤ length bytes.old) }
+        ensures err { IfErr result (λ unread. unread.count ≤ length bytes.old) }
+    {
+        let mut count = 0;
+        // no count: a read brings as many as it likes
+        while count < bytes.len() {
+            match self.source.read_once(&mut bytes[count..]) {
+                Ok(0) => return Ok(count),
+                Ok(more) => count += more,
+                Err(e) => {
+                    self.complain(e);
+                    return Err(Unread { count });
+                }
+            }
+        }
+        Ok(count)
+    }
+
+    // `PROGRAM: NAME: why`
+    pub fn complain(&self, error: Error) {
+        self.program.complain(self.name, error);
+    }
+
+    // `PROGRAM: NAME: text`
+    pub fn hint(&self, text: &[u8]) {
+        self.program.hint(self.name, text);
+    }
+}
+
+fn open_named(rt: HostRuntime, name: &[u8]) -> io::Result<File> {
+    File::open(&rt, path_of(name)?)
 }

@@ -1,23 +1,120 @@
 // What a program says apart from its listing: complaints and hints on standard error, each a line that begins with the
 // program's name and the file's, and lines on standard output that name a file or the version.
-ghost use Rattle.std.specs.Prelude.{◌≤◌, length};
+ghost use Rattle.std.specs.Prelude.{◌≡◌, ◌≤◌, length};
+ghost use Rattle.std.specs.Result.{result_ok};
 
 use crate::argument::{Argument, argument_of};
-use crate::word_at;
+use crate::program::{Program, Unwritten};
 use std::fmt::InlineText;
+use std::io;
 use std::io::{Error, Print};
+use std::rt::HostRuntime;
 
 // Of the programs; include/tahliruz.h has the library's, which is the same.
 const VERSION: [u8; 5] = *b"0.2.4";
 
-// `PROGRAM: NAME: why`, by the error that came.
-pub fn complain(rt: HostRuntime, program: &[u8], name: &[u8], error: Error) {
-    begin(rt, program);
-    if let Argument::Input = argument_of(name) {
-        fail(rt, b"standard input", error);
-        return;
+impl<'a> Program<'a> {
+    // `PROGRAM: NAME: why`, by the error that came.
+    pub fn complain(self, name: &[u8], error: Error) {
+        self.say(self.name);
+        self.say(b": ");
+        fail(self.rt, said(name), error);
     }
-    fail(rt, name, error);
+
+    // What came, or nothing where that failed, which is said in such a line.
+    pub fn or_complain<T>(self, name: &[u8], given: io::Result<T>) -> Option<T>
+        ensures { result ≡ result_ok given }
+    {
+        match given {
+            Ok(value) => Some(value),
+            Err(e) => {
+                self.complain(name, e);
+                None
+            }
+        }
+    }
+
+    // `PROGRAM: NAME: text`, of a file.
+    pub fn hint(self, name: &[u8], text: &[u8]) {
+        self.refuse_word(said(name), text);
+    }
+
+    // `PROGRAM: WORD: text`, of a word as it stands on the command line.
+    pub fn refuse_word(self, word: &[u8], text: &[u8]) {
+        self.say(self.name);
+        self.say(b": ");
+        self.say(word);
+        self.say(b": ");
+        self.say(text);
+        self.say(b"\n");
+    }
+
+    // A text to standard error. Where that fails there is nobody to tell.
+    pub fn say(self, text: &[u8]) {
+        say(self.rt, text);
+    }
+
+    // `PROGRAM: OPTION: unknown option`, of the option at place i, and the usage.
+    pub fn refuse_option(self, i: usize) {
+        self.refuse_at(i, b"unknown option");
+        self.say_help();
+    }
+
+    // The same where it is known, and what it takes is not there.
+    pub fn refuse_lacking(self, i: usize) {
+        self.refuse_at(i, b"a value is missing");
+        self.say_help();
+    }
+
+    // `PROGRAM: WORD: text`, of the argument at place i.
+    pub fn refuse_at(self, i: usize, text: &[u8]) {
+        let mut word = [0u8; 4096];
+        let n = self.word_at(i, &mut word);
+        self.refuse_word(&word[..n], text);
+    }
+
+    // The usage on standard error.
+    pub fn say_help(self) {
+        self.say(self.help);
+    }
+
+    // A text to standard output.
+    pub fn print(self, text: &[u8]) -> Result<(), Unwritten> {
+        let written = self.rt.stdout().write_all(text);
+        self.or_complain(b"standard output", written)
+            .ok_or(Unwritten)
+    }
+
+    // `file NAME`, before the listing of one of several files.
+    pub fn print_file(self, name: &[u8]) -> Result<(), Unwritten> {
+        self.print(b"file ")?;
+        self.print(name)?;
+        self.print(b"\n")
+    }
+
+    // `PROGRAM VERSION`
+    pub fn print_version(self) -> Result<(), Unwritten> {
+        self.print(self.name)?;
+        self.print(b" ")?;
+        self.print(&VERSION)?;
+        self.print(b"\n")
+    }
+
+    pub fn print_help(self) -> Result<(), Unwritten> {
+        self.print(self.help)
+    }
+}
+
+// A file's name as it is said.
+fn said(name: &[u8]) -> &[u8] {
+    match argument_of(name) {
+        Argument::Input => b"standard input",
+        _ => name,
+    }
+}
+
+fn say(rt: HostRuntime, text: &[u8]) {
+    let _ = rt.stderr().write_all(text);
 }
 
 // `WHAT: why`
@@ -35,90 +132,8 @@ pub fn fail(rt: HostRuntime, what: &[u8], error: Error) {
 fn reason_end(text: &[u8]) -> usize
     ensures { result ≤ length text.now }
 {
-    let mut i = 1;
-    while i < text.len() {
-        if text[i] == b'(' {
-            return i - 1;
-        }
-        i += 1;
-    }
-    text.len()
-}
-
-// `PROGRAM: NAME: text`, of a file.
-pub fn hint(rt: HostRuntime, program: &[u8], name: &[u8], text: &[u8]) {
-    if let Argument::Input = argument_of(name) {
-        refuse_word(rt, program, b"standard input", text);
-        return;
-    }
-    refuse_word(rt, program, name, text);
-}
-
-// `PROGRAM: WORD: text`, of a word as it stands on the command line.
-pub fn refuse_word(rt: HostRuntime, program: &[u8], word: &[u8], text: &[u8]) {
-    begin(rt, program);
-    say(rt, word);
-    say(rt, b": ");
-    say(rt, text);
-    say(rt, b"\n");
-}
-
-fn begin(rt: HostRuntime, program: &[u8]) {
-    say(rt, program);
-    say(rt, b": ");
-}
-
-// Whether a text was written to standard error.
-pub fn say(rt: HostRuntime, text: &[u8]) -> bool {
-    rt.stderr().write_all(text).is_ok()
-}
-
-// `PROGRAM: OPTION: unknown option`, of the option at place i.
-pub fn refuse_option(rt: HostRuntime, program: &[u8], i: usize) {
-    refuse_at(rt, program, i, b"unknown option");
-}
-
-// The same where it is known, and what it takes is not there.
-pub fn refuse_lacking(rt: HostRuntime, program: &[u8], i: usize) {
-    refuse_at(rt, program, i, b"a value is missing");
-}
-
-// `PROGRAM: WORD: text`, of the argument at place i.
-pub fn refuse_at(rt: HostRuntime, program: &[u8], i: usize, text: &[u8]) {
-    let mut word = [0u8; 4096];
-    let n = word_at(rt, i, &mut word);
-    refuse_word(rt, program, &word[..n], text);
-}
-
-// Whether a text was written to standard output; where not, standard error says why.
-pub fn print(rt: HostRuntime, program: &[u8], text: &[u8]) -> bool {
-    match rt.stdout().write_all(text) {
-        Ok(()) => true,
-        Err(e) => {
-            complain(rt, program, b"standard output", e);
-            false
-        }
-    }
-}
-
-// `file NAME`, before the listing of one of several files.
-pub fn print_file(rt: HostRuntime, program: &[u8], name: &[u8]) -> bool {
-    print_line(rt, program, b"file ", name)
-}
-
-// `PROGRAM VERSION`
-pub fn print_version(rt: HostRuntime, program: &[u8]) -> bool {
-    if print(rt, program, program) {
-        return print_line(rt, program, b" ", &VERSION);
-    }
-    false
-}
-
-fn print_line(rt: HostRuntime, program: &[u8], front: &[u8], text: &[u8]) -> bool {
-    if print(rt, program, front) {
-        if print(rt, program, text) {
-            return print(rt, program, b"\n");
-        }
-    }
-    false
+    text.iter()
+        .skip(1)
+        .position(|b| *b == b'(')
+        .unwrap_or(text.len())
 }

@@ -1,5 +1,7 @@
 -- What a flag takes from REPEAT and VALUE, as the code keeps it. Definitions only; their laws are in Flags/. Assumes nothing.
-use Rattle.std.specs.Prelude.{ℕ, zero, suc, ◌+◌, ◌≤◌, ◌<◌, ◌≡◌, Bool, true, false, cond, List, [], ◌∷◌, length, take, drop, ℤ}
+use Rattle.std.specs.Prelude.{ℕ, zero, suc, ◌+◌, ◌≤◌, ◌<◌, ◌≡◌, Bool, true, false, cond, List, [], ◌∷◌, length, take, drop, ℤ, Result, Ok, Err}
+use Rattle.answer.specs.declared.refusal.Refusal.{Refusal}
+use Rattle.answer.specs.Refusal.{refusal_number}
 use Rattle.answer.specs.Outcome.{unless}
 use Rattle.delta_format.specs.Row.{
   Flag,
@@ -43,20 +45,31 @@ is_counted bad-run = true
 is_counted bad-one = false
 is_counted fulls = true
 
-abbrev pub taken_none : ℕ → Taken
+-- what a flag takes, with the number that refuses it, and 0 where it is done
+pub record TakenAnswer : Type 0 where
+  pub number : ℕ
+  pub count : ℕ
+  pub values : ℕ
+
+abbrev pub taken_none : ℕ → TakenAnswer
 taken_none e = record { number = e; count = 0; values = 0 }
 
+-- as the code gives it
+abbrev pub as_taken : Result Taken Refusal → TakenAnswer
+as_taken (Ok t) = record { number = 0; count = t.count; values = t.values }
+as_taken (Err e) = taken_none (refusal_number e)
+
 -- with the count c
-abbrev pub taken_at : Flag → ℕ → ℕ → List ℤ → Taken
+abbrev pub taken_at : Flag → ℕ → ℕ → List ℤ → TakenAnswer
 taken_at f left c vs =
     unless (flag_number left c (values_for f left c) vs) taken_none (record { number = 0; count = c; values = values_for f left c })
 
 -- with the count that REPEAT has next
-abbrev pub taken_next : Flag → ℕ → List ℤ → List ℤ → Taken
+abbrev pub taken_next : Flag → ℕ → List ℤ → List ℤ → TakenAnswer
 taken_next f left vs [] = taken_none 25
 taken_next f left vs (c ∷ rs) = taken_at f left (count_of c) vs
 
-abbrev pub taken_of : Flag → ℕ → List ℤ → List ℤ → Taken
+abbrev pub taken_of : Flag → ℕ → List ℤ → List ℤ → TakenAnswer
 taken_of f left vs rs = cond (is_counted f) (taken_next f left vs rs) (taken_at f left 1 vs)
 
 -- what is left of REPEAT

@@ -1,7 +1,9 @@
 -- What one flag of DATA comes to in the code. vs and rs are all values and counts. Definitions only; their laws are in Step/. Assumes
 -- nothing.
-use Rattle.std.specs.Prelude.{ℕ, ◌+◌, ◌≤◌, ◌<◌, ◌≡◌, Bool, true, false, cond, List, length, drop, ℤ}
+use Rattle.std.specs.Prelude.{ℕ, ◌+◌, ◌≤◌, ◌<◌, ◌≡◌, Bool, true, false, cond, List, length, drop, ℤ, Result, IfOk, IfErr}
 use Rattle.delta_format.specs.Row.{Element, Flag, Previous, value, last_from, fault, gives, flag_part}
+use Rattle.answer.specs.declared.refusal.Refusal.{Refusal}
+use Rattle.answer.specs.Refusal.{refusal_number}
 use Rattle.delta_reader.specs.declared.step.Step.{Step}
 use Rattle.delta_reader.specs.Offset.{offset_value}
 use Rattle.delta_reader.specs.Flags.{is_counted}
@@ -34,7 +36,7 @@ pub record StepGoes (write : Bool) (f : Flag) (left : ℕ) (vs rs : List ℤ) (f
   pub written : write ≡ true → PutsElements x y at elements x' y'
 
 pub record FlagStep (write : Bool) (f : Flag) (left : ℕ) (vs rs : List ℤ) (from counts : ℕ) (x y : List ℕ) (at : ℕ) (x' y' : List ℕ)
-    (r : Step) : Type 0 where
-  pub refused : (r.number ≡ 0 → ⊥) → (p : Previous) → flag_part f p left (drop from vs) (drop counts rs) ≡ fault r.number
-  pub goes : r.number ≡ 0 → StepGoes write f left vs rs from counts x y at x' y' r
+    (r : Result Step Refusal) : Type 0 where
+  pub refused : IfErr r (λ e. (p : Previous) → flag_part f p left (drop from vs) (drop counts rs) ≡ fault (refusal_number e))
+  pub goes : IfOk r (StepGoes write f left vs rs from counts x y at x' y')
   pub kept : write ≡ false → Unchanged x y x' y'

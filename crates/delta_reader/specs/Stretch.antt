@@ -1,5 +1,7 @@
 -- Differences of a row, one after the other. Definitions only; their laws are in Stretch/. Assumes nothing.
-use Rattle.std.specs.Prelude.{ℕ, ◌≤◌, ◌<◌, ◌≡◌, Bool, List, length, get_or, ℤ, pos, ◌-ℤ◌}
+use Rattle.std.specs.Prelude.{ℕ, ◌≤◌, ◌<◌, ◌≡◌, Bool, List, length, get_or, ℤ, pos, ◌-ℤ◌, Result, IfOk, IfErr}
+use Rattle.answer.specs.declared.refusal.Refusal.{Refusal}
+use Rattle.answer.specs.Refusal.{refusal_number}
 use Rattle.delta_format.specs.Numbers.{max_of}
 use Rattle.delta_format.specs.Row.{RowReading}
 use Rattle.delta_reader.specs.declared.stretch.Stretch.{Stretch}
@@ -36,9 +38,10 @@ pub record Stretching (write : Bool) (n w : ℕ) (ds : List ℤ) (s : Stretch) (
   pub moved : left ≡ s.left → at ≡ s.at.0
 
 -- the answer r from the place s
-pub record Stretched (write : Bool) (n w : ℕ) (ds : List ℤ) (s : Stretch) (x y x' y' : List ℕ) (r : Stretch) : Type 0 where
-  pub goes : r.number ≡ 0 → WalksOn write n w ds s.at.0 s.previous s.left x y r.at.0 r.previous r.left x' y'
-  pub stops : (r.number ≡ 0 → ⊥) → WalksOut write n w ds s.at.0 s.previous s.left x y x' y' r.number
+pub record Stretched (write : Bool) (n w : ℕ) (ds : List ℤ) (s : Stretch) (x y x' y' : List ℕ)
+    (r : Result Stretch Refusal) : Type 0 where
+  pub goes : IfOk r (λ g. WalksOn write n w ds s.at.0 s.previous s.left x y g.at.0 g.previous g.left x' y')
+  pub stops : IfErr r (λ e. WalksOut write n w ds s.at.0 s.previous s.left x y x' y' (refusal_number e))
   -- an ordinary element at the place is read
-  pub less : r.number ≡ 0 → 0 < s.left → Ordinary w ds s.at.0 → r.left < s.left
+  pub less : IfOk r (λ g. 0 < s.left → Ordinary w ds s.at.0 → g.left < s.left)
   pub long : AsLong x y x' y'

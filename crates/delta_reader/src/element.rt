@@ -1,32 +1,86 @@
-// An element of an array, whatever its width: the one place where the widths differ. A number is kept in offset binary, 2147483648
-// more than itself, so that it is never negative.
-ghost use Rattle.std.specs.Prelude.{◌≡◌, ◌<◌, length, get_or, pos};
+// The elements of an array, whatever their width: the one place where the widths differ. A number is kept in offset binary,
+// 2147483648 more than itself, so that it is never negative.
+ghost use Rattle.std.specs.Prelude.{◌≡◌, ◌<◌, length, get_or, pos, IfOk};
+ghost use Rattle.answer.specs.Refusal.{result_number};
 ghost use Rattle.delta_format.specs.Numbers.{elements_of};
-ghost use Rattle.delta_reader.specs.Offset.{Width, Offset};
+ghost use Rattle.delta_format.specs.Calls.{width_number};
+ghost use Rattle.delta_reader.specs.Offset.{Offset};
 
+use answer::refusal::Refusal;
 use bitstream::byte::byte_at;
 use bitstream::number::{read_u16, read_u32};
 
-// How many elements some bytes hold.
-pub fn elements(s: &[u8], bits: u32) -> u64
-    requires { Width bits }
-    ensures { result ≡ length (elements_of bits s.now) }
-{
-    s.len() as u64 / (bits / 8) as u64
+// The bytes, and the bits of an element.
+#[derive(Clone, Copy)]
+pub struct Elements<'a> {
+    pub bytes: &'a [u8],
+    pub bits: u32,
+    ghost width: { width_number bits ≡ 0 },
 }
 
-// Element i, in offset binary.
-pub fn element(s: &[u8], bits: u32, i: u64) -> u64
-    requires width { Width bits }
-    requires i_in_bounds { i < length (elements_of bits s.now) }
-    ensures { Offset bits (get_or (elements_of bits s.now) i (pos 0)) result }
+impl<'a> Elements<'a> {
+    // 14 for a width that is not read.
+    pub fn new(bytes: &'a [u8], bits: u32) -> Result<Elements<'a>, Refusal>
+        ensures number { result_number result ≡ width_number bits }
+        ensures bits { IfOk result (λ e. e.bits ≡ bits) }
+        ensures bytes { IfOk result (λ e. e.bytes.now ≡ bytes.now) }
+    {
+        judge_width(bits)?;
+        Ok(Elements { bytes, bits })
+    }
+
+    // How many they are.
+    pub fn count(self) -> u64
+        ensures { result ≡ length (elements_of self.entry.bits self.entry.bytes.now) }
+    {
+        // a division by the width would be done anew for each element
+        let n = self.bytes.len() as u64;
+        if self.bits == 8 {
+            return n;
+        }
+        if self.bits == 16 {
+            return n / 2;
+        }
+        n / 4
+    }
+
+    // Element i, in offset binary.
+    pub fn at(self, i: u64) -> u64
+        requires { i < length (elements_of self.bits self.bytes.now) }
+        ensures { Offset self.entry.bits (get_or (elements_of self.entry.bits self.entry.bytes.now) i (pos 0)) result }
+    {
+        let at = i as usize;
+        if self.bits == 8 {
+            return (byte_at(self.bytes, at) as u64 + 128) % 256 + 2147483520;
+        }
+        if self.bits == 16 {
+            return (read_u16(self.bytes, 2 * at) as u64 + 32768) % 65536 + 2147450880;
+        }
+        (read_u32(self.bytes, 4 * at) as u64 + 2147483648) % 4294967296
+    }
+}
+
+// By halves: of three equal tests in a row the compiler makes a bit test, a shift by the width (docs/DECISIONS.md, 153).
+fn judge_width(bits: u32) -> Result<(), Refusal>
+    ensures { result_number result ≡ width_number bits }
 {
-    let at = i as usize;
-    if bits == 8 {
-        return (byte_at(s, at) as u64 + 128) % 256 + 2147483520;
+    if bits < 16 {
+        return if bits == 8 {
+            Ok(())
+        } else {
+            Err(Refusal::Record)
+        };
     }
-    if bits == 16 {
-        return (read_u16(s, 2 * at) as u64 + 32768) % 65536 + 2147450880;
+    if bits < 32 {
+        return if bits == 16 {
+            Ok(())
+        } else {
+            Err(Refusal::Record)
+        };
     }
-    (read_u32(s, 4 * at) as u64 + 2147483648) % 4294967296
+    if bits == 32 {
+        Ok(())
+    } else {
+        Err(Refusal::Record)
+    }
 }

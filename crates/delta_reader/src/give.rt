@@ -2,10 +2,10 @@
 ghost use Rattle.std.specs.Prelude.{◌≡◌, ◌+◌, ◌^◌, ◌<◌, take, drop};
 ghost use Rattle.delta_format.specs.Numbers.{elements_of};
 ghost use Rattle.delta_format.specs.Row.{elements_for};
-ghost use Rattle.delta_reader.specs.Offset.{Width};
 ghost use Rattle.delta_reader.specs.Flags.{flag_at, elements_given, FlagValues};
 ghost use Rattle.delta_reader.specs.Puts.{RoomFor, PutsIf};
 
+use crate::element::Elements;
 use crate::flag::{Taken, is_bad};
 use crate::put::{put_run, put_values};
 use crate::value::value_at;
@@ -29,31 +29,29 @@ pub fn put_flag(
     write: bool,
     down: u64,
     t: Taken,
-    value: &[u8],
-    bits: u32,
+    value: Elements,
     from: FirstValue,
     row: &mut [u8],
     marks: &mut [u8],
     at: u64,
 )
-    requires width { Width bits }
-    requires flag_values { FlagValues (flag_at down) t.values (drop from.0 (elements_of bits value.now)) }
+    requires flag_values { FlagValues (flag_at down) t.values (drop from.0 (elements_of value.bits value.bytes.now)) }
     requires room_for { RoomFor row.old marks.old at (elements_given (flag_at down) t.count t.values) }
     ensures { PutsIf write row.old marks.old at
-        (elements_for (flag_at down) t.count (take t.values (drop from.0 (elements_of bits value.now))))
+        (elements_for (flag_at down) t.count (take t.values (drop from.0 (elements_of value.entry.bits value.entry.bytes.now))))
         row.new marks.new }
 {
     if !write {
         return;
     }
     if down == 1 {
-        put_run(row, marks, at, t.count, value_at(value, bits, from, 0), 0);
+        put_run(row, marks, at, t.count, value_at(value, from, 0), 0);
         return;
     }
     if is_bad(down) {
         put_run(row, marks, at, t.count, 2147483648, 1);
-        put_values(row, marks, at + t.count, t.values, value, bits, from);
+        put_values(row, marks, at + t.count, t.values, value, from);
         return;
     }
-    put_values(row, marks, at, t.values, value, bits, from);
+    put_values(row, marks, at, t.values, value, from);
 }

@@ -2,9 +2,10 @@
 ghost use Rattle.std.specs.Prelude.{◌+◌, ◌*◌, ◌≤◌, ◌<◌, [], ◌∷◌, map, length, take, drop};
 ghost use Rattle.delta_format.specs.Numbers.{elements_of};
 ghost use Rattle.delta_format.specs.Row.{good};
-ghost use Rattle.delta_reader.specs.Offset.{Width, offset_value};
+ghost use Rattle.delta_reader.specs.Offset.{offset_value};
 ghost use Rattle.delta_reader.specs.Puts.{RoomFor, PutsElements, PutsAlike, PutsIf};
 
+use crate::element::Elements;
 use crate::value::value_at;
 use bitstream::number::put_u32;
 use delta_format::FirstValue;
@@ -41,10 +42,8 @@ pub fn put_run(row: &mut [u8], marks: &mut [u8], at: u64, count: u64, v: u64, ma
     requires { RoomFor row.old marks.old at count }
     ensures { PutsAlike v mark row.old marks.old at count row.new marks.new }
 {
-    let mut i = 0;
-    while i < count {
+    for i in 0..count {
         put_element(row, marks, at + i, v, mark);
-        i += 1;
     }
 }
 
@@ -54,19 +53,15 @@ pub fn put_values(
     marks: &mut [u8],
     at: u64,
     count: u64,
-    value: &[u8],
-    bits: u32,
+    value: Elements,
     from: FirstValue,
 )
     requires room_for { RoomFor row.old marks.old at count }
-    requires width { Width bits }
-    requires count_in_bounds { count ≤ length (drop from.0 (elements_of bits value.now)) }
+    requires count_in_bounds { count ≤ length (drop from.0 (elements_of value.bits value.bytes.now)) }
     ensures { PutsElements row.old marks.old at
-        (map good (take count (drop from.0 (elements_of bits value.now)))) row.new marks.new }
+        (map good (take count (drop from.0 (elements_of value.entry.bits value.entry.bytes.now)))) row.new marks.new }
 {
-    let mut i = 0;
-    while i < count {
-        put_element(row, marks, at + i, value_at(value, bits, from, i), 0);
-        i += 1;
+    for i in 0..count {
+        put_element(row, marks, at + i, value_at(value, from, i), 0);
     }
 }

@@ -3,14 +3,18 @@ ghost use Rattle.std.specs.Prelude.{◌≡◌, ◌+◌, ◌<◌, ◌^◌, length
 ghost use Rattle.delta_format.specs.Numbers.{elements_of};
 ghost use Rattle.delta_format.specs.Row.{count_of};
 
-use crate::element::{element, elements};
+use crate::element::Elements;
 use delta_format::FirstRepeat;
 
 // Whether REPEAT has no element at this place.
 pub fn repeat_ends(repeat: &[u8], at: FirstRepeat) -> bool
     ensures { result ≡ leb (length (elements_of 32 repeat.now)) at.0 }
 {
-    elements(repeat, 32) <= at.0
+    let counts = Elements {
+        bytes: repeat,
+        bits: 32,
+    };
+    counts.count() <= at.0
 }
 
 // The count there, 0 for any below 1.
@@ -18,8 +22,11 @@ pub fn count_at(repeat: &[u8], at: FirstRepeat) -> u64
     requires { at.0 < length (elements_of 32 repeat.now) }
     ensures { result ≡ count_of (get_or (elements_of 32 repeat.now) at.0 (pos 0)) }
 {
-    let c = element(repeat, 32, at.0);
-    if c < 2147483648 { 0 } else { c - 2147483648 }
+    let counts = Elements {
+        bytes: repeat,
+        bits: 32,
+    };
+    counts.at(at.0).saturating_sub(2147483648)
 }
 
 // The next place.

@@ -6,6 +6,7 @@ use Rattle.sheet_format.specs.Kind.{Payload, a_table, a_row, a_line, no_payload}
 use Rattle.sheet_format.specs.Sheet.{StoredRow, stored_rows, sheet_read, absent, present, heights_of}
 use Rattle.sheet_format.specs.Stream.{held_of, Carried, ended, next_of, Carries}
 use Rattle.sheet_stream.specs.Progress.{carried_by}
+use Rattle.sheet_stream.specs.Progress.Laws.{progress_first}
 use Rattle.draw_sheet.specs.declared.advance.Ahead.{Ahead}
 pub mod Laws
 
@@ -18,6 +19,10 @@ height_bytes a_table n = 0
 height_bytes a_row n = 2 * n
 height_bytes a_line n = 0
 height_bytes no_payload n = 0
+
+-- nothing is read yet
+abbrev pub none_read : Ahead
+none_read = record { ended = false; held = 0; count = 0; at = progress_first }
 
 -- the least row number that may come next
 abbrev pub least_in : Ahead → ℕ

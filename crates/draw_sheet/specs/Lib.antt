@@ -1,4 +1,3 @@
-pub mod Wish
 pub mod Map
 pub mod Measure
 pub mod View

@@ -7,7 +7,7 @@ use Rattle.sheet_format.specs.Sheet.{stored_rows, records}
 use Rattle.sheet_format.specs.Stream.{held_of, Carried, ended, next_of, Carries}
 use Rattle.sheet_format.specs.Size.{rows_width, rows_height}
 use Rattle.sheet_picture.specs.Extent.{rows_claimed, records_length, sheet_extent}
-use Rattle.draw_sheet.specs.declared.measure.Measured.{Measured}
+use Rattle.draw_sheet.specs.declared.measured.Measured.{Measured}
 pub mod Laws
 pub mod Behind
 

@@ -6,62 +6,26 @@ mod advance;
 mod claims;
 mod draw;
 mod files;
-mod map;
 mod measure;
+mod measured;
+mod memory;
 mod output;
 mod parts;
 mod passes;
+mod scene;
+mod side;
+mod wish;
 mod words;
 
-use command::option::{Asked, read_options};
-use command::say::{complain, print_version, refuse_lacking, refuse_option};
-use std::io;
-use std::io::Print;
+use command::program::Program;
 use words::draw_words;
 
-pub const PROGRAM: [u8; 10] = *b"draw_sheet";
-
-// The options and their values.
-pub const USAGE: [u8; 63] = *b"-o OUT --times K --range LOW HIGH --map MAP --group G --total N";
-
 fn main(rt: HostRuntime) {
-    match read_options(rt, &USAGE) {
-        Asked::Help => print_help(rt),
-        Asked::Version => print_program(rt),
-        Asked::Unknown(i) => refuse(rt, i),
-        Asked::Lacking(i) => refuse_short(rt, i),
-        Asked::Words => draw_words(rt),
-    }
-}
-
-fn print_help(rt: HostRuntime) {
-    if let Err(e) = help(&rt.stdout()) {
-        complain(rt, &PROGRAM, b"standard output", e);
-    }
-}
-
-fn print_program(rt: HostRuntime) {
-    print_version(rt, &PROGRAM);
-}
-
-fn refuse(rt: HostRuntime, i: usize) {
-    refuse_option(rt, &PROGRAM, i);
-    say_help(rt);
-}
-
-fn refuse_short(rt: HostRuntime, i: usize) {
-    refuse_lacking(rt, &PROGRAM, i);
-    say_help(rt);
-}
-
-// The same on standard error.
-pub fn say_help(rt: HostRuntime) {
-    let _ = help(&rt.stderr());
-}
-
-pub fn help(to: &impl Print) -> io::Result<()> {
-    to.write_all(
-        b"usage: draw_sheet [-o OUT] [--times K] [--range LOW HIGH]
+    let program = Program {
+        rt,
+        name: b"draw_sheet",
+        usage: b"-o OUT --times K --range LOW HIGH --map MAP --group G --total N",
+        help: b"usage: draw_sheet [-o OUT] [--times K] [--range LOW HIGH]
                   [--map MAP --group G --total N] [FILE]
 
 Draws a sheet as a PNG, one sample a height; each row stands at its number, and
@@ -79,5 +43,8 @@ sheet is refused. With no FILE, and where FILE is -, it reads standard input.
   --version         prints the version
   --                ends the options
 ",
-    )
+    };
+    if program.is_asked_to_work() {
+        draw_words(program);
+    }
 }

@@ -1,28 +1,19 @@
 // The first pass: how large the picture is, and the verdict.
-ghost use Rattle.std.specs.Prelude.{◌≡◌, false, ◌≤◌, length, take};
+ghost use Rattle.std.specs.Prelude.{◌≡◌, ◌≤◌, IfOk, take};
 ghost use Rattle.sheet_format.specs.Kinds.{kind_of};
 ghost use Rattle.sheet_format.specs.Stream.{held_of};
 ghost use Rattle.sheet_stream.specs.Progress.{carried_by};
 ghost use Rattle.draw_sheet.specs.Measure.{width_with, PassEnds, BrokenBy, Measures};
 
-use crate::PROGRAM;
-use crate::claims::{larger, take_claims};
-use command::input::Source;
+use crate::claims::take_claims;
+use crate::measured::Measured;
+use crate::memory::Memory;
+use command::input::Input;
+use command::program::Unread;
 use sheet_format::kind::is_row;
 use sheet_stream::progress::begin;
-use sheet_stream::step::{SheetStep, take_record, unread};
+use sheet_stream::step::{SheetStep, take_record};
 use sheet_verdict::say_verdict;
-
-// failed          whether reading failed, which is said on standard error
-// width, height   the extent of the sheet, in heights
-// rows            how many rows it has before its end or its fault
-#[derive(Clone, Copy)]
-pub struct Measured {
-    pub failed: bool,
-    pub width: u32,
-    pub height: u32,
-    pub rows: u64,
-}
 
 // How the records ended.
 // width   the most heights of a row
@@ -34,129 +25,80 @@ pub struct Passed {
 }
 
 // The extent of a sheet; the verdict goes to standard error.
-pub fn measure(
-    rt: HostRuntime,
-    file: &Source,
-    name: &[u8],
-    bytes: &mut [u8],
-    table: &mut [u8],
-    content: &mut [u8],
-) -> Measured
-    requires in_bounds { 32778 ≤ length bytes.old }
-    requires in_bounds_2 { 32772 ≤ length table.old }
-    requires in_bounds_3 { 16384 ≤ length content.old }
-    ensures within { (result.width ≤ 4096) × (result.height ≤ 65552) }
-    ensures measures { result.failed ≡ false → Measures result.width result.height }
+pub fn measure(input: &Input, memory: &mut Memory) -> Result<Measured, Unread>
+    ensures { IfOk result (λ m. Measures m.width m.height) }
 {
-    let passed = pass_records(rt, file, name, bytes, table, content);
+    let passed = pass_records(input, memory)?;
     let step = passed.step;
-    if step.failed {
-        return measured_as(true, 1, 1, 0);
-    }
-    let taken = step.taken;
-    say_verdict(rt, &bytes[..taken], step);
-    let read = step.read;
+    say_verdict(input.program, &memory.bytes[..step.taken], step);
     let at = step.next;
     let state = at.state;
-    if read.number == 0 {
-        return measured_as(
-            false,
-            larger(1, passed.width),
-            larger(1, state.least_row),
-            at.rows,
-        );
+    if step.read.number == 0 {
+        return Ok(Measured {
+            width: passed.width.max(1),
+            height: state.least_row.max(1),
+            rows: at.rows,
+        });
     }
-    measure_behind(
-        rt,
-        file,
-        name,
-        bytes,
-        taken,
+    let behind = measure_behind(
+        input,
+        memory,
+        step.taken,
         passed.width,
         state.least_row,
         at.rows,
-    )
+    )?;
+    Ok(behind)
 }
 
 // The same where a record is refused, of which the bytes that are held stand at the front of `bytes`. The rows before it are at
 // most so wide, least is the number behind the last of them, and `rows` is how many they are.
 fn measure_behind(
-    rt: HostRuntime,
-    file: &Source,
-    name: &[u8],
-    bytes: &mut [u8],
+    input: &Input,
+    memory: &mut Memory,
     taken: usize,
     width: u32,
     least: u32,
     rows: u64,
-) -> Measured
-    requires in_bounds { 32778 ≤ length bytes.old }
+) -> Result<Measured, Unread>
     requires taken_bound { taken ≤ 32778 }
-    requires bytes_value { take taken bytes.old ≡ held_of (take taken bytes.old) }
+    requires bytes_value { take taken memory.old.bytes ≡ held_of (take taken memory.old.bytes) }
     requires width_bound { (width ≤ 4096) × (least ≤ 65536) }
-    ensures within { (result.width ≤ 4096) × (result.height ≤ 65552) }
-    ensures behind { result.failed ≡ false → BrokenBy (take taken bytes.old) width least result }
+    ensures { IfOk result (λ m. BrokenBy (take taken memory.old.bytes) width least m) }
 {
-    let claimed = take_claims(rt, file, name, bytes, taken);
-    if claimed.failed {
-        return measured_as(true, 1, 1, 0);
-    }
-    measured_as(
-        false,
-        larger(16, width),
-        larger(least + 16, claimed.height),
+    let claimed = take_claims(input, memory, taken)?;
+    Ok(Measured {
+        width: width.max(16),
+        height: claimed.max(least + 16),
         rows,
-    )
+    })
 }
 
-fn measured_as(failed: bool, width: u32, height: u32, rows: u64) -> Measured
-    ensures { result ≡ record { failed = failed; width = width; height = height; rows = rows } }
-{
-    Measured {
-        failed,
-        width,
-        height,
-        rows,
-    }
-}
-
-// bytes     the record that is read
-// table     the sheet's table, from its first record on
-// content   what the record stores
-// at        what is carried; its index is a number that no run uses up, so that the loop ends
-fn pass_records(
-    rt: HostRuntime,
-    file: &Source,
-    name: &[u8],
-    bytes: &mut [u8],
-    table: &mut [u8],
-    content: &mut [u8],
-) -> Passed
-    requires in_bounds { 32778 ≤ length bytes.old }
-    requires in_bounds_2 { 32772 ≤ length table.old }
-    requires in_bounds_3 { 16384 ≤ length content.old }
-    ensures taken { result.step.taken ≤ 32778 }
-    ensures ends { result.step.failed ≡ false → PassEnds (take result.step.taken bytes.new)
-        (carried_by result.step.next table.new) result.width result.step.read.number result.step.read.at }
+// No run uses up so many records.
+// at   what is carried
+fn pass_records(input: &Input, memory: &mut Memory) -> Result<Passed, Unread>
+    ensures taken { IfOk result (λ p. p.step.taken ≤ 32778) }
+    ensures ends { IfOk result (λ p. PassEnds (take p.step.taken memory.new.bytes)
+        (carried_by p.step.next memory.new.table) p.width p.step.read.number p.step.read.at) }
 {
     let mut at = begin();
     let mut width = 0;
-    while at.index < u64::MAX {
-        let step = take_record(rt, &PROGRAM, name, file, bytes, table, content, at);
-        if step.failed {
-            return Passed { width, step };
-        }
+    for _ in 0..u64::MAX {
+        let step = take_record(
+            input,
+            &mut memory.bytes,
+            &mut memory.table,
+            &mut memory.content,
+            at,
+        )?;
         if step.last {
-            return Passed { width, step };
+            return Ok(Passed { width, step });
         }
         let read = step.read;
         width = wider(width, read.kind, read.count);
         at = step.next;
     }
-    Passed {
-        width,
-        step: unread(at),
-    }
+    Err(Unread { count: 0 })
 }
 
 // The most heights of a row, with a record that has so many.
@@ -164,7 +106,7 @@ fn wider(width: u32, kind: u32, count: u32) -> u32
     ensures { result ≡ width_with (kind_of kind).holds width count }
 {
     if is_row(kind) {
-        return larger(width, count);
+        return width.max(count);
     }
     width
 }

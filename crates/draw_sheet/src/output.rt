@@ -1,16 +1,31 @@
 // Where the picture goes.
 ghost use Rattle.std.specs.Prelude.{◌≤◌, length};
 
-use crate::PROGRAM;
 use command::argument::{Argument, argument_of};
-use command::input::{Source, read_once};
-use command::say::{complain, hint};
-use command::{open_output, path_of};
+use command::input::{Input, Source};
+use command::path::path_of;
+use command::program::{Program, Stopped, Unread, Unwritten};
 use sheet_stream::twice::go_to;
 use std::fs::{File, OpenOptions, metadata};
 use std::io;
 use std::io::{IsTerminal, Print, Stdout, Write};
-use text::same::same_bytes;
+use std::rt::HostRuntime;
+
+// There is no picture, or no more of it; standard error has said why.
+#[derive(Clone, Copy)]
+pub struct NoPicture;
+
+impl From<Unread> for NoPicture {
+    fn from(_unread: Unread) -> NoPicture {
+        NoPicture
+    }
+}
+
+impl From<Stopped> for NoPicture {
+    fn from(_stopped: Stopped) -> NoPicture {
+        NoPicture
+    }
+}
 
 // Standard   standard output
 // Named      a file, which is closed where it is dropped
@@ -20,59 +35,73 @@ pub enum Target {
     Named(File),
 }
 
-// Whether a part of the picture was written; where not, standard error says why.
-pub fn print_part(rt: HostRuntime, to: &Target, to_name: &[u8], part: &[u8]) -> bool {
-    match write_part(to, part) {
-        Ok(()) => true,
-        Err(e) => {
-            complain(rt, &PROGRAM, to_name, e);
-            false
+// Where a program writes to.
+// name   what it is called on standard error
+#[derive(Drop)]
+pub struct Output<'a> {
+    pub program: Program<'a>,
+    pub name: &'a [u8],
+    pub target: Target,
+}
+
+impl<'a> Output<'a> {
+    // Where that fails, standard error says why.
+    pub fn print(&self, part: &[u8]) -> Result<(), Unwritten> {
+        match self.target.write(part) {
+            Ok(()) => Ok(()),
+            Err(e) => {
+                self.program.complain(self.name, e);
+                Err(Unwritten)
+            }
         }
     }
 }
 
-fn write_part(to: &Target, part: &[u8]) -> io::Result<()> {
-    match to {
-        Target::Standard(stdout) => Print::write_all(stdout, part),
-        Target::Named(file) => {
-            let mut writer = file;
-            writer.write_all(part)
+impl Target {
+    fn write(&self, part: &[u8]) -> io::Result<()> {
+        match self {
+            Target::Standard(stdout) => Print::write_all(stdout, part),
+            Target::Named(file) => {
+                let mut writer = file;
+                writer.write_all(part)
+            }
         }
+    }
+}
+
+pub fn standard_output<'a>(program: Program<'a>) -> Output<'a> {
+    Output {
+        program,
+        name: b"standard output",
+        target: Target::Standard(program.rt.stdout()),
     }
 }
 
 // Whether standard output is a terminal, which is said on standard error: a picture is nothing to be read there.
-pub fn is_terminal(rt: HostRuntime) -> bool {
-    if rt.stdout().is_terminal() {
-        hint(
-            rt,
-            &PROGRAM,
-            b"standard output",
-            b"this is a terminal; -o names a file",
-        );
-        return true;
+pub fn is_terminal(program: Program) -> bool {
+    let is = program.rt.stdout().is_terminal();
+    if is {
+        program.hint(b"standard output", b"this is a terminal; -o names a file");
     }
-    false
+    is
 }
 
-// Where the picture goes, a file that is made or overwritten; nothing where it is the sheet or the map, or cannot be opened,
-// which is said on standard error. What is there is held until then, so that whoever reads a named pipe waits for the picture.
-// `file`, the sheet of that name, and `map` are left anywhere.
-pub fn open_picture(
-    rt: HostRuntime,
-    to_name: &[u8],
-    file: &Source,
-    name: &[u8],
+// A file that is made or overwritten; where it is the sheet or the map, or cannot be opened, that is said on standard error. What is
+// there is held until then, so that whoever reads a named pipe waits for the picture. The sheet and the map are left anywhere.
+pub fn open_picture<'a>(
+    program: Program<'a>,
+    name: &'a [u8],
+    input: &Input,
     map: &Option<Source>,
-) -> Option<Target> {
-    match open_update(rt, to_name) {
+) -> Result<Output<'a>, NoPicture> {
+    match open_update(program.rt, name) {
         Ok(there) => {
             let held = Source::Named(there);
-            let to = open_free(rt, &held, to_name, file, name, map);
+            let output = open_free(program, name, &held, input, map);
             drop(held);
-            to
+            output
         }
-        Err(_) => open_target(rt, to_name),
+        Err(_) => open_target(program, name),
     }
 }
 
@@ -83,39 +112,40 @@ fn open_update(rt: HostRuntime, name: &[u8]) -> io::Result<File> {
     how.open(&rt, path_of(name)?)
 }
 
-fn open_target(rt: HostRuntime, to_name: &[u8]) -> Option<Target> {
-    match open_output(rt, &PROGRAM, to_name) {
-        Some(file) => Some(Target::Named(file)),
-        None => None,
-    }
+fn open_target<'a>(program: Program<'a>, name: &'a [u8]) -> Result<Output<'a>, NoPicture> {
+    let file = program.open_output(name).ok_or(NoPicture)?;
+    Ok(Output {
+        program,
+        name,
+        target: Target::Named(file),
+    })
 }
 
-fn open_free(
-    rt: HostRuntime,
+fn open_free<'a>(
+    program: Program<'a>,
+    name: &'a [u8],
     there: &Source,
-    to_name: &[u8],
-    file: &Source,
-    name: &[u8],
+    input: &Input,
     map: &Option<Source>,
-) -> Option<Target> {
-    if is_sheet(rt, there, file, name) {
-        hint(rt, &PROGRAM, to_name, b"this is the sheet itself");
-        return None;
+) -> Result<Output<'a>, NoPicture> {
+    if is_sheet(there, input) {
+        program.hint(name, b"this is the sheet itself");
+        return Err(NoPicture);
     }
-    if is_map(rt, there, map) {
-        hint(rt, &PROGRAM, to_name, b"this is the map itself");
-        return None;
+    if is_map(program.rt, there, map) {
+        program.hint(name, b"this is the map itself");
+        return Err(NoPicture);
     }
-    open_target(rt, to_name)
+    open_target(program, name)
 }
 
-// Of a sheet that came from standard input `file` is a copy, from the place where standard input stood.
-fn is_sheet(rt: HostRuntime, there: &Source, file: &Source, name: &[u8]) -> bool {
-    if same_from_start(there, file) {
+// Of a sheet that came from standard input `input` is a copy, from the place where standard input stood.
+fn is_sheet(there: &Source, input: &Input) -> bool {
+    if same_from_start(there, &input.source) {
         return true;
     }
-    if let Argument::Input = argument_of(name) {
-        return is_standard(rt, there);
+    if let Argument::Input = argument_of(input.name) {
+        return is_standard(input.program.rt, there);
     }
     false
 }
@@ -148,12 +178,7 @@ fn open_standard(rt: HostRuntime) -> io::Result<Option<File>> {
 // Whether two inputs have the same bytes from their start. What has no place to go back to, such as a pipe, has none, and an
 // empty file is the same as none.
 fn same_from_start(a: &Source, b: &Source) -> bool {
-    if is_begun(a) {
-        if is_begun(b) {
-            return same_to_end(a, b);
-        }
-    }
-    false
+    is_begun(a) && is_begun(b) && same_to_end(a, b)
 }
 
 // Goes to the start.
@@ -161,46 +186,26 @@ fn is_begun(file: &Source) -> bool {
     go_to(file, 0).is_ok()
 }
 
-// Whether two inputs have the same bytes, one at least. left is a number that no run uses up, so that the loop ends.
+// Whether two inputs have the same bytes, one at least. No run uses up so many blocks.
 fn same_to_end(a: &Source, b: &Source) -> bool {
     let mut some = false;
-    let mut left = u64::MAX;
-    while 0 < left {
-        let more = same_block(a, b);
-        if more.differs {
-            return false;
+    for _ in 0..u64::MAX {
+        match same_block(a, b) {
+            Some(0) => return some,
+            Some(_) => some = true,
+            None => return false,
         }
-        if more.ends {
-            return some;
-        }
-        some = true;
-        left -= 1;
     }
     false
 }
 
-// What the next bytes of two inputs are.
-#[derive(Clone, Copy)]
-pub struct Compared {
-    pub differs: bool,
-    pub ends: bool,
-}
-
-fn same_block(a: &Source, b: &Source) -> Compared {
+// How many bytes come next, none at the end, where those of both are the same.
+fn same_block(a: &Source, b: &Source) -> Option<usize> {
     let mut x = [0u8; 4096];
     let mut y = [0u8; 4096];
     let n = read_full(a, &mut x);
     let m = read_full(b, &mut y);
-    if same_bytes(&x[..n], &y[..m]) {
-        return Compared {
-            differs: false,
-            ends: n == 0,
-        };
-    }
-    Compared {
-        differs: true,
-        ends: true,
-    }
+    if &x[..n] == &y[..m] { Some(n) } else { None }
 }
 
 // Reads until `bytes` is full, the input ends or a read fails, which is not said.
@@ -208,8 +213,9 @@ fn read_full(file: &Source, bytes: &mut [u8]) -> usize
     ensures { result ≤ length bytes.new }
 {
     let mut count = 0;
+    // no count by one: a turn takes as many bytes as a read brings
     while count < bytes.len() {
-        let more = read_once(file, &mut bytes[count..]).unwrap_or(0);
+        let more = file.read_once(&mut bytes[count..]).unwrap_or(0);
         if more == 0 {
             return count;
         }

@@ -2,7 +2,7 @@
 // code shares.
 #![tactic(auto)]
 
-// What reading a header answers: the number, and where it is 0 the pixels of a row, the rows, the byte where the image
+// What reading a header answers, as C has it: the number, and where it is 0 the pixels of a row, the rows, the byte where the image
 // starts, and the bytes written, those of the plain table's record. A refusal has 0 for every value.
 #[repr(C)]
 #[derive(Clone, Copy)]

@@ -1,10 +1,14 @@
 -- What the header's functions answer each other. Definitions only. Assumes nothing.
-use Rattle.std.specs.Prelude.{ℕ, ◌≤◌, ◌≡◌, Bool, ◌&&◌, List, [], length, get_or}
+use Rattle.std.specs.Prelude.{ℕ, Result, Ok, Err, ◌≤◌, ◌≡◌, Bool, ◌&&◌, List, [], length, get_or}
 use Rattle.answer.specs.Outcome.{Outcome, outcome, writes, refuse_if, unless, lent, room_number}
+use Rattle.answer.specs.declared.refusal.Refusal.{Refusal}
+use Rattle.answer.specs.Refusal.{refusal_number}
 use Rattle.row_format.specs.Lists.{any}
 use Rattle.text.specs.Text.{ascii}
 use Rattle.fits_format.specs.Card.{is_true}
-use Rattle.fits_format.specs.Header.{header_cards, card_integer, axis1, axis2, is_number, end_card, plain_table_record, header_clauses}
+use Rattle.fits_format.specs.declared.ImageHeader.{ImageHeader}
+use Rattle.fits_format.specs.Header.{no_image, header_cards, card_integer, axis1, axis2, is_number, end_card, plain_table_record, header_clauses}
+use Rattle.fits_reader.specs.declared.header.Image.{Image}
 use Rattle.fits_reader.specs.Clipped.{clipped}
 
 -- the first three cards are SIMPLE T, BITPIX 16 and NAXIS 2
@@ -28,3 +32,8 @@ pub record CardsRead (s : List ℕ) (w r e : ℕ) : Type 0 where
 unfoldable pub table_written : List ℕ → Outcome ℕ
 table_written m =
     unless (room_number (lent (length m)) (length plain_table_record)) (λ e. outcome e m) (writes 0 plain_table_record m)
+
+-- what the header's functions give, as C has it
+abbrev pub as_header : Result Image Refusal → ImageHeader
+as_header (Ok i) = record { number = 0; width = i.width; rows = i.rows; start = i.start; count = 2078 }
+as_header (Err e) = no_image (refusal_number e)

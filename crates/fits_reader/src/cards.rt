@@ -1,77 +1,47 @@
 // The cards of a header, counted from 0.
-ghost use Rattle.std.specs.Prelude.{◌≡◌, ◌||◌, [], ◌≤◌, ◌<◌, length, get_or, take};
-ghost use Rattle.fits_format.specs.Card.{has_keyword, is_true, integer_of};
-ghost use Rattle.fits_format.specs.Header.{header_cards, stands, end_card};
-ghost use Rattle.fits_reader.specs.Clipped.{clipped};
+ghost use Rattle.std.specs.Prelude.{◌≡◌, ◌<◌, ⊤, MatchOption, length, unwrap_or};
+ghost use Rattle.row_format.specs.Lists.{any};
+ghost use Rattle.fits_format.specs.Card.{has_keyword};
+ghost use Rattle.fits_format.specs.Header.{header_cards, before_end, end_card};
 
-use crate::card::{card_integer, has_keyword, is_true};
+use crate::card::has_keyword;
 use fits_format::{CARD_BYTES, MAX_CARDS};
 
-// How many whole cards there are, of at most ten blocks.
+// The whole cards, of at most ten blocks.
+pub fn header_cards(fits: &[u8]) -> &[[u8; CARD_BYTES]]
+    ensures { result.now ≡ header_cards fits.now }
+{
+    let (cards, _) = fits.as_chunks::<CARD_BYTES>();
+    &cards[..cards.len().min(MAX_CARDS)]
+}
+
+// How many there are.
 pub fn count_cards(fits: &[u8]) -> usize
     ensures { result ≡ length (header_cards fits.now) }
 {
-    let cards = fits.len() / CARD_BYTES;
-    if cards < MAX_CARDS { cards } else { MAX_CARDS }
+    header_cards(fits).len()
 }
 
-// Whether card i has the keyword.
-fn has_at(fits: &[u8], i: usize, keyword: &[u8]) -> bool
-    requires { i < length (header_cards fits.now) }
-    ensures { result ≡ has_keyword keyword.now (get_or (header_cards fits.now) i []) }
-{
-    let at = CARD_BYTES * i;
-    has_keyword(&fits[at..at + CARD_BYTES], keyword)
-}
-
-// Whether card i has the keyword and says T.
-pub fn true_at(fits: &[u8], i: usize, keyword: &[u8]) -> bool
-    requires { i < length (header_cards fits.now) }
-    ensures { result ≡ is_true keyword.now (get_or (header_cards fits.now) i []) }
-{
-    let at = CARD_BYTES * i;
-    is_true(&fits[at..at + CARD_BYTES], keyword)
-}
-
-// The integer of card i, as `card_integer` gives it.
-pub fn integer_at(fits: &[u8], i: usize, keyword: &[u8]) -> u32
-    requires { i < length (header_cards fits.now) }
-    ensures { result ≡ clipped (integer_of keyword.now (get_or (header_cards fits.now) i [])) }
-{
-    let at = CARD_BYTES * i;
-    card_integer(&fits[at..at + CARD_BYTES], keyword)
-}
-
-// The place of END's card, or the count of the cards where there is none.
+// The place of END's card, or the count of the cards where there is none, as `end_card` has it; `end_place` is the same as an Option.
+#[tactic(auto, unfolding(fits_format::specs::Header::end_card))]
 pub fn find_end(fits: &[u8]) -> usize
     ensures { result ≡ end_card fits.now }
 {
-    let cards = count_cards(fits);
-    let mut i = 0;
-    while i < cards {
-        if has_at(fits, i, b"END     ") {
-            return i;
-        }
-        i += 1;
-    }
-    cards
+    let cards = header_cards(fits);
+    end_place(cards).unwrap_or(cards.len())
 }
 
-// Whether BSCALE or BZERO stands on one of the first `end` cards.
-pub fn is_scaled(fits: &[u8], end: usize) -> bool
-    requires { end ≤ length (header_cards fits.now) }
-    ensures { result ≡ (stands "BSCALE  " (take end (header_cards fits.now))
-        || stands "BZERO   " (take end (header_cards fits.now))) }
+// The place of END's card among some cards.
+pub fn end_place(cards: &[[u8; CARD_BYTES]]) -> Option<usize>
+    ensures place { length (before_end cards.now) ≡ unwrap_or result (length cards.now) }
+    ensures within { MatchOption result ⊤ (λ i. i < length cards.now) }
 {
-    let mut i = 0;
-    while i < end {
-        if has_at(fits, i, b"BSCALE  ") {
-            return true;
-        }
-        if has_at(fits, i, b"BZERO   ") {
-            return true;
-        }
-        i += 1;
-    }
-    false
+    cards.iter().position(|card| has_keyword(card, b"END     "))
+}
+
+// Whether the keyword stands on one of some cards.
+pub fn stands(cards: &[[u8; CARD_BYTES]], keyword: &[u8]) -> bool
+    ensures { result ≡ any (has_keyword keyword.now) cards.now }
+{
+    cards.iter().any(|card| has_keyword(card, keyword))
 }

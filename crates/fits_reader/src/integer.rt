@@ -1,6 +1,6 @@
 // A fixed-format integer. What a header is judged by is its value up to MOST: 0 where it is below 1 or where there is no integer,
 // which are refused alike, and 4097 for every value above 4096, of however many digits.
-ghost use Rattle.std.specs.Prelude.{◌≡◌, ◌≤◌, min};
+ghost use Rattle.std.specs.Prelude.{◌≡◌, ◌≤◌};
 ghost use Rattle.fits_format.specs.Card.{fixed_integer};
 ghost use Rattle.fits_reader.specs.Clipped.{clipped, digits_clipped, NotBlank};
 
@@ -12,12 +12,10 @@ const MOST: u32 = 4097;
 pub fn fixed_integer(field: &[u8]) -> u32
     ensures { result ≡ clipped (fixed_integer field.now) }
 {
-    let mut i = 0;
-    while i < field.len() {
-        if field[i] != b' ' {
+    for (i, b) in field.iter().enumerate() {
+        if *b != b' ' {
             return signed_digits(&field[i..]);
         }
-        i += 1;
     }
     0
 }
@@ -33,26 +31,17 @@ fn signed_digits(field: &[u8]) -> u32
     unsigned_digits(field, MOST)
 }
 
-// Of digits and nothing else, however many: their number up to `most`. `value` is what is kept of those before `i`.
+// Of digits and nothing else, however many: their number up to `most`. `value` is what is kept of those before `b`.
 pub fn unsigned_digits(field: &[u8], most: u32) -> u32
     requires { most ≤ 65537 }
     ensures { result ≡ digits_clipped most 0 field.now }
 {
     let mut value: u32 = 0;
-    let mut i = 0;
-    while i < field.len() {
-        let b = field[i];
-        if !is_digit(b) {
+    for b in field {
+        if !is_digit(*b) {
             return 0;
         }
-        value = lesser(value * 10 + (b - b'0') as u32, most);
-        i += 1;
+        value = (value * 10 + (*b - b'0') as u32).min(most);
     }
     value
-}
-
-fn lesser(a: u32, b: u32) -> u32
-    ensures { result ≡ min a b }
-{
-    if a < b { a } else { b }
 }

@@ -14,11 +14,8 @@ pub fn copy_pixels(image: &[u8], width: usize, pixels: &mut [u8])
     requires width_in_bounds_2 { 2 * width ≤ length pixels.old }
     ensures { take (2 * width) pixels.new ≡ pixel_bytes (big_endian width image.now) }
 {
-    let mut i = 0;
-    while i < width {
-        let pixel = image_pixel(image, i);
-        put_u16(pixels, 2 * i, pixel);
-        i += 1;
+    for i in 0..width {
+        put_u16(pixels, 2 * i, image_pixel(image, i));
     }
 }
 

@@ -1,11 +1,13 @@
 // The row call.
 ghost use Rattle.std.specs.Prelude.{◌≡◌, length};
 ghost use Rattle.answer.specs.Outcome.{outcome};
+ghost use Rattle.answer.specs.Refusal.{result_number};
 ghost use Rattle.fits_format.specs.Image.{before_pixels, image_row};
 
 use crate::pixels::copy_pixels;
 use crate::plain::plain_bytes;
 use answer::Answer;
+use answer::refusal::Refusal;
 use sheet_format::SheetState;
 use sheet_writer::write_packed;
 
@@ -14,33 +16,30 @@ use sheet_writer::write_packed;
 pub fn fits_row(width: u64, row: u64, image: &[u8], out: &mut [u8]) -> Answer
     ensures { outcome result out.new ≡ image_row width row image.now out.old }
 {
-    let number = row_number(width, row, image.len());
-    if number != 0 {
-        return Answer { number, count: 0 };
+    if let Err(refusal) = judge(width, row, image.len()) {
+        return Err(refusal).into();
     }
     write_row(width as usize, row as u32, image, out)
 }
 
 // The refusals before a pixel is looked at: 17, 11 and 18.
-fn row_number(width: u64, row: u64, bytes: usize) -> u32
-    ensures { result ≡ before_pixels width row bytes }
+#[tactic(auto, unfolding(fits_format::specs::Image::before_pixels))]
+fn judge(width: u64, row: u64, bytes: usize) -> Result<(), Refusal>
+    ensures { result_number result ≡ before_pixels width row bytes }
 {
     if width == 0 {
-        return 17;
+        return Err(Refusal::FitsHeader);
     }
-    if 4096 < width {
-        return 11;
-    }
-    if 4095 < row {
-        return 11;
+    if 4096 < width || 4095 < row {
+        return Err(Refusal::TooMany);
     }
     if bytes / 2 < width as usize {
-        return 18;
+        return Err(Refusal::ImageEnd);
     }
-    0
+    Ok(())
 }
 
-// The same of a row that is there.
+// The same of a row that is there. The record writer answers a number, as C has it, and so this does.
 fn write_row(width: usize, row: u32, image: &[u8], out: &mut [u8]) -> Answer
     requires { before_pixels width row (length image.now) ≡ 0 }
     ensures { outcome result out.new ≡ image_row width row image.now out.old }

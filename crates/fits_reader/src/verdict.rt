@@ -7,7 +7,8 @@ use text::line::{put_done_line, put_refused_line};
 use text::number::put_fields;
 use text::put::put_bytes;
 
-// The line by the header's number, the number of the row that is refused, and the rows written.
+// The line by the header's number, the number of the row that is refused, and the rows written: numbers, 0 for none, as the calls for C
+// answer them.
 pub fn put_verdict(out: &mut [u8], number: u32, fault: u32, rows: u64) -> usize
     requires { 128 ≤ length out.old }
     ensures put { Put out.old 0 (verdict_text number fault rows) result out.new }

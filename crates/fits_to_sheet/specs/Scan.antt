@@ -1,12 +1,12 @@
 -- A scan as a program converts it that holds the header and one row at a time: what it holds of a file, what it may write
 -- with that, and how it ends. Each is said by what converting the bytes that were taken comes to (fits_format, `conversion`).
 -- Definitions only. Assumes nothing.
-use Rattle.std.specs.Prelude.{ℕ, ◌+◌, ◌*◌, ◌≤◌, ◌<◌, ◌≡◌, cond, List, ◌++◌, length, take, ltb}
+use Rattle.std.specs.Prelude.{ℕ, ◌+◌, ◌*◌, ◌≤◌, ◌<◌, ◌≡◌, cond, List, [], ◌++◌, length, take, ltb, Result, Ok, Err}
 use Rattle.fits_format.specs.declared.ImageHeader.{ImageHeader}
 use Rattle.fits_format.specs.Header.{axis1, axis2, axis_length, header_number, image_start, header_span, image_of}
 use Rattle.fits_format.specs.Image.{row_record, image_row_number}
 use Rattle.fits_format.specs.Conversion.{Conversion, conversion, row_at}
-use Rattle.fits_to_sheet.specs.declared.rows.RowTurn.{RowTurn}
+use Rattle.fits_to_sheet.specs.declared.rows.RowFault.{RowFault}
 use Rattle.fits_reader.specs.Verdict.{verdict_line}
 pub mod Header
 pub mod Rows
@@ -69,10 +69,19 @@ pub record NextRecord (header held : List ℕ) (r : ℕ) (b : List ℕ) : Type 0
   pub bytes : (m : List ℕ) (lends : ℕ → List ℕ) → Enough m lends
       → (conversion m lends (header ++ (image ++ held))).bytes ≡ (conversion m lends (header ++ image)).bytes ++ b
 
--- a row as its turn has it: what its call answered with the bytes that are held
-pub record RowMade (w r : ℕ) (held : List ℕ) (x : RowTurn) (out : List ℕ) : Type 0 where
-  pub number : x.number ≡ image_row_number w r held 7178
-  pub bytes : x.number ≡ 0 → take x.count out ≡ row_record w r held
+-- a row as its turn has it: what its call answered with the bytes that are held, the record's bytes or the number that refuses it
+pub record RowWritten (w r : ℕ) (held : List ℕ) (count : ℕ) (out : List ℕ) : Type 0 where
+  pub number : image_row_number w r held 7178 ≡ 0
+  pub bytes : take count out ≡ row_record w r held
+  pub within : count ≤ length out
+
+pub record RowRefused (w r : ℕ) (held : List ℕ) (number : ℕ) : Type 0 where
+  pub is : number ≡ image_row_number w r held 7178
+  pub some : number ≡ 0 → ⊥
+
+abbrev pub RowMade : ℕ → ℕ → List ℕ → Result ℕ ℕ → List ℕ → Type 0
+RowMade w r held (Ok count) out = RowWritten w r held count out
+RowMade w r held (Err number) out = RowRefused w r held number
 
 -- ---- how it ends
 -- for some rows that were taken before, converting with the bytes that are held comes to these numbers, and writes nothing
@@ -83,6 +92,11 @@ pub record Ended (header held : List ℕ) (number fault rows : ℕ) : Type 0 whe
   pub ends : (m : List ℕ) (lends : ℕ → List ℕ) → Enough m lends
       → conversion m lends (header ++ (image ++ held))
       ≡ record { header = number; fault = fault; rows = rows; bytes = (conversion m lends (header ++ image)).bytes }
+
+-- all rows are written, or one is refused, whose bytes are the first of row
+abbrev pub RowsEnded : List ℕ → List ℕ → Result ℕ RowFault → Type 0
+RowsEnded header row (Ok rows) = Ended header [] 0 0 rows
+RowsEnded header row (Err fault) = (fault.held ≤ 8192) × Ended header (take fault.held row) 0 fault.number fault.rows
 
 -- l is the verdict of all the bytes that were taken
 pub record EndVerdict (header held l : List ℕ) : Type 0 where

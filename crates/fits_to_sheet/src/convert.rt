@@ -1,23 +1,21 @@
 // The conversion of one scan.
-ghost use Rattle.std.specs.Prelude.{◌≤◌, length};
-ghost use Rattle.fits_to_sheet.specs.Scan.{HeaderHeld, ImageStands, FirstRecord};
+ghost use Rattle.fits_to_sheet.specs.Scan.{HeaderHeld, FirstRecord};
 
-use crate::PROGRAM;
 use crate::header::fill_header;
-use crate::rows::convert_rows;
+use crate::rows::{RowFault, convert_rows};
+use crate::scan::Scan;
 use crate::verdict::end;
-use command::input::Source;
-use command::say::print;
-use fits_format::ImageHeader;
+use command::input::Input;
+use command::program::{Program, Stopped, Unwritten};
 use fits_reader::fits_header;
 
 // 2078 bytes are enough for the table's record and 7178 for a row's, whatever its pixels (fits_format, `image_row_number-room`):
 // no record is refused for room.
-pub fn convert_input(rt: HostRuntime, file: &Source, name: &[u8]) {
+pub fn convert_input(input: &Input) {
     let mut header = [0u8; 28800];
     let mut row = [0u8; 8192];
     let mut out = [0u8; 7178];
-    convert(rt, file, name, &mut header, &mut row, &mut out);
+    let _ = convert(input, &mut header, &mut row, &mut out);
 }
 
 // header   the bytes of the header's blocks
@@ -25,74 +23,52 @@ pub fn convert_input(rt: HostRuntime, file: &Source, name: &[u8]) {
 // out      the record to be written
 // Where reading or writing fails there is no verdict.
 fn convert(
-    rt: HostRuntime,
-    file: &Source,
-    name: &[u8],
-    header: &mut [u8],
-    row: &mut [u8],
-    out: &mut [u8],
-)
-    requires in_bounds { 28800 ≤ length header.old }
-    requires in_bounds_2 { 8192 ≤ length row.old }
-    requires in_bounds_3 { 7178 ≤ length out.old }
-{
-    let got = fill_header(rt, file, name, header);
-    if got.failed {
-        return;
-    }
-    let count = got.count;
-    convert_scan(rt, file, name, &header[..count], row, out);
+    input: &Input,
+    header: &mut [u8; 28800],
+    row: &mut [u8; 8192],
+    out: &mut [u8; 7178],
+) -> Result<(), Stopped> {
+    let count = fill_header(input, header)?;
+    convert_scan(input, &header[..count], row, out)
 }
 
 fn convert_scan(
-    rt: HostRuntime,
-    file: &Source,
-    name: &[u8],
+    input: &Input,
     header: &[u8],
-    row: &mut [u8],
-    out: &mut [u8],
-)
-    requires header_held { HeaderHeld header.now }
-    requires in_bounds { 8192 ≤ length row.old }
-    requires in_bounds_2 { 7178 ≤ length out.old }
+    row: &mut [u8; 8192],
+    out: &mut [u8; 7178],
+) -> Result<(), Stopped>
+    requires { HeaderHeld header.now }
 {
     let image = fits_header(header, out);
     let number = image.number;
     if number != 0 {
-        end(rt, header, b"", number, 0, 0);
-        return;
+        end(input.program, header, b"", number, 0, 0);
+        return Ok(());
     }
-    let count = image.count as usize;
-    if print_table(rt, header, &out[..count]) {
-        convert_image(rt, file, name, header, image, row, out);
-    }
+    print_table(input.program, header, &out[..image.count as usize])?;
+    convert_image(input, Scan { header, image }, row, out)
 }
 
 // The rows of a header that is accepted.
 fn convert_image(
-    rt: HostRuntime,
-    file: &Source,
-    name: &[u8],
-    header: &[u8],
-    image: ImageHeader,
-    row: &mut [u8],
-    out: &mut [u8],
-)
-    requires image_stands { ImageStands header.now image }
-    requires in_bounds { 8192 ≤ length row.old }
-    requires in_bounds_2 { 7178 ≤ length out.old }
-{
-    let done = convert_rows(rt, file, name, header, image, row, out);
-    if done.failed {
-        return;
+    input: &Input,
+    scan: Scan,
+    row: &mut [u8; 8192],
+    out: &mut [u8; 7178],
+) -> Result<(), Stopped> {
+    match convert_rows(input, scan, row, out)? {
+        Ok(rows) => end(input.program, scan.header, b"", 0, 0, rows),
+        Err(RowFault { number, rows, held }) => {
+            end(input.program, scan.header, &row[..held], 0, number, rows);
+        }
     }
-    let held = done.held;
-    end(rt, header, &row[..held], 0, done.number, done.rows);
+    Ok(())
 }
 
 // Writes the table's record, the first of the sheet.
-fn print_table(rt: HostRuntime, header: &[u8], bytes: &[u8]) -> bool
+fn print_table(program: Program, header: &[u8], bytes: &[u8]) -> Result<(), Unwritten>
     requires { FirstRecord header.now bytes.now }
 {
-    print(rt, &PROGRAM, bytes)
+    program.print(bytes)
 }

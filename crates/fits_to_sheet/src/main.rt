@@ -4,51 +4,21 @@
 #![tactic(auto)]
 
 mod convert;
-mod files;
 mod header;
 mod rows;
+mod scan;
 mod verdict;
 
-use command::say::{complain, print_version, refuse_option};
-use command::{Request, read_request};
-use files::convert_files;
-use std::io;
-use std::io::Print;
-
-pub const PROGRAM: [u8; 13] = *b"fits_to_sheet";
+use command::files::Files;
+use command::program::Program;
+use convert::convert_input;
 
 fn main(rt: HostRuntime) {
-    match read_request(rt) {
-        Request::Help => print_help(rt),
-        Request::Version => print_program(rt),
-        Request::Unknown(i) => refuse(rt, i),
-        Request::Files(files) => convert_files(rt, files),
-    }
-}
-
-fn print_help(rt: HostRuntime) {
-    if let Err(e) = help(&rt.stdout()) {
-        complain(rt, &PROGRAM, b"standard output", e);
-    }
-}
-
-fn print_program(rt: HostRuntime) {
-    print_version(rt, &PROGRAM);
-}
-
-fn refuse(rt: HostRuntime, i: usize) {
-    refuse_option(rt, &PROGRAM, i);
-    say_help(rt);
-}
-
-// The same on standard error.
-pub fn say_help(rt: HostRuntime) {
-    let _ = help(&rt.stderr());
-}
-
-pub fn help(to: &impl Print) -> io::Result<()> {
-    to.write_all(
-        b"usage: fits_to_sheet [FILE]
+    let program = Program {
+        rt,
+        name: b"fits_to_sheet",
+        usage: b"",
+        help: b"usage: fits_to_sheet [FILE]
 
 Turns a scan, a FITS image of two axes and 16-bit pixels from 0 to 4095, into a
 sheet on standard output, a row at a time. How it ended is the last line on
@@ -60,5 +30,15 @@ where FILE is -, it reads standard input.
   --version  prints the version
   --         ends the options
 ",
-    )
+    };
+    if let Some(files) = program.files() {
+        convert_files(program, files);
+    }
+}
+
+// A sheet holds one image.
+fn convert_files(program: Program, files: Files) {
+    if program.takes_one(files, 0) {
+        program.with_input(files.word(0), |input| convert_input(input));
+    }
 }

@@ -5,46 +5,15 @@
 mod list;
 mod words;
 
-use command::say::{complain, print_version, refuse_option};
-use command::{Request, read_request};
-use std::io;
-use std::io::Print;
+use command::program::Program;
 use words::list_words;
 
-pub const PROGRAM: [u8; 8] = *b"list_map";
-
 fn main(rt: HostRuntime) {
-    match read_request(rt) {
-        Request::Help => print_help(rt),
-        Request::Version => print_program(rt),
-        Request::Unknown(i) => refuse(rt, i),
-        Request::Files(words) => list_words(rt, words),
-    }
-}
-
-fn print_help(rt: HostRuntime) {
-    if let Err(e) = help(&rt.stdout()) {
-        complain(rt, &PROGRAM, b"standard output", e);
-    }
-}
-
-fn print_program(rt: HostRuntime) {
-    print_version(rt, &PROGRAM);
-}
-
-fn refuse(rt: HostRuntime, i: usize) {
-    refuse_option(rt, &PROGRAM, i);
-    say_help(rt);
-}
-
-// The same on standard error.
-pub fn say_help(rt: HostRuntime) {
-    let _ = help(&rt.stderr());
-}
-
-pub fn help(to: &impl Print) -> io::Result<()> {
-    to.write_all(
-        b"usage: list_map GROUP TOTAL [FILE]
+    let program = Program {
+        rt,
+        name: b"list_map",
+        usage: b"",
+        help: b"usage: list_map GROUP TOTAL [FILE]
 
 Lists the counts of a pressure mat map, 128 lines of 128, and says at the end
 how many bits they took, or by which rule the map is refused. GROUP is the
@@ -55,5 +24,8 @@ no FILE, and where FILE is -, it reads standard input.
   --version  prints the version
   --         ends the options
 ",
-    )
+    };
+    if let Some(words) = program.files() {
+        list_words(program, words);
+    }
 }

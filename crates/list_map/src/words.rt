@@ -1,73 +1,34 @@
 // The words of a command line: a group size, a total and one file at most.
 use crate::list::list_input;
-use crate::{PROGRAM, say_help};
-use command::number::number_at;
-use command::say::hint;
-use command::{Files, close, count_files, open, place_of, word_at};
-use text::read::Decimal;
+use command::files::Files;
+use command::program::Program;
 
-pub fn list_words(rt: HostRuntime, words: Files) {
-    let count = count_files(words);
-    if count < 2 {
-        refuse_fewer(rt);
+pub fn list_words(program: Program, words: Files) {
+    if words.count() < 2 {
+        program.refuse_use(b"GROUP and TOTAL", b"both are needed");
         return;
     }
-    if 3 < count {
-        refuse_more(rt, words);
+    if !program.takes_one(words, 2) {
         return;
     }
-    let read = number_at(
-        rt,
-        &PROGRAM,
-        place_of(words, 0),
+    match read_numbers(program, words) {
+        Some((group, total)) => {
+            program.with_input(words.word(2), |input| list_input(input, group, total));
+        }
+        None => program.say_help(),
+    }
+}
+
+fn read_numbers(program: Program, words: Files) -> Option<(u32, u64)> {
+    let group = program.number_at(
+        words.place_of(0),
         4294967295,
         b"GROUP is to be a decimal number of at most 32 bits",
-    );
-    let Decimal::Number(group) = read else {
-        say_help(rt);
-        return;
-    };
-    list_group(rt, words, count, group as u32);
-}
-
-// The same with its group size.
-fn list_group(rt: HostRuntime, words: Files, count: usize, group: u32) {
-    let read = number_at(
-        rt,
-        &PROGRAM,
-        place_of(words, 1),
+    )?;
+    let total = program.number_at(
+        words.place_of(1),
         u64::MAX,
         b"TOTAL is to be a decimal number of at most 64 bits",
-    );
-    let Decimal::Number(total) = read else {
-        say_help(rt);
-        return;
-    };
-    if count == 2 {
-        list_file(rt, b"-", group, total);
-        return;
-    }
-    let mut word = [0u8; 4096];
-    let n = word_at(rt, place_of(words, 2), &mut word);
-    list_file(rt, &word[..n], group, total);
-}
-
-fn refuse_fewer(rt: HostRuntime) {
-    hint(rt, &PROGRAM, b"GROUP and TOTAL", b"both are needed");
-    say_help(rt);
-}
-
-fn refuse_more(rt: HostRuntime, words: Files) {
-    let mut word = [0u8; 4096];
-    let n = word_at(rt, place_of(words, 3), &mut word);
-    hint(rt, &PROGRAM, &word[..n], b"only one file is taken");
-    say_help(rt);
-}
-
-fn list_file(rt: HostRuntime, name: &[u8], group: u32, total: u64) {
-    let Some(file) = open(rt, &PROGRAM, name) else {
-        return;
-    };
-    list_input(rt, &file, name, group, total);
-    close(file);
+    )?;
+    Some((group as u32, total))
 }

@@ -1,6 +1,6 @@
 -- What a turn of the lister does, by value: the record's bytes, the table and the line stand in lent memory. sheet_listing's
 -- `turns-listing` says that such turns make the listing. Definitions only. Assumes nothing.
-use Rattle.std.specs.Prelude.{ℕ, ◌≡◌, true, false, List, length, take}
+use Rattle.std.specs.Prelude.{ℕ, ◌≡◌, true, List, length, take}
 use Rattle.sheet_format.specs.Stream.{held_of}
 use Rattle.sheet_listing.specs.Line.{last_line}
 use Rattle.sheet_listing.specs.Turns.{Turned, turn_of}
@@ -16,7 +16,7 @@ turned_by t table line = record { line = take t.count line; last = t.last; next 
 -- the last turn: the line with such a number and bit
 abbrev pub end_turn : ℕ → ℕ → ℕ → SheetProgress → Turn
 end_turn taken number bit p =
-    record { failed = false; last = true; taken = taken; count = length (last_line number bit p.index p.rows); next = p }
+    record { last = true; taken = taken; count = length (last_line number bit p.index p.rows); next = p }
 
 -- with the bytes b, which are what is held of a record, the turn was made that the definition has
 pub record TurnMade (b : List ℕ) (p : SheetProgress) (table : List ℕ) (t : Turn) (table' line' : List ℕ) : Type 0 where

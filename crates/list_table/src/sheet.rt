@@ -14,6 +14,5 @@ pub fn begins_sheet(bytes: &[u8]) -> bool
         has_table: 0,
         least_row: 0,
     };
-    let read = judge_record(&bytes[..0], bytes, state);
-    read.number == 0
+    judge_record(b"", bytes, state).number == 0
 }

@@ -1,8 +1,6 @@
 -- Counts from text: in decimal, each at most 65535, with blanks, tabs, carriage returns and newlines between them. A line that begins
 -- with `done` ends the text. b is a byte, s a text. Definitions only; their laws are in Scan/Laws.antt. Assumes nothing.
-use Rattle.std.specs.Prelude.{ℕ, Bool, true, false, cond, List, [], ◌∷◌, ◌++◌, eqb}
-use Rattle.text.specs.declared.read.Decimal.{Decimal}
-use Rattle.text.specs.declared.read.Decimal.TheVariants.{Number, NoNumber}
+use Rattle.std.specs.Prelude.{ℕ, Option, Some, None, Bool, true, false, cond, List, [], ◌∷◌, ◌++◌, eqb}
 use Rattle.text.specs.Number.{is_digit, with_digit}
 use Rattle.map_text.specs.declared.scan.Scan.{Scan}
 use Rattle.map_text.specs.declared.scan.Scan.TheVariants.{Line, Gap, Count, D, Do, Don, Ended, Fault}
@@ -18,9 +16,9 @@ unfoldable pub is_space : ℕ → Bool
 is_space b = cond (eqb b 10) true (is_gap b)
 
 -- ---- where a text has come to after a byte
-abbrev pub scan_of : Decimal → Scan
-scan_of (Number v) = Count v
-scan_of NoNumber = Fault
+abbrev pub scan_of : Option ℕ → Scan
+scan_of (Some v) = Count v
+scan_of None = Fault
 
 -- after a count with the digits of v so far, or between counts, where v is 0
 unfoldable pub with_byte : ℕ → ℕ → Scan

@@ -35,10 +35,8 @@ pub fn take_block(block: &[u8], counts: &mut [u8], taken: Taken) -> Taken
         → Held (xs ++ counts_from taken.scan block.now) result.count counts.new }
 {
     let mut at = taken;
-    let mut i = 0;
-    while i < block.len() {
-        at = take_byte(block[i], counts, at);
-        i += 1;
+    for b in block {
+        at = take_byte(*b, counts, at);
     }
     at
 }

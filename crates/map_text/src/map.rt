@@ -9,7 +9,7 @@ use text::line::put_refused_line;
 use text::number::put_field;
 use text::put::put_bytes;
 
-// What reading a map comes to, as text: the number that refuses it, or its counts and the bits that they used.
+// What reading a map comes to, as text: the number that refuses it, or its counts and the bits that they used, as the call for C answers.
 pub fn put_listing(out: &mut [u8], counts: &[u8], number: u32, bits: u32) -> usize
     requires in_bounds { 98432 ≤ length out.old }
     requires in_bounds_2 { 16384 ≤ length counts.now / 2 }
@@ -41,10 +41,8 @@ fn put_map(out: &mut [u8], counts: &[u8]) -> usize
     ensures most { result ≤ 98304 }
 {
     let mut next = 0;
-    let mut row = 0;
-    while row < 128 {
+    for row in 0..128 {
         next = put_row(out, next, counts, 128 * row);
-        row += 1;
     }
     next
 }

@@ -18,10 +18,8 @@ pub fn put_spaced(out: &mut [u8], at: usize, counts: &[u8], first: usize, n: usi
     ensures most { result ≤ at + 6 * n }
 {
     let mut next = at;
-    let mut i = 0;
-    while i < n {
+    for i in 0..n {
         next = put_count(out, next, b" ", counts, first + i);
-        i += 1;
     }
     next
 }

@@ -1,4 +1,4 @@
--- Laws of counts in bytes. Assumes nothing.
+-- Laws of refusals, and of counts in bytes. Assumes nothing.
 use Prim.Native.Nat.{ℕ, ◌+◌, ◌*◌, ◌/◌, ◌≤◌, ◌<◌}
 use native.Mathlib.Omega.{arith}
 use mathlib.Core.Path.{◌≡◌, sym, ap, ◌∙◌}
@@ -8,6 +8,13 @@ use lib.Seq.{take_at, drop_at, length-take-le}
 use Rattle.bitstream.specs.Bits.{cut, flat, bits_of, halves_of}
 use Rattle.bitstream.specs.Bits.Laws.{below-cut, below-flat, cut-append, flat_append, length-flat}
 use Rattle.row_pixels.specs.Laws.{length-halves}
+use Rattle.answer.specs.declared.refusal.Refusal.{Refusal}
+use Rattle.mat_map.specs.Step.{Groups}
+use Rattle.answer.specs.Refusal.{refusal_number}
+use Rattle.answer.specs.Refusal.Laws.{refusal_not_done}
+
+pub not_done : (e : Refusal) → refusal_number e ≡ 0 → ⊥
+not_done e z = absurd (omega (arith, refusal_not_done e, z))
 
 -- a count has 16 bits
 pub halves-low : (s : List ℕ) (i : ℕ) {x : ℕ} → x ≡ get_or (halves_of s) i 0 → x < 65536
@@ -39,3 +46,8 @@ module _ (n : ℕ) (s : List ℕ) (h : 2 * n ≤ length s) where
 
   pub halves-drop : halves_of (drop (2 * n) s) ≡ drop n (halves_of s)
   halves-drop = sym (ap (drop n) split ∙ drop_at (halves_of (take (2 * n) s)) (halves_of (drop (2 * n) s)) n count)
+
+-- ---- a turn by other names for what is left and where
+pub groups-named : {b : List ℕ} {k : ℕ} {l : List ℕ} {left place at photons : ℕ} → Groups b k l left place at photons
+    → (left' place' : ℕ) → left ≡ left' → place ≡ place' → Groups b k l left' place' at photons
+groups-named q left' place' e f = rw (← e, ← f) q

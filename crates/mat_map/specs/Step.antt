@@ -1,5 +1,5 @@
 -- What the code's steps of reading are, against the definitions. b is the bits of a map's bytes. Definitions only. Assumes nothing.
-use Rattle.std.specs.Prelude.{ℕ, zero, suc, ◌+◌, ◌-◌, ◌*◌, ◌^◌, ◌≤◌, ◌<◌, ◌≡◌, not, cond, List, ◌++◌, length, take, drop, replicate, eqb}
+use Rattle.std.specs.Prelude.{ℕ, zero, suc, Result, Ok, Err, ◌+◌, ◌-◌, ◌*◌, ◌^◌, ◌≤◌, ◌<◌, ◌≡◌, not, cond, List, ◌++◌, length, take, drop, replicate, eqb}
 use Rattle.answer.specs.Outcome.{◌or_else◌, refuse_if}
 use Rattle.map_format.specs.Reading.{
   Parse,
@@ -20,6 +20,8 @@ use Rattle.map_format.specs.Reading.{
   read_groups,
 }
 use Rattle.map_format.specs.Calls.{map_groups}
+use Rattle.answer.specs.declared.refusal.Refusal.{Refusal}
+use Rattle.answer.specs.Refusal.{refusal_number}
 use Rattle.mat_map.specs.declared.field.Step.{Step}
 pub mod Laws
 pub mod Memory
@@ -29,15 +31,27 @@ pub mod Group
 pub mod GroupAhead
 pub mod Map
 
+-- what a step of reading comes to: its number, and where it is 0 what was read, a field, a pixel, the photons of a group or of groups,
+-- and the bit place after it
+pub record Stepped : Type 0 where
+  pub number : ℕ
+  pub value : ℕ
+  pub next : ℕ
+
+-- what the code gives, as that
+abbrev pub as_stepped : Result Step Refusal → Stepped
+as_stepped (Ok x) = record { number = 0; value = x.value; next = x.next }
+as_stepped (Err e) = record { number = refusal_number e; value = 0; next = 0 }
+
 -- a step that went on: v was read, the next bit is inside and not too far, and the code's value is low enough for its sums
-pub record Goes {A : Type 0} (b : List ℕ) (far top : ℕ) (p : Parse A) (v : A) (x : Step) : Type 0 where
+pub record Goes {A : Type 0} (b : List ℕ) (far top : ℕ) (p : Parse A) (v : A) (x : Stepped) : Type 0 where
   pub read : p ≡ got v (drop x.next b)
   pub inside : x.next ≤ length b
   pub near : x.next ≤ far
   pub low : x.value < top
 
 -- the code's answer x to what reading comes to, p
-pub record StepReads {A : Type 0} (b : List ℕ) (far top : ℕ) (p : Parse A) (v : A) (x : Step) : Type 0 where
+pub record StepReads {A : Type 0} (b : List ℕ) (far top : ℕ) (p : Parse A) (v : A) (x : Stepped) : Type 0 where
   pub stopped : (x.number ≡ 0 → ⊥) → p ≡ stops x.number
   pub goes : x.number ≡ 0 → Goes b far top p v x
 
@@ -77,7 +91,7 @@ pub record Around (place n : ℕ) (l l' : List ℕ) : Type 0 where
   pub back : drop (place + n) l' ≡ drop (place + n) l
 
 -- and these n are what was read, with their photons as the value
-pub record Stored (b : List ℕ) (far : ℕ) (p : Parse (List ℕ)) (place n : ℕ) (l l' : List ℕ) (x : Step) : Type 0 where
+pub record Stored (b : List ℕ) (far : ℕ) (p : Parse (List ℕ)) (place n : ℕ) (l l' : List ℕ) (x : Stepped) : Type 0 where
   pub reads : StepReads b far (65535 * n + 1) p (part place n l') x
   pub photons : x.number ≡ 0 → x.value ≡ sum (part place n l')
   pub around : Around place n l l'
@@ -121,5 +135,5 @@ pub record Groups (b : List ℕ) (k : ℕ) (l : List ℕ) (left place at photons
   pub inside : 0 < place → at ≤ length b
 
 -- ---- the number of all groups: "21 last"
-abbrev pub judged_number : ℕ → Step → ℕ
+abbrev pub judged_number : ℕ → Stepped → ℕ
 judged_number total x = x.number or_else refuse_if (not (eqb x.value total)) 21

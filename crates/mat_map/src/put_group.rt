@@ -67,6 +67,7 @@ fn position_of(group: &[u8], m: u32) -> u64
 {
     // i      the pixel looked at, x its photons
     // left   the photons from pixel i on that come before photon m
+    // No `for`: the photon ends the search, and one over the pixels would go on to an end that is never reached.
     let mut i = 0;
     let mut left = m;
     let mut x = pixel_at(group, 0);

@@ -11,14 +11,10 @@ pub fn put_pixels(out: &mut [u8], w: MsbWriter, group: &[u8]) -> MsbWriter
     requires { Room out.old w (pixels_bits (halves_of group.now)) }
     ensures { Puts out.old w (pixels_bits (halves_of group.now)) out.new result }
 {
-    let n = group.len() / 2;
     // v      holds what w holds, and the first i pixels
     let mut v = w;
-    let mut i = 0;
-    while i < n {
-        let x = pixel_at(group, i);
-        v = put_pixel(out, v, x);
-        i += 1;
+    for i in 0..group.len() / 2 {
+        v = put_pixel(out, v, pixel_at(group, i));
     }
     v
 }

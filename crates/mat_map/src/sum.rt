@@ -9,12 +9,9 @@ pub fn photons(group: &[u8]) -> u32
     requires { length group.now / 2 ≤ 16 }
     ensures { result ≡ sum (halves_of group.now) }
 {
-    let n = group.len() / 2;
     let mut total = 0;
-    let mut i = 0;
-    while i < n {
+    for i in 0..group.len() / 2 {
         total += pixel_at(group, i);
-        i += 1;
     }
     total
 }

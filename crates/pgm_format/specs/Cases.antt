@@ -8,9 +8,8 @@ use Rattle.sheet_format.specs.Sheet.{StoredRow, heights_of}
 use Rattle.sheet_format.specs.Size.{rows_width, rows_height}
 use Rattle.fits_format.specs.Card.{digits_value}
 use Rattle.fits_format.specs.Image.{number_at, big_endian}
-use Rattle.pgm_format.specs.declared.PgmHeader.{PgmHeader}
 use Rattle.pgm_format.specs.Header.{pgm_front, is_blank, ends_line, separates, comments, gap_from, digit_bytes, field_value, field_bytes}
-use Rattle.pgm_format.specs.Header.{fields_number, front_number, no_pgm, front_read, pgm_header}
+use Rattle.pgm_format.specs.Header.{PgmRead, fields_number, front_number, no_pgm, front_read, pgm_header}
 use Rattle.pgm_format.specs.Samples.{samples_of}
 use Rattle.pgm_format.specs.Shape.{row_missing, row_unequal, fault_from, sheet_fault, padded_lines, sheet_lines}
 use Rattle.pgm_format.specs.Shape.{no_padding, pad_with, no_heights, at_fault, sheet_pgm}
@@ -23,7 +22,7 @@ front-case = refl
 -- a header's text, and what it is read as
 pub record PgmCase : Type 0 where
   pub text : List ℕ
-  pub read : PgmHeader
+  pub read : PgmRead
 
 abbrev accepted : String → ℕ → ℕ → ℕ → PgmCase
 accepted s w r start = record { text = ascii s; read = record { number = 0; width = w; rows = r; start = start } }

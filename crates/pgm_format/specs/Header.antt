@@ -1,8 +1,10 @@
 -- The header of a binary PGM, as it is written and as it is read: `P5`, then the samples of a row, the rows and the largest value in
 -- decimal, each after one separator or more, then one blank. s is the bytes of a file. Definitions only; their laws are in Header/.
 -- Assumes nothing.
-use Rattle.std.specs.Prelude.{ℕ, suc, ◌+◌, ◌≤◌, Bool, true, false, cond, not, List, [], ◌∷◌, ◌++◌, length, take, drop, get_or, ltb, eqb}
+use Rattle.std.specs.Prelude.{ℕ, suc, Result, Ok, Err, ◌+◌, ◌≤◌, Bool, true, false, cond, not, List, [], ◌∷◌, ◌++◌, length, take, drop, get_or, ltb, eqb}
 use Rattle.answer.specs.Outcome.{◌or_else◌, refuse_if, unless}
+use Rattle.answer.specs.declared.refusal.Refusal.{Refusal}
+use Rattle.answer.specs.Refusal.{refusal_number}
 use Rattle.text.specs.Text.{ascii, fields}
 use Rattle.text.specs.Number.{is_digit}
 use Rattle.text.specs.Same.{same_bytes}
@@ -88,22 +90,34 @@ front_number s =
     refuse_if (not (same_bytes (take 2 s) (ascii "P5"))) 17
     or_else fields_number (field_at 2 s) (field_at (rows_place s) s) (field_at (largest_place s) s) (is_blank (get_or s (blank_place s) 0))
 
-abbrev pub no_pgm : ℕ → PgmHeader
+-- what reading a header comes to: the number, and where it is 0 what the header says; a refusal has 0 for every value
+pub record PgmRead : Type 0 where
+  pub number : ℕ
+  pub width : ℕ
+  pub rows : ℕ
+  pub start : ℕ
+
+abbrev pub no_pgm : ℕ → PgmRead
 no_pgm e = record { number = e; width = 0; rows = 0; start = 0 }
 
-abbrev pub pgm_of : List ℕ → PgmHeader
+abbrev pub pgm_of : List ℕ → PgmRead
 pgm_of s = record { number = 0; width = field_at 2 s; rows = field_at (rows_place s) s; start = blank_place s + 1 }
 
 -- of bytes that the header is to end in
-unfoldable pub front_read : List ℕ → PgmHeader
+unfoldable pub front_read : List ℕ → PgmRead
 front_read s = unless (front_number s) no_pgm (pgm_of s)
 
 -- of a file: the header ends in its first 65536 bytes
-unfoldable pub pgm_header : List ℕ → PgmHeader
+unfoldable pub pgm_header : List ℕ → PgmRead
 pgm_header s = front_read (take 65536 s)
 
+-- what the call gives, as that
+abbrev pub as_pgm : Result PgmHeader Refusal → PgmRead
+as_pgm (Ok h) = record { number = 0; width = h.width; rows = h.rows; start = h.start }
+as_pgm (Err e) = no_pgm (refusal_number e)
+
 -- ---- what is to be true of a header that is accepted
-pub record PgmAccepted (s : List ℕ) (h : PgmHeader) : Type 0 where
+pub record PgmAccepted (s : List ℕ) (h : PgmRead) : Type 0 where
   pub width-least : 1 ≤ h.width
   pub width-most : h.width ≤ 4096
   pub rows-least : 1 ≤ h.rows

@@ -1,11 +1,9 @@
 // Heights as a binary PGM. The definitions are in specs/; here are the types and limits that the code shares.
 #![tactic(auto)]
 
-// What reading a header answers: the number, and where it is 0 the samples of a row, the rows, and the byte where the samples
-// start. A refusal has 0 for every value.
+// What a header that is accepted says: the samples of a row, the rows, and the byte where the samples start.
 #[derive(Clone, Copy)]
 pub struct PgmHeader {
-    pub number: u32,
     pub width: u32,
     pub rows: u32,
     pub start: u32,

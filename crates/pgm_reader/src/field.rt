@@ -6,7 +6,8 @@ use crate::gap::gap_bytes;
 use fits_reader::unsigned_digits;
 use text::read::is_digit;
 
-// value   the number up to MOST, which no header may have; 0 where there is none
+// value   the number up to MOST, which no header may have; 0 where there is none: both are refused alike, so that an Option would be
+//         told apart nowhere
 // end     the place behind its digits
 #[derive(Clone, Copy)]
 pub struct Field {
@@ -40,13 +41,5 @@ fn digit_bytes(s: &[u8]) -> usize
     ensures digits { result ≡ digit_bytes s.now }
     ensures within { result ≤ length s.now }
 {
-    let mut i = 0;
-    while i < s.len() {
-        if is_digit(s[i]) {
-            i += 1;
-        } else {
-            return i;
-        }
-    }
-    i
+    s.iter().position(|b| !is_digit(*b)).unwrap_or(s.len())
 }

@@ -2,48 +2,34 @@
 ghost use Rattle.std.specs.Prelude.{◌≡◌, false, ◌≤◌, length};
 ghost use Rattle.pgm_format.specs.Header.{is_blank, ends_line, separates, comments, gap_bytes};
 
+#[tactic(auto, unfolding(pgm_format::specs::Header::is_blank))]
 pub fn is_blank(b: u8) -> bool
     ensures { result ≡ is_blank b }
 {
-    if b == 32 {
-        return true;
-    }
-    if b < 9 {
-        return false;
-    }
-    b < 14
+    b == 32 || 9 <= b && b < 14
 }
 
+#[tactic(auto, unfolding(pgm_format::specs::Header::ends_line))]
 fn ends_line(b: u8) -> bool
     ensures { result ≡ ends_line b }
 {
-    if b == 10 {
-        return true;
-    }
-    b == 13
+    b == 10 || b == 13
 }
 
 // Whether a byte goes on with separators; `comment` says whether a comment is open before it.
+#[tactic(auto, unfolding(pgm_format::specs::Header::separates))]
 fn separates_at(comment: bool, b: u8) -> bool
     ensures { result ≡ separates comment b }
 {
-    if comment {
-        return true;
-    }
-    if b == b'#' {
-        return true;
-    }
-    is_blank(b)
+    comment || b == b'#' || is_blank(b)
 }
 
 // Whether a comment is open behind a byte.
+#[tactic(auto, unfolding(pgm_format::specs::Header::comments))]
 fn comments_after(comment: bool, b: u8) -> bool
     ensures { result ≡ comments comment b }
 {
-    if comment {
-        return !ends_line(b);
-    }
-    b == b'#'
+    if comment { !ends_line(b) } else { b == b'#' }
 }
 
 // How many bytes at the front are separators.
@@ -52,15 +38,11 @@ pub fn gap_bytes(s: &[u8]) -> usize
     ensures within { result ≤ length s.now }
 {
     let mut comment = false;
-    let mut i = 0;
-    while i < s.len() {
-        let b = s[i];
-        if separates_at(comment, b) {
-            comment = comments_after(comment, b);
-            i += 1;
-        } else {
+    for (i, b) in s.iter().enumerate() {
+        if !separates_at(comment, *b) {
             return i;
         }
+        comment = comments_after(comment, *b);
     }
-    i
+    s.len()
 }

@@ -25,11 +25,8 @@ pub fn put_samples(out: &mut [u8], at: usize, pixels: &[u8]) -> usize
     ensures most { result ≤ at + length pixels.now }
 {
     let n = pixels.len() / 2;
-    let mut i = 0;
-    while i < n {
-        let height = pixel_at(pixels, i);
-        put_sample(out, at + 2 * i, height);
-        i += 1;
+    for i in 0..n {
+        put_sample(out, at + 2 * i, pixel_at(pixels, i));
     }
     at + 2 * n
 }

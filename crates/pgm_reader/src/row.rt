@@ -1,17 +1,20 @@
 // The row call.
 ghost use Rattle.std.specs.Prelude.{◌≡◌, length};
 ghost use Rattle.answer.specs.Outcome.{outcome};
+ghost use Rattle.answer.specs.Refusal.{result_number};
 ghost use Rattle.row_packer.specs.Known.{Known};
 ghost use Rattle.sheet_format.specs.Writing.{not_written};
 ghost use Rattle.pgm_format.specs.Conversion.{before_samples, pgm_row};
 
+use answer::refusal::Refusal;
 use fits_reader::copy_pixels;
+use pgm_format::MAX_WIDTH;
 use sheet_format::{RecordWritten, SheetState};
 use sheet_writer::write_packed;
 
 // Writes the record of one row of a picture to the front of `out`: `samples` is the picture's bytes from this row on, of which the
 // row's are looked at. `table` and `state` are as the record writer takes them, and `most` is what is known of the table: 0 for
-// nothing. Refused 17, 11, 18, and then by the record writer's numbers, with the memory as it was.
+// nothing. Refused 17, 11, 18, and then by the record writer's numbers, as C has them, and so is the answer; the memory is as it was.
 pub fn pgm_row(
     width: u32,
     row: u32,
@@ -24,27 +27,27 @@ pub fn pgm_row(
     requires { Known most table.now }
     ensures { outcome result out.new ≡ pgm_row width row table.now state samples.now out.old }
 {
-    let number = row_number(width, samples.len());
-    if number != 0 {
-        return refused(number);
+    if let Err(refusal) = judge(width, samples.len()) {
+        return refused(refusal.number());
     }
     write_row(width as usize, row, table, most, state, samples, out)
 }
 
 // The refusals before a sample is looked at.
-fn row_number(width: u32, bytes: usize) -> u32
-    ensures { result ≡ before_samples width bytes }
+#[tactic(auto, unfolding(pgm_format::specs::Conversion::before_samples))]
+fn judge(width: u32, bytes: usize) -> Result<(), Refusal>
+    ensures { result_number result ≡ before_samples width bytes }
 {
     if width < 1 {
-        return 17;
+        return Err(Refusal::FitsHeader);
     }
-    if 4096 < width {
-        return 11;
+    if MAX_WIDTH < width {
+        return Err(Refusal::TooMany);
     }
     if bytes < 2 * width as usize {
-        return 18;
+        return Err(Refusal::ImageEnd);
     }
-    0
+    Ok(())
 }
 
 fn refused(number: u32) -> RecordWritten

@@ -1,15 +1,15 @@
 -- A picture as a program converts it that holds the front of a file and one row at a time: what it holds, what it may write with that,
 -- and how it ends. Each is said by what converting the bytes that were taken comes to (pgm_format, `pgm_conversion`); tb is the table's
 -- bytes. Definitions only. Assumes nothing.
-use Rattle.std.specs.Prelude.{ℕ, ◌+◌, ◌*◌, ◌≤◌, ◌<◌, min, ◌≡◌, List, [], ◌++◌, length, take, drop}
+use Rattle.std.specs.Prelude.{ℕ, ◌+◌, ◌*◌, ◌≤◌, ◌<◌, min, ◌≡◌, List, [], ◌++◌, length, take, drop, Result, Ok, Err}
 use Rattle.answer.specs.Outcome.{unless, answer_of}
 use Rattle.row_format.specs.Calls.{checked}
 use Rattle.fits_format.specs.Conversion.{row_at}
 use Rattle.fits_reader.specs.Verdict.{verdict_line}
 use Rattle.pgm_format.specs.declared.PgmHeader.{PgmHeader}
-use Rattle.pgm_format.specs.Header.{pgm_header}
+use Rattle.pgm_format.specs.Header.{pgm_header, as_pgm}
 use Rattle.pgm_format.specs.Conversion.{line_refusal, line_record, pgm_conversion}
-use Rattle.pgm_to_sheet.specs.declared.rows.RowTurn.{RowTurn}
+use Rattle.pgm_to_sheet.specs.declared.rows.RowFault.{RowFault}
 pub mod Front
 pub mod Laws
 pub mod Calls
@@ -33,8 +33,7 @@ header_bytes front = let h = pgm_header front in unless h.number (λ e. front) (
 -- the table is accepted, its longest item has so many bits, and h is what the front says of the picture
 pub record PictureStands (tb : List ℕ) (most : ℕ) (front : List ℕ) (h : PgmHeader) : Type 0 where
   pub table : checked tb ≡ answer_of 0 most
-  pub header : h ≡ pgm_header front
-  pub accepted : h.number ≡ 0
+  pub header : as_pgm (Ok h) ≡ pgm_header front
 
 -- r rows were taken behind the header, and none is refused; image is their bytes
 pub record LinesTaken (front image : List ℕ) (r : ℕ) : Type 0 where
@@ -88,7 +87,22 @@ pub record LinesBefore (front : List ℕ) (r : ℕ) : Type 0 where
   pub image : List ℕ
   pub taken : LinesTaken front image r
 
--- a row as its turn has it: what its call answered with the bytes that are held
-pub record LineMade (tb : List ℕ) (w r : ℕ) (held : List ℕ) (x : RowTurn) (out : List ℕ) : Type 0 where
-  pub number : x.number ≡ line_refusal w held
-  pub bytes : x.number ≡ 0 → take x.count out ≡ line_record tb w r held
+-- a row as its turn has it: what its call answered with the bytes that are held, the record's bytes or the number that refuses it
+pub record LineWritten (tb : List ℕ) (w r : ℕ) (held : List ℕ) (count : ℕ) (out : List ℕ) : Type 0 where
+  pub number : line_refusal w held ≡ 0
+  pub bytes : take count out ≡ line_record tb w r held
+  pub within : count ≤ length out
+
+pub record LineRefused (w : ℕ) (held : List ℕ) (number : ℕ) : Type 0 where
+  pub is : number ≡ line_refusal w held
+  pub some : number ≡ 0 → ⊥
+
+abbrev pub LineMade : List ℕ → ℕ → ℕ → List ℕ → Result ℕ ℕ → List ℕ → Type 0
+LineMade tb w r held (Ok count) out = LineWritten tb w r held count out
+LineMade tb w r held (Err number) out = LineRefused w held number
+
+-- all rows are written, or one is refused, whose bytes are the first of row
+abbrev pub LinesEnded : List ℕ → List ℕ → List ℕ → Result ℕ RowFault → Type 0
+LinesEnded tb front row (Ok rows) = PictureEnded tb front [] 0 0 rows
+LinesEnded tb front row (Err fault) =
+    (fault.held ≤ 8192) × PictureEnded tb front (take fault.held row) 0 fault.number fault.rows

@@ -3,71 +3,36 @@ ghost use Rattle.std.specs.Prelude.{◌≤◌, length};
 
 use crate::convert::convert_input;
 use crate::table::fill_table;
-use crate::{PROGRAM, USAGE, say_help};
-use command::option::{count_words, value_of, word_place};
-use command::say::{hint, refuse_at};
-use command::{close, is_input, open, word_at};
+use command::program::Program;
 
 // The picture and the table cannot both come from standard input.
-pub fn take_words(rt: HostRuntime) {
-    let table = value_of(rt, &USAGE, b"--table");
-    if table != 0 {
-        if is_input(rt, table) {
-            if is_input(rt, word_place(rt, &USAGE, 0)) {
-                hint(
-                    rt,
-                    &PROGRAM,
-                    b"standard input",
-                    b"the picture and the table cannot both come from it",
-                );
-                say_help(rt);
-                return;
-            }
-        }
+pub fn take_words(program: Program) {
+    let table = program.value_of(b"--table");
+    if table.is_some() && program.is_input(table) && program.is_input(program.word_place(0)) {
+        program.refuse_use(
+            b"standard input",
+            b"the picture and the table cannot both come from it",
+        );
+        return;
     }
-    convert_words(rt);
+    if let Some(second) = program.word_place(1) {
+        program.refuse_at(second, b"only one file is taken");
+        program.say_help();
+        return;
+    }
+    convert_words(program, table);
 }
 
-fn convert_words(rt: HostRuntime) {
-    if 1 < count_words(rt, &USAGE) {
-        refuse_at(
-            rt,
-            &PROGRAM,
-            word_place(rt, &USAGE, 1),
-            b"only one file is taken",
-        );
-        say_help(rt);
-        return;
+fn convert_words(program: Program, table: Option<usize>) {
+    let mut bytes = [0u8; 32773];
+    if let Some(n) = fill_table(program, table, &mut bytes) {
+        convert_under(program, &bytes[..n]);
     }
-    let mut table = [0u8; 32773];
-    let filled = fill_table(rt, value_of(rt, &USAGE, b"--table"), &mut table);
-    if filled.failed {
-        return;
-    }
-    let n = filled.count;
-    convert_named(rt, &table[..n]);
 }
 
 // Under these bytes of a table.
-fn convert_named(rt: HostRuntime, table: &[u8])
+fn convert_under(program: Program, table: &[u8])
     requires { length table.now ≤ 32773 }
 {
-    let place = word_place(rt, &USAGE, 0);
-    if place == 0 {
-        convert_file(rt, b"-", table);
-        return;
-    }
-    let mut word = [0u8; 4096];
-    let n = word_at(rt, place, &mut word);
-    convert_file(rt, &word[..n], table);
-}
-
-fn convert_file(rt: HostRuntime, name: &[u8], table: &[u8])
-    requires { length table.now ≤ 32773 }
-{
-    let Some(file) = open(rt, &PROGRAM, name) else {
-        return;
-    };
-    convert_input(rt, &file, name, table);
-    close(file);
+    program.with_input(program.word_place(0), |input| convert_input(input, table));
 }

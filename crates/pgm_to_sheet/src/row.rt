@@ -1,41 +1,31 @@
 // The bytes of a row.
-ghost use Rattle.std.specs.Prelude.{◌≡◌, ◌+◌, ◌*◌, ◌≤◌, min, length, take, drop};
+ghost use Rattle.std.specs.Prelude.{◌≡◌, ◌≤◌, min, IfOk, IfErr, length, take, drop};
 ghost use Rattle.pgm_to_sheet.specs.Picture.{SpanHeld};
 
-use crate::PROGRAM;
 use bitstream::copy::copy;
-use command::input::{Filled, Source, fill};
-use pgm_format::PgmHeader;
-
-// The place of row r in the file.
-pub fn row_place(header: PgmHeader, r: u32) -> usize
-    requires width_bound { header.width ≤ 4096 }
-    requires r_bound { r ≤ 65536 }
-    requires start_bound { header.start ≤ 65536 }
-    ensures { result ≡ header.start + 2 * header.width * r }
-{
-    header.start as usize + 2 * header.width as usize * r as usize
-}
+use command::input::Input;
+use command::program::Unread;
 
 // A row of so many bytes: what the front has of it, and what is read.
 pub fn fill_row(
-    rt: HostRuntime,
-    file: &Source,
-    name: &[u8],
+    input: &Input,
     front: &[u8],
     place: usize,
     span: usize,
     row: &mut [u8],
-) -> Filled
+) -> Result<usize, Unread>
     requires { span ≤ length row.old }
-    ensures within { result.count ≤ span }
-    ensures held { SpanHeld (drop place front.now) (take result.count row.new) span }
+    ensures within { IfOk result (λ count. count ≤ span) }
+    ensures held { IfOk result (λ count. SpanHeld (drop place front.now) (take count row.new) span) }
+    ensures within_unread { IfErr result (λ unread. unread.count ≤ span) }
+    ensures held_unread { IfErr result (λ unread. SpanHeld (drop place front.now) (take unread.count row.new) span) }
 {
     let n = copy_rest(front, place, span, row);
-    let got = fill(rt, &PROGRAM, name, file, &mut row[n..span]);
-    Filled {
-        count: n + got.count,
-        failed: got.failed,
+    match input.fill(&mut row[n..span]) {
+        Ok(more) => Ok(n + more),
+        Err(unread) => Err(Unread {
+            count: n + unread.count,
+        }),
     }
 }
 
@@ -48,13 +38,7 @@ fn copy_rest(front: &[u8], place: usize, span: usize, row: &mut [u8]) -> usize
     if front.len() <= place {
         return 0;
     }
-    let n = lesser(span, front.len() - place);
+    let n = span.min(front.len() - place);
     copy(&front[place..], n, row);
     n
-}
-
-fn lesser(a: usize, b: usize) -> usize
-    ensures { result ≡ min a b }
-{
-    if a < b { a } else { b }
 }

@@ -30,9 +30,7 @@ fn free(s: &mut [u32], d: u32) -> bool
     if shortest(s) <= d {
         return false;
     }
-    let mid = split(s, d);
-    if free(&mut s[..mid], d + 1) {
-        return free(&mut s[mid..], d + 1);
-    }
-    false
+    let zeros = split(s, d);
+    let (low, high) = s.split_at_mut(zeros);
+    free(low, d + 1) && free(high, d + 1)
 }

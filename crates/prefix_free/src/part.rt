@@ -9,13 +9,9 @@ pub fn shortest(s: &[u32]) -> u32
     ensures { Shortest s.now (length s.now) result }
 {
     let mut least: u32 = 32;
-    let mut i = 0;
-    while i < s.len() {
-        let n = s[i] % 32;
-        if n < least {
-            least = n;
-        }
-        i += 1;
+    // no `min` over the words: its Option costs the check a tenth
+    for w in s {
+        least = least.min(w % 32);
     }
     least
 }
@@ -38,13 +34,12 @@ pub fn split(s: &mut [u32], d: u32) -> usize
 {
     // s[..zeros] have a 0 at bit d, s[zeros..i] a 1, and s[i..] are still to come
     let mut zeros: usize = 0;
-    let mut i = 0;
-    while i < s.len() {
+    for i in 0..s.len() {
+        // by hand: the library's `swap` first asks which place is the lower, two branches a turn
         let w = s[i];
         s[i] = s[zeros];
         s[zeros] = w;
         zeros += 1 - bit(w, d);
-        i += 1;
     }
     zeros
 }

@@ -5,8 +5,7 @@
 
 use code_table::plain::plain_table;
 use command::say::fail;
-use row_reader::reader::take_two;
-use row_reader::step::ItemRead;
+use row_reader::reader::Reader;
 use std::io::Print;
 use text::number::put_field;
 use text::put::put_bytes;
@@ -19,19 +18,23 @@ fn main(rt: HostRuntime) {
     print_items(rt, b"", &words);
 }
 
-fn print_items<'a>(rt: HostRuntime, table: &'a [u8], words: &'a [u8]) {
-    let taken = take_two(table, words);
-    print_item(rt, taken.first);
-    print_item(rt, taken.second);
+fn print_items(rt: HostRuntime, table: &[u8], words: &[u8]) {
+    let mut reader = Reader::open(table, words);
+    for _ in 0..2 {
+        let (number, pixel) = match reader.next() {
+            Ok(given) => (0, given.pixel),
+            Err(refusal) => (refusal.number(), 0),
+        };
+        print_item(rt, number, pixel, reader.place.at);
+    }
 }
 
-// One line: the number, the pixel, and the bit place after the item.
-fn print_item(rt: HostRuntime, x: ItemRead) {
+// One line: the number, the pixel, and the reader's bit place after it.
+fn print_item(rt: HostRuntime, number: u32, pixel: u32, at: usize) {
     let mut line = [0u8; 128];
-    let place = x.place;
-    let mut n = put_field(&mut line, 0, b"number ", x.number as u64);
-    n = put_field(&mut line, n, b" pixel ", x.pixel as u64);
-    n = put_field(&mut line, n, b" at ", place.at as u64);
+    let mut n = put_field(&mut line, 0, b"number ", number as u64);
+    n = put_field(&mut line, n, b" pixel ", pixel as u64);
+    n = put_field(&mut line, n, b" at ", at as u64);
     n = put_bytes(&mut line, n, b"\n");
     if let Err(e) = rt.stdout().write_all(&line[..n]) {
         fail(rt, b"standard output", e);

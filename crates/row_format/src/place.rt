@@ -6,10 +6,7 @@ ghost use Rattle.row_format.specs.Place.{has_place, place_shown};
 pub fn has_place(number: u32) -> bool
     ensures { result ≡ has_place number }
 {
-    if number < 6 {
-        return false;
-    }
-    number <= 10
+    6 <= number && number <= 10
 }
 
 // The place for these, 0 for every other number.

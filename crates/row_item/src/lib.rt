@@ -14,36 +14,39 @@ pub enum Item {
     Escape(u32),
 }
 
-// Whether a pixel of this row has become previous, and the previous height: 0 at the row's start.
+// Whether a pixel of this row has become previous, and the previous height: 0 at the row's start. No Option of the height: the
+// theorems `reader-impossible` and `next-impossible` speak of a place with a height before any pixel has become previous.
 #[derive(Clone, Copy)]
 pub struct Progress {
     pub begun: bool,
     pub previous: u32,
 }
 
-// At a row's start.
-pub fn start() -> Progress
-    ensures { result ≡ progress fresh }
-{
-    Progress {
-        begun: false,
-        previous: 0,
+impl Progress {
+    // At a row's start.
+    pub fn start() -> Progress
+        ensures { result ≡ progress fresh }
+    {
+        Progress {
+            begun: false,
+            previous: 0,
+        }
     }
-}
 
-// What a row has come to after an item that stands for `pixel`.
-pub fn after(p: Progress, item: Item, pixel: u32) -> Progress
-    ensures { Followed p item pixel result }
-{
-    let started = Progress {
-        begun: true,
-        previous: pixel,
-    };
-    match item {
-        Item::Difference(_) => started,
-        Item::BadPixel => p,
-        Item::BadBias => p,
-        // "only if no pixel of this row has yet become previous"
-        Item::Escape(_) => if p.begun { p } else { started },
+    // What a row has come to after an item that stands for `pixel`.
+    pub fn after(self, item: Item, pixel: u32) -> Progress
+        ensures { Followed self item pixel result }
+    {
+        let started = Progress {
+            begun: true,
+            previous: pixel,
+        };
+        match item {
+            Item::Difference(_) => started,
+            Item::BadPixel => self,
+            Item::BadBias => self,
+            // "only if no pixel of this row has yet become previous"
+            Item::Escape(_) => if self.begun { self } else { started },
+        }
     }
 }

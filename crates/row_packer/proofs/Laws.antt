@@ -3,19 +3,19 @@ use Prim.Native.Nat.{ℕ, ◌+◌, ◌*◌, ◌/◌, ◌≤◌, ◌<◌}
 use native.Mathlib.Nat.{mul-le-mul_left}
 use native.Mathlib.Omega.{arith}
 use mathlib.Core.Path.{◌≡◌, sym, ap, ◌∙◌}
-use mathlib.Core.Bool.{true, false}
+use mathlib.Core.Bool.{Bool, true, false}
 use mathlib.Core.List.{List}
 use lib.ListN.{length}
 use lib.Dec.{ltb}
 use borrow.Author.Tests.{lt-ltb, le-ltb, ltb-false}
 use Rattle.bitstream.specs.Bits.{words_of, halves_of, words_for}
 use Rattle.answer.specs.declared.Answer.{Answer}
-use Rattle.answer.specs.Outcome.{answer_of, refusal, refused, outcome}
-use Rattle.answer.specs.Outcome.Laws.{unless-refused, unless-first}
+use Rattle.answer.specs.Outcome.{Outcome, ◌or_else◌, refuse_if, unless, lent, room_number, answer_of, refusal, refused, outcome}
+use Rattle.answer.specs.Outcome.Laws.{or_else-assoc, unless-refused, unless-first}
 use Rattle.row_format.specs.Lists.{any}
 use Rattle.row_format.specs.Table.{table_number, max_item_bits}
 use Rattle.row_format.specs.Table.Laws.{max_item_bits-most, accepted-table}
-use Rattle.row_format.specs.Row.{row_bits}
+use Rattle.row_format.specs.Row.{row_bits, too_many, too_high}
 use Rattle.row_format.specs.Calls.{checked, pack_number, packed_row, packed, room}
 use Rattle.row_format.proofs.Calls.Laws.{answer-number}
 use Rattle.code_table.specs.Check.Laws.{length-words}
@@ -58,26 +58,42 @@ packed-table tb pb m is n =
 abbrev pub words : List ℕ → List ℕ → ℕ
 words tb pb = words_for (length (row_bits (words_of tb) (halves_of pb)))
 
-module _ (tb pb m : List ℕ) (table : table_number tb ≡ 0) where
+-- ---- the row
+-- what refuses it
+abbrev pub row_number : List ℕ → ℕ
+row_number ps = too_many (length ps) or_else too_high ps
+
+module _ (pb : List ℕ) where
   -- 11
-  pub packed-many : 4096 < length pb / 2 → outcome (answer_of 11 0) m ≡ packed tb pb m
-  unfolding packed pack_number
-  packed-many h = rw (table, lt-ltb 4096 (length (halves_of pb)) (inside-halves pb h))
+  pub judged-many : 4096 < length pb / 2 → 11 ≡ row_number (halves_of pb)
+  judged-many h = rw (lt-ltb 4096 (length (halves_of pb)) (inside-halves pb h))
 
   module _ (few : length pb / 2 ≤ 4096) where
     few-pixels : ltb 4096 (length (halves_of pb)) ≡ false
     few-pixels = le-ltb 4096 (length (halves_of pb)) (past-halves pb few)
 
-    -- 4
-    pub packed_above : true ≡ any (ltb 4095) (halves_of pb) → outcome (answer_of 4 0) m ≡ packed tb pb m
-    unfolding packed pack_number
-    packed_above e = rw (table, few-pixels, ← e)
+    -- 4, or none
+    pub judged : {above : Bool} → above ≡ any (ltb 4095) (halves_of pb) → refuse_if above 4 ≡ row_number (halves_of pb)
+    judged e = rw (few-pixels, e)
 
-    module _ (none_above : false ≡ any (ltb 4095) (halves_of pb)) where
+module _ (tb pb m : List ℕ) (table : table_number tb ≡ 0) where
+  -- 11, 4
+  pub packed-judged : {n : ℕ} → n ≡ row_number (halves_of pb) → (n ≡ 0 → ⊥) → outcome (answer_of n 0) m ≡ packed tb pb m
+  unfolding packed pack_number
+  packed-judged {n} is h =
+      let ps = halves_of pb in
+      let room_left = room_number (lent (length m / 4)) (words tb pb) in
+      let first : table_number tb or_else too_many (length ps) or_else too_high ps or_else room_left ≡ n or_else room_left =
+      rw (table, is) (sym (or_else-assoc (too_many (length ps)) (too_high ps) room_left)) in
+      sym (ap (λ (k : ℕ). unless k (λ e. refused e m) (packed_row (words_of tb) ps m)) first
+      ∙ unless-first n room_left (λ e. refused e m) (packed_row (words_of tb) ps m) h)
+
+  module _ (few : length pb / 2 ≤ 4096) where
+    module _ (none_above : any (ltb 4095) (halves_of pb) ≡ false) where
       -- 5
       pub packed-full : true ≡ ltb (length m / 4) (words tb pb) → outcome (answer_of 5 0) m ≡ packed tb pb m
       unfolding packed pack_number
-      packed-full e = rw (table, few-pixels, ← none_above, ← e)
+      packed-full e = rw (table, few-pixels pb few, none_above, ← e)
 
       module _ (enough : false ≡ ltb (length m / 4) (words tb pb)) where
         -- done: there is room, and the row is written
@@ -87,7 +103,12 @@ module _ (tb pb m : List ℕ) (table : table_number tb ≡ 0) where
         pub packed_all : {o : List ℕ} {bits : ℕ} → Written (words_of tb) (halves_of pb) m o bits
             → outcome (answer_of 0 bits) o ≡ packed tb pb m
         unfolding packed pack_number
-        packed_all w = rw (table, few-pixels, ← none_above, ← enough, w.memory, w.bits)
+        packed_all w = rw (table, few-pixels pb few, none_above, ← enough, w.memory, w.bits)
+
+-- under the same table and of the same pixels
+pub packed-same : {tb tb' pb pb' : List ℕ} (m : List ℕ) {x : Outcome Answer} → tb ≡ tb' → pb ≡ pb' → x ≡ packed tb pb m → x ≡ packed tb' pb' m
+packed-same {tb} {tb'} {pb} {pb'} m e f q =
+    q ∙ ap (λ (t : List ℕ). packed t pb m) e ∙ ap (λ (b : List ℕ). packed tb' b m) f
 
 -- ---- the room question
 pub room-table : (tb : List ℕ) (n : ℕ) {a : Answer} → a ≡ checked tb → (a.number ≡ 0 → ⊥) → a ≡ room tb n

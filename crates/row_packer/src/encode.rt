@@ -1,14 +1,12 @@
 // One pixel of a row: both passes, the one that measures and the one that writes, take it from here.
 ghost use Rattle.std.specs.Prelude.{◌≤◌};
 ghost use Rattle.bitstream.specs.Bits.{words_of};
-ghost use Rattle.row_format.specs.Table.{Accepted};
-ghost use Rattle.row_packer.specs.Header.{HeaderOf};
 ghost use Rattle.row_packer.specs.Encode.{Sound, Encodes};
 
-use crate::field::{Field, field_of};
-use crate::header::Header;
+use crate::field::Field;
 use crate::item::item_for;
-use row_item::{Progress, after};
+use crate::table::RowTable;
+use row_item::Progress;
 
 // field  the bits of the pixel's item
 // next   what the row has come to after it
@@ -18,15 +16,16 @@ pub struct Encoded {
     pub next: Progress,
 }
 
-pub fn encode(table: &[u8], header: Header, p: Progress, pixel: u32) -> Encoded
-    requires accepted { Accepted (words_of table.now) }
-    requires header_of { HeaderOf (words_of table.now) header }
+// Put in line in both passes: an answer that goes through memory costs a row a fourth of its time more.
+#[inline(always)]
+pub fn encode(table: RowTable, p: Progress, pixel: u32) -> Encoded
     requires sound { Sound p }
     requires pixel_bound { pixel ≤ 4095 }
-    ensures { Encodes (words_of table.now) p pixel result }
+    ensures { Encodes (words_of table.entry.bytes.now) p pixel result }
 {
-    let item = item_for(header, p, pixel);
-    let field = field_of(table, header.low, item);
-    let next = after(p, item, pixel);
-    Encoded { field, next }
+    let item = item_for(table.header, p, pixel);
+    Encoded {
+        field: Field::of(table.bytes, table.header.low, item),
+        next: p.after(item, pixel),
+    }
 }

@@ -13,12 +13,14 @@ pub struct Header {
     pub size: u32,
 }
 
-pub fn header_of(table: &[u8]) -> Header
-    requires { 6 ≤ length table.now / 4 }
-    ensures { HeaderOf (words_of table.now) result }
-{
-    Header {
-        low: low_limit(table),
-        size: table_size(table),
+impl Header {
+    pub fn of(table: &[u8]) -> Header
+        requires { 6 ≤ length table.now / 4 }
+        ensures { HeaderOf (words_of table.now) result }
+    {
+        Header {
+            low: low_limit(table),
+            size: table_size(table),
+        }
     }
 }

@@ -24,17 +24,19 @@ pub fn item_for(header: Header, p: Progress, pixel: u32) -> Item
     if k < header.low {
         return Item::Escape(pixel);
     }
-    if k - header.low < usable_differences(header, p) {
+    if k - header.low < header.usable_differences(p) {
         Item::Difference(signed_difference(k))
     } else {
         Item::Escape(pixel)
     }
 }
 
-// How many of the table's differences a height may be written by: none where it is the row's first, which is raw whether or not
-// the table has it as a difference from 0.
-fn usable_differences(header: Header, p: Progress) -> u32
-    ensures { Usable header p result }
-{
-    if p.begun { header.size } else { 0 }
+impl Header {
+    // How many of the table's differences a height may be written by: none where it is the row's first, which is raw whether or
+    // not the table has it as a difference from 0.
+    fn usable_differences(self, p: Progress) -> u32
+        ensures { Usable self p result }
+    {
+        if p.begun { self.size } else { 0 }
+    }
 }

@@ -8,4 +8,6 @@ mod item;
 mod measure;
 pub mod pack;
 pub mod room;
+mod row;
+mod table;
 mod write;

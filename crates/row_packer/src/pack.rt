@@ -2,27 +2,32 @@
 ghost use Rattle.std.specs.Prelude.{◌≡◌};
 ghost use Rattle.bitstream.specs.Bits.{words_of};
 ghost use Rattle.answer.specs.Outcome.{outcome};
+ghost use Rattle.answer.specs.Refusal.{as_answer};
 ghost use Rattle.row_format.specs.Table.{table_number, max_item_bits};
 ghost use Rattle.row_format.specs.Calls.{packed};
 ghost use Rattle.row_packer.specs.Known.{Known};
 
-use crate::header::header_of;
 use crate::measure::too_short;
+use crate::row::Row;
+use crate::table::RowTable;
 use crate::write::write;
 use answer::Answer;
-use code_table::check::check;
-use row_format::MAX_PIXELS;
-use row_pixels::any_above;
+use answer::refusal::Refusal;
+use code_table::check::max_item_bits;
 
 // Packs the pixels under the table into the words. The answer is the number and the bits that the row takes.
 pub fn pack(table: &[u8], pixels: &[u8], words: &mut [u8]) -> Answer
     ensures { outcome result words.new ≡ packed table.now pixels.now words.old }
 {
-    let checked = check(table);
-    if checked.number != 0 {
-        return checked;
-    }
-    pack_row(table, checked.count, pixels, words)
+    pack_checked(table, pixels, words).into()
+}
+
+// The same, with the refusal by name.
+fn pack_checked(table: &[u8], pixels: &[u8], words: &mut [u8]) -> Result<u32, Refusal>
+    ensures { outcome (as_answer result) words.new ≡ packed table.now pixels.now words.old }
+{
+    let most = max_item_bits(table)?;
+    pack_row(table, most, pixels, words)
 }
 
 // The same where the table may be known: to be accepted, with a longest item of `most` bits. Where `most` is 0 nothing is
@@ -34,37 +39,19 @@ pub fn pack_known(table: &[u8], most: u32, pixels: &[u8], words: &mut [u8]) -> A
     if most == 0 {
         return pack(table, pixels, words);
     }
-    pack_row(table, most, pixels, words)
+    pack_row(table, most, pixels, words).into()
 }
 
 // The same under an accepted table whose longest item has `most` bits.
-fn pack_row(table: &[u8], most: u32, pixels: &[u8], words: &mut [u8]) -> Answer
+fn pack_row(table: &[u8], most: u32, pixels: &[u8], words: &mut [u8]) -> Result<u32, Refusal>
     requires table_value { table_number table.now ≡ 0 }
     requires most_value { most ≡ max_item_bits (words_of table.now) }
-    ensures { outcome result words.new ≡ packed table.now pixels.now words.old }
+    ensures { outcome (as_answer result) words.new ≡ packed table.now pixels.now words.old }
 {
-    if MAX_PIXELS < (pixels.len() / 2) as u64 {
-        return Answer {
-            number: 11,
-            count: 0,
-        };
+    let row = Row::of(pixels)?;
+    let table = RowTable::of(table, most);
+    if too_short(table, row, words.len() / 4) {
+        return Err(Refusal::Room);
     }
-    if any_above(pixels) {
-        return Answer {
-            number: 4,
-            count: 0,
-        };
-    }
-    let header = header_of(table);
-    if too_short(table, header, most, pixels, words.len() / 4) {
-        return Answer {
-            number: 5,
-            count: 0,
-        };
-    }
-    let bits = write(table, header, pixels, words);
-    Answer {
-        number: 0,
-        count: bits,
-    }
+    Ok(write(table, row, words))
 }

@@ -15,18 +15,15 @@ pub fn pixel_at(pixels: &[u8], i: usize) -> u32
     read_u16(pixels, 2 * i)
 }
 
-// Whether a pixel is above 4095. It looks at every pixel: a way out for the rare one would be asked for at each.
+// Whether a pixel is above 4095. It looks at every pixel, not as `any` does: a way out for the rare one would be asked for at each.
 pub fn any_above(pixels: &[u8]) -> bool
     ensures { result ≡ any (ltb 4095) (halves_of pixels.now) }
 {
-    let n = pixels.len() / 2;
     let mut above = false;
-    let mut i = 0;
-    while i < n {
+    for i in 0..pixels.len() / 2 {
         if MAX_PIXEL < pixel_at(pixels, i) {
             above = true;
         }
-        i += 1;
     }
     above
 }

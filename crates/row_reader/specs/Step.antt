@@ -1,16 +1,19 @@
 -- Document 01, end of "A row": a reader that "keeps the lent words and its bit place between pixels and gives one item, with its
 -- pixel, a call". Assumes nothing.
-use Rattle.std.specs.Prelude.{ℕ, ◌+◌, ◌*◌, Bool, cond, not, ◌&&◌, ◌||◌, List, drop, ltb}
+use Rattle.std.specs.Prelude.{ℕ, ◌+◌, ◌*◌, Bool, cond, not, ◌&&◌, ◌||◌, List, drop, ltb, Result, Ok, Err}
 use Rattle.bitstream.specs.Bits.{words_of, stream}
+use Rattle.answer.specs.declared.refusal.Refusal.{Refusal}
+use Rattle.answer.specs.Refusal.{refusal_number}
 use Rattle.answer.specs.Outcome.{◌or_else◌, refuse_if, unless}
 use Rattle.row_format.specs.Table.{table_number}
 use Rattle.row_format.specs.Row as row
 use Rattle.row_format.specs.Reading.{Reading, item, fault, read_item}
+use Rattle.row_item.specs.declared.Item.{Item}
 use Rattle.row_item.specs.declared.Item.TheVariants.{Escape}
 use Rattle.row_item.specs.declared.Progress.{Progress}
 use Rattle.row_item.specs.Coded.{coded, progress, row_state}
 use Rattle.row_reader.specs.declared.step.Place.{Place}
-use Rattle.row_reader.specs.declared.step.ItemRead.{ItemRead}
+use Rattle.row_reader.specs.declared.step.GivenItem.{GivenItem}
 pub mod Laws
 
 -- ---- a reader's place
@@ -47,9 +50,22 @@ unfoldable pub place_number : Place → ℕ
 place_number pl = opening_number pl.opening or_else refuse_if (impossible pl) 11 or_else row.too_many (pl.count + 1)
 
 -- ---- a step
+-- what a step comes to: document 01's number; where it is 0 the item, its pixel and the place after it. A refusal has the place as
+-- it was, the pixel 0 and an item that stands for nothing
+pub record ItemRead : Type 0 where
+  pub number : ℕ
+  pub item : Item
+  pub pixel : ℕ
+  pub place : Place
+
 -- "A refusal moves nothing"
 abbrev pub refused_at : ℕ → Place → ItemRead
 refused_at e pl = record { number = e; item = Escape 0; pixel = 0; place = pl }
+
+-- what the code answers at a place
+abbrev pub as_read : Place → Result GivenItem Refusal → ItemRead
+as_read pl (Ok g) = record { number = 0; item = g.item; pixel = g.pixel; place = g.place }
+as_read pl (Err e) = refused_at (refusal_number e) pl
 
 -- the place after an item i of u bits
 abbrev pub place_after : Place → row.State → row.Item → ℕ → Place

@@ -3,8 +3,7 @@ use Rattle.std.specs.Prelude.{ℕ, zero, suc, ◌<◌, ◌≡◌, cond, List, []
 use Rattle.row_format.specs.Row.{pixel_bytes}
 use Rattle.row_format.specs.Calls.{row_wrote, unpacked}
 use Rattle.row_reader.specs.declared.step.Place.{Place}
-use Rattle.row_reader.specs.declared.step.ItemRead.{ItemRead}
-use Rattle.row_reader.specs.Step.{start_place, refused_at, item_read}
+use Rattle.row_reader.specs.Step.{ItemRead, start_place, refused_at, item_read}
 pub mod Laws
 pub mod Ends
 pub mod Rows

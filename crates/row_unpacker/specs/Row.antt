@@ -1,13 +1,13 @@
 -- The items of a row read one after the other, with their pixels' bytes in memory. Definitions only. Assumes nothing.
-use Rattle.std.specs.Prelude.{ℕ, ◌*◌, ◌≡◌, List, take}
+use Rattle.std.specs.Prelude.{ℕ, ◌*◌, ◌≡◌, List, take, Result, Ok, Err}
 use Rattle.answer.specs.Outcome.{Outcome}
 use Rattle.bitstream.specs.Bits.{flat, bytes_of, words_of, stream}
 use Rattle.row_format.specs.Row.{State, pixels_of}
 use Rattle.row_format.specs.Reading.{Run, done, stop, read_items, without_stray}
 use Rattle.row_format.specs.declared.RowUnpacked.{RowUnpacked}
 use Rattle.row_format.specs.Calls.{row_outcome}
-use Rattle.row_unpacker.specs.declared.row.RowRead.{RowRead}
-use Rattle.row_unpacker.specs.declared.row.RowRead.TheVariants.{Done, Refused}
+use Rattle.row_unpacker.specs.declared.item.Fault.{Fault}
+use Rattle.row_unpacker.specs.Item.{stopped, numbered}
 
 -- n items under the table's bytes, from the first bit of the words on
 abbrev pub items_read : List ℕ → List ℕ → ℕ → Run
@@ -28,6 +28,6 @@ row_reached n s (done is u) = whole (bytes_of (2 * n) (flat 16 (pixels_of s is))
 row_reached n s (stop e at u) = halted e at
 
 -- the code's answer, and the memory of n pixels
-abbrev pub RowIs : ℕ → List ℕ → RowRead → RowReached → Type 0
-RowIs n out x (whole b u) = (x ≡ Done u) × (take (2 * n) out ≡ b)
-RowIs n out x (halted e at) = x ≡ Refused e at
+abbrev pub RowIs : ℕ → List ℕ → Result ℕ Fault → RowReached → Type 0
+RowIs n out x (whole b u) = (x ≡ Ok u) × (take (2 * n) out ≡ b)
+RowIs n out x (halted e at) = numbered x ≡ Err (stopped e at)

@@ -1,22 +1,20 @@
 -- The search for the codeword that begins the rest of a stream, of which only a view is at hand. Definitions only.
 -- Assumes nothing.
-use Rattle.std.specs.Prelude.{ℕ, ◌≡◌, Bool, List}
+use Rattle.std.specs.Prelude.{ℕ, ◌≡◌, Bool, List, Option, Some, None}
 use Rattle.bitstream.specs.Bits.{begins}
 use Rattle.row_format.specs.Lists.{any}
 use Rattle.row_format.specs.Table.{codeword, codewords}
 use Rattle.row_format.specs.Reading.{Match, none, found, find}
 use Rattle.row_unpacker.specs.View.{Seen}
 use Rattle.row_unpacker.specs.declared.view.View.{View}
-use Rattle.row_unpacker.specs.declared.search.Hit.{Hit}
-use Rattle.row_unpacker.specs.declared.search.Hit.TheVariants.{At, Nowhere}
 
 -- a match as the code holds it
-abbrev pub hit : Match → Hit
-hit none = Nowhere
-hit (found j) = At j
+abbrev pub hit : Match → Option ℕ
+hit none = None
+hit (found j) = Some j
 
 -- h is the first codeword of the table t that begins what v shows
-pub record Finds (t : List ℕ) (v : View) (h : Hit) : Type 0 where
+pub record Finds (t : List ℕ) (v : View) (h : Option ℕ) : Type 0 where
   pub is : (r : List ℕ) → Seen r v → h ≡ hit (find (codewords t) r)
 
 -- b is whether what v shows is a beginning of some codeword of t

@@ -10,7 +10,7 @@ ghost use Rattle.bitstream.specs.Bits.{words_of};
 ghost use Rattle.row_format.specs.Table.{table_number};
 ghost use Rattle.row_unpacker.specs.Search.{Finds};
 
-use crate::search::{Hit, begins_rest, search};
+use crate::search::search;
 use crate::view::View;
 use bitstream::shift::{low_bits, power};
 use code_table::header::word_at;
@@ -19,61 +19,60 @@ use code_table::header::word_at;
 pub type Hints = [u16; 16385];
 
 // The codeword of an accepted table that begins the rest.
-pub fn hinted_search(table: &[u8], hints: &Hints, v: View) -> Hit
+pub fn hinted_search(table: &[u8], hints: &Hints, v: View) -> Option<usize>
     requires { table_number table.now ≡ 0 }
     ensures { Finds (words_of table.now) v result }
 {
-    let i = guess(table, hints, v);
-    if 3 <= i {
-        if i < table.len() / 4 {
-            if begins_rest(word_at(table, i), v) {
-                return Hit::At(i - 3);
+    if let Some(i) = guess(table, hints, v) {
+        if 3 <= i {
+            if i < table.len() / 4 {
+                if v.is_begun_by(word_at(table, i)) {
+                    return Some(i - 3);
+                }
             }
         }
     }
     search(table, v)
 }
 
-// A word whose codeword may begin the rest, or 0.
-fn guess(table: &[u8], hints: &Hints, v: View) -> usize
+// A word whose codeword may begin the rest.
+fn guess(table: &[u8], hints: &Hints, v: View) -> Option<usize>
     requires { table_number table.now ≡ 0 }
 {
     let head = wide(hints[(v.window % 4096) as usize]);
     if head <= 8192 {
-        return head;
+        return Some(head);
     }
-    let mut len = (head - 8192) as u32;
-    while len < 28 {
+    for len in (head - 8192) as u32..28 {
         let s = slot(low_bits(v.window, len));
-        let i = walk(table, hints, hints[4096 + s], v);
-        if 0 < i {
-            return i;
+        let found = walk(table, hints, hints[4096 + s], v);
+        if found.is_some() {
+            return found;
         }
-        len += 1;
     }
-    0
+    None
 }
 
-// The first word in a slot, from a word on, whose codeword begins the rest, or 0. A word's next is less, so the walk ends.
-fn walk(table: &[u8], hints: &Hints, from: u16, v: View) -> usize
+// The first word in a slot, from a word on, whose codeword begins the rest. A word's next is less, so the walk ends.
+fn walk(table: &[u8], hints: &Hints, from: u16, v: View) -> Option<usize>
     requires { table_number table.now ≡ 0 }
 {
     let words = table.len() / 4;
     let mut i = from as usize;
     while 0 < i {
         if words <= i {
-            return 0;
+            return None;
         }
-        if begins_rest(word_at(table, i), v) {
-            return i;
+        if v.is_begun_by(word_at(table, i)) {
+            return Some(i);
         }
         let next = wide(hints[8192 + i]);
         if i <= next {
-            return 0;
+            return None;
         }
         i = next;
     }
-    0
+    None
 }
 
 fn wide(x: u16) -> usize
@@ -93,23 +92,19 @@ fn slot(bits: u32) -> usize
 pub fn fill(table: &[u8], hints: &mut Hints)
     requires { table_number table.now ≡ 0 }
 {
-    let words = table.len() / 4;
-    let mut i = 3;
-    while i < words {
+    for i in 3..table.len() / 4 {
         let word = word_at(table, i);
         let len = word % 32;
         let bits = word / 32;
         if len <= 12 {
             spread(hints, bits % 4096, len, i as u16);
-            i += 1;
         } else {
             link(hints, bits, len, i as u16);
-            i += 1;
         }
     }
 }
 
-// A codeword of at most 12 bits: word i stands at all heads that it begins.
+// A codeword of at most 12 bits: word i stands at all heads that it begins, which are a power of two apart.
 fn spread(hints: &mut Hints, bits: u32, len: u32, i: u16)
     requires { len < 32 }
 {
@@ -135,8 +130,5 @@ fn link(hints: &mut Hints, bits: u32, len: u32, i: u16)
 
 // The lesser of two, where 0 stands for none.
 fn lesser(a: u16, b: u16) -> u16 {
-    if a == 0 {
-        return b;
-    }
-    if a < b { a } else { b }
+    if a == 0 { b } else { a.min(b) }
 }

@@ -5,19 +5,12 @@ ghost use Rattle.row_format.specs.Row.{fresh};
 ghost use Rattle.row_unpacker.specs.Row.{items_read, row_reached, RowIs};
 
 use crate::hints::{Hints, fill};
-use crate::item::{Read, hinted_item};
+use crate::item::{Fault, hinted_item};
 use bitstream::number::put_u16;
-use row_item::{after, start};
+use row_item::Progress;
 
-// The bits used; or the number of the refusal and the place of the faulty item.
-#[derive(Clone, Copy)]
-pub enum RowRead {
-    Done(usize),
-    Refused { number: u32, place: usize },
-}
-
-// Reads n pixels under an accepted table to the front of `row`, two bytes each.
-pub fn read_row(table: &[u8], words: &[u8], n: usize, row: &mut [u8]) -> RowRead
+// Reads n pixels under an accepted table to the front of `row`, two bytes each, and gives the bits used.
+pub fn read_row(table: &[u8], words: &[u8], n: usize, row: &mut [u8]) -> Result<usize, Fault>
     requires table_value { table_number table.now ≡ 0 }
     requires n_bound { n ≤ 4096 }
     requires n_in_bounds { 2 * n ≤ length row.old }
@@ -31,28 +24,25 @@ pub fn read_row(table: &[u8], words: &[u8], n: usize, row: &mut [u8]) -> RowRead
 // The same by hints.
 // at   the bit place of the next item
 // p    what the row has come to
-fn read_items(table: &[u8], words: &[u8], hints: &Hints, n: usize, row: &mut [u8]) -> RowRead
+fn read_items(
+    table: &[u8],
+    words: &[u8],
+    hints: &Hints,
+    n: usize,
+    row: &mut [u8],
+) -> Result<usize, Fault>
     requires table_value { table_number table.now ≡ 0 }
     requires n_bound { n ≤ 4096 }
     requires n_in_bounds { 2 * n ≤ length row.old }
     ensures { RowIs n row.new result (row_reached n fresh (items_read table.now words.now n)) }
 {
     let mut at = 0;
-    let mut p = start();
-    let mut i = 0;
-    while i < n {
-        let read = hinted_item(table, words, hints, at, p);
-        match read {
-            Read::Got { pixel, item, next } => {
-                put_u16(row, 2 * i, pixel);
-                p = after(p, item, pixel);
-                at = next;
-                i += 1;
-            }
-            Read::Refused { number, place } => {
-                return RowRead::Refused { number, place };
-            }
-        }
+    let mut p = Progress::start();
+    for i in 0..n {
+        let got = hinted_item(table, words, hints, at, p)?;
+        put_u16(row, 2 * i, got.pixel);
+        p = p.after(got.item, got.pixel);
+        at = got.next;
     }
-    RowRead::Done(at)
+    Ok(at)
 }

@@ -1,17 +1,19 @@
 // Unpacking of one row: the whole call.
 ghost use Rattle.std.specs.Prelude.{◌≡◌, ◌*◌, ◌≤◌, length};
-ghost use Rattle.answer.specs.Outcome.{outcome};
+ghost use Rattle.answer.specs.Outcome.{outcome, lent};
+ghost use Rattle.answer.specs.Refusal.{refusal_number, result_number};
 ghost use Rattle.bitstream.specs.Bits.{stream};
 ghost use Rattle.row_format.specs.Table.{table_number};
-ghost use Rattle.row_format.specs.Reading.{stray};
+ghost use Rattle.row_format.specs.Reading.{stray, first_number};
 ghost use Rattle.row_format.specs.Calls.{unpacked};
 ghost use Rattle.row_unpacker.specs.Row.{row_left};
 
-use crate::row::{RowRead, read_row};
-use crate::view::look_ahead;
+use crate::row::read_row;
+use crate::view::View;
+use answer::refusal::Refusal;
 use bitstream::copy::copy;
 use bitstream::shift::low_bits;
-use code_table::check::check;
+use code_table::check::max_item_bits;
 use row_format::{MAX_PIXELS, RowUnpacked};
 
 // Unpacks n pixels from the words to the front of `pixels`, two bytes each; the count is the bits used. A refusal leaves
@@ -19,30 +21,25 @@ use row_format::{MAX_PIXELS, RowUnpacked};
 pub fn unpack(table: &[u8], words: &[u8], n: u64, pixels: &mut [u8]) -> RowUnpacked
     ensures { outcome result pixels.new ≡ unpacked table.now words.now n pixels.old }
 {
-    let checked = check(table);
-    let number = checked.number;
-    if number != 0 {
-        return refused_first(number);
+    match judge(table, n, pixels.len()) {
+        Ok(()) => unpack_row(table, words, n as usize, pixels),
+        // no bit was read, and there is no place
+        Err(refusal) => refused(refusal, 0),
     }
-    if MAX_PIXELS < n {
-        return refused_first(11);
-    }
-    if ((pixels.len() / 2) as u64) < n {
-        return refused_first(5);
-    }
-    unpack_row(table, words, n as usize, pixels)
 }
 
-// Refused before the first item: no bit was read, and there is no place.
-fn refused_first(number: u32) -> RowUnpacked
-    ensures { result ≡ record { number = number; count = 0; at = 0 } }
+// What refuses before the first item, where so many bytes are lent for the pixels.
+fn judge(table: &[u8], n: u64, room: usize) -> Result<(), Refusal>
+    ensures { result_number result ≡ first_number (lent room) table.now n }
 {
-    let at = 0;
-    RowUnpacked {
-        number,
-        count: 0,
-        at,
+    max_item_bits(table)?;
+    if MAX_PIXELS < n {
+        return Err(Refusal::TooMany);
     }
+    if ((room / 2) as u64) < n {
+        return Err(Refusal::Room);
+    }
+    Ok(())
 }
 
 // The same under an accepted table, of a count and memory that are in order.
@@ -53,16 +50,11 @@ fn unpack_row(table: &[u8], words: &[u8], n: usize, pixels: &mut [u8]) -> RowUnp
     ensures { outcome result pixels.new ≡ row_left table.now words.now n pixels.old }
 {
     let mut row = [0u8; 8192];
-    let read = read_row(table, words, n, &mut row);
-    match read {
-        RowRead::Done(used) => {
+    match read_row(table, words, n, &mut row) {
+        Ok(used) => {
             let bits = used as u32;
             if stray_bit(words, used) {
-                return RowUnpacked {
-                    number: 10,
-                    count: 0,
-                    at: bits,
-                };
+                return refused(Refusal::UnusedBit, bits);
             }
             copy(&row, 2 * n, pixels);
             RowUnpacked {
@@ -71,11 +63,17 @@ fn unpack_row(table: &[u8], words: &[u8], n: usize, pixels: &mut [u8]) -> RowUnp
                 at: 0,
             }
         }
-        RowRead::Refused { number, place } => RowUnpacked {
-            number,
-            count: 0,
-            at: place as u32,
-        },
+        Err(fault) => refused(fault.refusal, fault.place as u32),
+    }
+}
+
+fn refused(refusal: Refusal, at: u32) -> RowUnpacked
+    ensures { result ≡ record { number = refusal_number refusal; count = 0; at = at } }
+{
+    RowUnpacked {
+        number: refusal.number(),
+        count: 0,
+        at,
     }
 }
 
@@ -87,6 +85,6 @@ fn stray_bit(words: &[u8], used: usize) -> bool
     if last == 0 {
         return false;
     }
-    let v = look_ahead(words, used);
+    let v = View::ahead(words, used);
     low_bits(v.window, 32 - last) != 0
 }

@@ -13,19 +13,22 @@ pub struct View {
     pub left: u32,
 }
 
-// From bit place `at` of the whole words on.
-pub fn look_ahead(words: &[u8], at: usize) -> View
-    ensures { Seen (drop at (stream words.now)) result }
-{
-    let whole = words.len() / 4;
-    let window = peek32(&words[..4 * whole], at);
-    View {
-        window,
-        left: bits_left(whole, at),
+impl View {
+    // From bit place `at` of the whole words on.
+    pub fn ahead(words: &[u8], at: usize) -> View
+        ensures { Seen (drop at (stream words.now)) result }
+    {
+        let whole = words.len() / 4;
+        let window = peek32(&words[..4 * whole], at);
+        View {
+            window,
+            left: bits_left(whole, at),
+        }
     }
 }
 
-// The bits from place `at` to the end of so many words, 64 for more than that. Counted by words, which never wraps.
+// The bits from place `at` to the end of so many words, 64 for more than that. Counted by words, which never wraps. By tests:
+// `saturating_sub` and `min` cost a row a tenth of its time more.
 fn bits_left(words: usize, at: usize) -> u32
     ensures { result ≡ min 64 (32 * words - at) }
 {

@@ -22,7 +22,7 @@ pub struct SheetState {
     pub least_row: u32,
 }
 
-// What reading a record answers: document 01's number, and where it is 0 what the record holds and the state after it. A
+// What reading a record answers, as C has it: document 01's number, and where it is 0 what the record holds and the state after it. A
 // refusal has 0 for every value, the state's too: the sheet still holds what it held; but for 6 to 10 `at` is the bit place
 // where reading stopped, from the row's first word. count is the words of a table, the pixels of a row, the numbers of a line;
 // row is for rows, bits and words for packed rows; length is the bytes of the whole record.
@@ -41,6 +41,7 @@ pub struct RecordRead {
 }
 
 // What reading answers for a refused record: "Every refusal returns 0 for all counts and values", but for the place of 6 to 10.
+// It takes a number, since unpacking answers one, as C has it.
 pub fn refused_at(number: u32, at: u32) -> RecordRead
     ensures { result ≡ refused_record at number }
 {
@@ -67,7 +68,7 @@ pub fn refused(number: u32) -> RecordRead
     refused_at(number, 0)
 }
 
-// What writing a record answers: the number, and where it is 0 the bytes written and the state after the record. A refusal
+// What writing a record answers, as C has it: the number, and where it is 0 the bytes written and the state after the record. A refusal
 // has 0 for the count and for the state's numbers.
 #[repr(C)]
 #[derive(Clone, Copy)]

@@ -18,7 +18,8 @@ use line::{put_last_line, put_record_line};
 use sheet_format::{RecordRead, SheetState, refused};
 use sheet_reader::judge_record;
 
-// What listing a record answers: what judging it answers, and the bytes of its line. A refusal, 5 among them, has no line.
+// What listing a record answers: what judging it answers, and the bytes of its line. A refusal, 5 among them, has no line. No
+// Result: a caller goes on with the answer of judging, refused or not, as with that of reading.
 #[derive(Clone, Copy)]
 pub struct ListedRecord {
     pub read: RecordRead,
@@ -49,16 +50,13 @@ fn list_accepted(read: RecordRead, body: &[u8], out: &mut [u8]) -> ListedRecord
 {
     let mut text = [0u8; 128];
     let n = put_record_line(&mut text, read, body);
-    let given = give(&text[..n], out);
-    let full = given.number;
-    let count = given.count;
-    if full != 0 {
-        return ListedRecord {
-            read: refused(full),
-            count,
-        };
+    match give(&text[..n], out) {
+        Ok(count) => ListedRecord { read, count },
+        Err(full) => ListedRecord {
+            read: refused(full.number()),
+            count: 0,
+        },
     }
-    ListedRecord { read, count }
 }
 
 // The last line of a listing: `done rows N` where the number is 0, else `refused N at record K`, where K is the index, and for 6
@@ -69,5 +67,5 @@ pub fn list_end(number: u32, bit: u32, index: u64, rows: u64, out: &mut [u8]) ->
 {
     let mut text = [0u8; 128];
     let n = put_last_line(&mut text, number, bit, index, rows);
-    give(&text[..n], out)
+    give(&text[..n], out).into()
 }

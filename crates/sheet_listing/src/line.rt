@@ -9,6 +9,7 @@ use code_table::check::check;
 use code_table::header::{low_limit, table_size, word_at};
 use row_format::place::has_place;
 use sheet_format::RecordRead;
+use sheet_format::kind::RecordKind;
 use text::line::{
     put_contour_line, put_done_line, put_packed_line, put_plain_line, put_refused_at_line,
     put_refused_bit_line, put_table_line,
@@ -21,13 +22,14 @@ pub fn put_record_line(out: &mut [u8], read: RecordRead, body: &[u8]) -> usize
     ensures put { Put out.old 0 (answer_line read body.now) result out.new }
     ensures most { result ≤ 128 }
 {
-    let kind = read.kind;
-    match kind {
-        1 => put_table(out, body),
-        2 => put_packed_line(out, 0, read.row, read.count, read.bits, read.words),
-        3 => put_plain_line(out, 0, read.row, read.count),
-        4 => put_contour_line(out, 0, read.count),
-        _ => 0,
+    match RecordKind::try_from(read.kind) {
+        Ok(RecordKind::Table) => put_table(out, body),
+        Ok(RecordKind::PackedRow) => {
+            put_packed_line(out, 0, read.row, read.count, read.bits, read.words)
+        }
+        Ok(RecordKind::PlainRow) => put_plain_line(out, 0, read.row, read.count),
+        Ok(RecordKind::ContourLine) => put_contour_line(out, 0, read.count),
+        Err(_) => 0,
     }
 }
 

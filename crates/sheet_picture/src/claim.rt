@@ -6,6 +6,7 @@ ghost use Rattle.sheet_picture.specs.Extent.{row_claimed};
 
 use bitstream::byte::byte_or_zero;
 
+#[tactic(auto, unfolding(crate::specs::Extent::row_claimed))]
 pub fn row_claimed(bytes: &[u8]) -> u32
     ensures { result ≡ row_claimed bytes.now }
 {
@@ -13,10 +14,7 @@ pub fn row_claimed(bytes: &[u8]) -> u32
         return 0;
     }
     let kind = two_at(bytes, 4);
-    if kind == 2 {
-        return two_at(bytes, 6) + 1;
-    }
-    if kind == 3 {
+    if kind == 2 || kind == 3 {
         return two_at(bytes, 6) + 1;
     }
     0

@@ -16,10 +16,8 @@ fn put_palette(out: &mut [u8])
     ensures { out.new ≡ palette }
 {
     let mut at = 0;
-    let mut i = 0;
-    while i < 256 {
+    for i in 0..256u32 {
         at = put_colour(out, at, i);
-        i += 1;
     }
 }
 
@@ -50,27 +48,20 @@ fn put_green(out: &mut [u8], at: usize, t: u32) -> usize
 }
 
 // The colours of 178 to 183: outside the range, bad spots, what is missing, the background.
+#[tactic(auto, unfolding(crate::specs::Colour::own_colour))]
 fn put_own(out: &mut [u8], at: usize, i: u32) -> usize
     requires at_in_bounds { at + 3 ≤ length out.old }
     requires le_i { (178 ≤ i) × (i < 184) }
     ensures { Put out.old at (own_colour i) result out.new }
 {
-    if i == 178 {
-        return put_rgb(out, at, 112, 0, 160);
+    match i {
+        178 => put_rgb(out, at, 112, 0, 160),
+        179 => put_rgb(out, at, 0, 224, 255),
+        180 => put_rgb(out, at, 255, 200, 0),
+        181 => put_rgb(out, at, 255, 0, 0),
+        182 => put_rgb(out, at, 32, 64, 208),
+        _ => put_rgb(out, at, 250, 244, 220),
     }
-    if i == 179 {
-        return put_rgb(out, at, 0, 224, 255);
-    }
-    if i == 180 {
-        return put_rgb(out, at, 255, 200, 0);
-    }
-    if i == 181 {
-        return put_rgb(out, at, 255, 0, 0);
-    }
-    if i == 182 {
-        return put_rgb(out, at, 32, 64, 208);
-    }
-    put_rgb(out, at, 250, 244, 220)
 }
 
 fn put_rgb(out: &mut [u8], at: usize, red: u32, green: u32, blue: u32) -> usize
@@ -78,8 +69,6 @@ fn put_rgb(out: &mut [u8], at: usize, red: u32, green: u32, blue: u32) -> usize
     requires red_bound { (red < 256) × (green < 256) × (blue < 256) }
     ensures { Put out.old at (colour red green blue) result out.new }
 {
-    out[at] = red as u8;
-    out[at + 1] = green as u8;
-    out[at + 2] = blue as u8;
+    out[at..at + 3].copy_from_slice(&[red as u8, green as u8, blue as u8]);
     at + 3
 }

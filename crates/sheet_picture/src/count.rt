@@ -1,5 +1,5 @@
 // The counts of a map in green.
-ghost use Rattle.std.specs.Prelude.{◌≡◌, ◌+◌, ◌*◌, ◌≤◌, ◌<◌, max, length, get_or};
+ghost use Rattle.std.specs.Prelude.{◌≡◌, ◌+◌, ◌*◌, ◌≤◌, ◌<◌, length, get_or};
 ghost use Rattle.bitstream.specs.Bits.{halves_of};
 ghost use Rattle.text.specs.Put.{Put};
 ghost use Rattle.sheet_picture.specs.Colour.{count_index};
@@ -12,20 +12,11 @@ use row_pixels::pixel_at;
 pub fn most_of(counts: &[u8]) -> u32
     ensures { result ≡ most_of (halves_of counts.now) }
 {
-    let n = counts.len() / 2;
-    let mut most = 1;
-    let mut i = 0;
-    while i < n {
-        most = larger(most, pixel_at(counts, i));
-        i += 1;
+    let mut most: u32 = 1;
+    for i in 0..counts.len() / 2 {
+        most = most.max(pixel_at(counts, i));
     }
     most
-}
-
-fn larger(a: u32, b: u32) -> u32
-    ensures { result ≡ max a b }
-{
-    if a < b { b } else { a }
 }
 
 fn count_index(most: u32, c: u32) -> u8
@@ -60,11 +51,9 @@ pub fn put_counts(
     ensures { Put out.old at (widened times (count_samples (halves_of counts.now) j)) result out.new }
 {
     let mut next = at;
-    let mut i = 0;
-    while i < 128 {
+    for i in 0..128 {
         let sample = count_index(most, count_at(counts, j, i));
         next = put_run(out, next, sample, times);
-        i += 1;
     }
     next
 }

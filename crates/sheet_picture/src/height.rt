@@ -46,9 +46,7 @@ fn put_indices(indices: &mut [u8], low: u32, high: u32)
     requires low_le_high { (low ≤ high) × (high ≤ 4093) }
     ensures { IndicesOf record { low = low; high = high } indices.new }
 {
-    let mut h = 0;
-    while h < 4096 {
-        indices[h as usize] = height_index(low, high, h);
-        h += 1;
+    for (h, index) in indices.iter_mut().enumerate() {
+        *index = height_index(low, high, h as u32);
     }
 }

@@ -1,5 +1,5 @@
 // A row of the picture, from place 14 of lent memory on: what a PNG has in front of a row's samples goes before it.
-ghost use Rattle.std.specs.Prelude.{◌≡◌, List, [], map, ◌+◌, ◌*◌, ◌/◌, ◌≤◌, ◌<◌, min, length, take, get_or, replicate};
+ghost use Rattle.std.specs.Prelude.{◌≡◌, List, [], map, ◌+◌, ◌*◌, ◌/◌, ◌≤◌, ◌<◌, length, take, get_or, replicate};
 ghost use Rattle.bitstream.specs.Bits.{halves_of};
 ghost use Rattle.text.specs.Put.{Put};
 ghost use Rattle.sheet_format.specs.Sheet.{StoredRow, present, heights_of};
@@ -71,15 +71,9 @@ fn put_heights(out: &mut [u8], view: View, pixels: &[u8], indices: &[u8]) -> usi
 {
     let width = view.width as usize;
     let times = view.times as usize;
-    let n = smaller(pixels.len() / 2, width);
+    let n = width.min(pixels.len() / 2);
     let next = put_samples(out, view, pixels, n, indices);
     put_run(out, next, MISSING, (width - n) * times)
-}
-
-fn smaller(a: usize, b: usize) -> usize
-    ensures { result ≡ min a b }
-{
-    if a < b { a } else { b }
 }
 
 // The first n heights of a row.
@@ -104,10 +98,8 @@ fn put_each(out: &mut [u8], view: View, pixels: &[u8], n: usize, indices: &[u8])
     ensures { Put out.old 14 (map (height_index (range_of view)) (take n (halves_of pixels.now)))
         result out.new }
 {
-    let mut i = 0;
-    while i < n {
+    for i in 0..n {
         out[START + i] = sample_at(indices, view, pixels, i);
-        i += 1;
     }
     START + n
 }
@@ -122,11 +114,9 @@ fn put_wide(out: &mut [u8], view: View, pixels: &[u8], n: usize, indices: &[u8])
 {
     let times = view.times as usize;
     let mut next = START;
-    let mut i = 0;
-    while i < n {
+    for i in 0..n {
         let sample = sample_at(indices, view, pixels, i);
         next = put_run(out, next, sample, times);
-        i += 1;
     }
     next
 }

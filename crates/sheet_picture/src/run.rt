@@ -6,10 +6,6 @@ pub fn put_run(out: &mut [u8], at: usize, sample: u8, n: usize) -> usize
     requires { at + n ≤ length out.old }
     ensures { Put out.old at (replicate n sample) result out.new }
 {
-    let mut i = 0;
-    while i < n {
-        out[at + i] = sample;
-        i += 1;
-    }
+    out[at..at + n].fill(sample);
     at + n
 }

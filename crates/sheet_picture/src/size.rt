@@ -10,14 +10,7 @@ pub fn beside_times(view: View) -> u32
     requires { (view.times ≤ 15) × (view.height ≤ 65552) }
     ensures { result ≡ beside_times (view.height * view.times) }
 {
-    let times = view.height * view.times / 128;
-    if times < 1 {
-        return 1;
-    }
-    if 31 < times {
-        return 31;
-    }
-    times
+    (view.height * view.times / 128).clamp(1, 31)
 }
 
 // The samples of a row; what the counts are makes no difference.
@@ -41,9 +34,5 @@ pub fn picture_height(view: View) -> u32
     if view.beside == 0 {
         return left;
     }
-    let right = 128 * beside_times(view);
-    if left < right {
-        return right;
-    }
-    left
+    left.max(128 * beside_times(view))
 }

@@ -1,4 +1,4 @@
+pub mod Answers
 pub mod Leaves
-pub mod Line
 pub mod Packed
 pub mod Row

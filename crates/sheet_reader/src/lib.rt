@@ -16,7 +16,8 @@ ghost use Rattle.answer.specs.Outcome.{outcome};
 ghost use Rattle.sheet_format.specs.Context.{context_of};
 ghost use Rattle.sheet_format.specs.Reading.{record_judged, record_read};
 
-pub use frame::length_number;
+use answers::read_answer;
+pub use frame::judge_length;
 use sheet_format::{RecordRead, SheetState};
 
 // The longest content is 4096 numbers of 4 bytes, so a reading that has this room is never refused 5.
@@ -28,7 +29,7 @@ pub fn judge_record(table: &[u8], sheet: &[u8], state: SheetState) -> RecordRead
     ensures { result ≡ record_judged (context_of table.now state) sheet.now }
 {
     let mut nothing = [0u8; 0];
-    frame::read(table, sheet, state, MOST_CONTENT_BYTES, &mut nothing)
+    read_answer(frame::read(table, sheet, state, MOST_CONTENT_BYTES, &mut nothing))
 }
 
 // The same, and its content into lent memory: pixels of kinds 2 and 3 as 2 bytes each, numbers of kind 4 as 4 bytes each.
@@ -37,5 +38,5 @@ pub fn read_record(table: &[u8], sheet: &[u8], state: SheetState, content: &mut 
         ≡ record_read (context_of table.now state) sheet.now content.old }
 {
     let room = content.len();
-    frame::read(table, sheet, state, room, content)
+    read_answer(frame::read(table, sheet, state, room, content))
 }

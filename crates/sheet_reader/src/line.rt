@@ -1,16 +1,19 @@
 // A contour line in a record.
 ghost use Rattle.std.specs.Prelude.{◌≡◌, ◌≤◌, length};
 ghost use Rattle.answer.specs.Outcome.{lent};
+ghost use Rattle.answer.specs.Refusal.{result_number};
 ghost use Rattle.sheet_format.specs.Context.{Context, state_of};
 ghost use Rattle.sheet_format.specs.Kind.ContourLine.{number_count, line_own, line_kind};
+ghost use Rattle.sheet_reader.specs.Answers.{read_answer};
 ghost use Rattle.sheet_reader.specs.Leaves.{ContentLeaves};
 
-use crate::answers::accepted;
+use crate::answers::{Refused, accepted};
 use crate::numbers::{judge_numbers, keep_numbers};
+use answer::refusal::Refusal;
 use bitstream::number::read_u16;
 use row_format::MAX_PIXELS;
-use sheet_format::place::line_place;
-use sheet_format::{RecordRead, SheetState, refused};
+use sheet_format::kind::RecordKind;
+use sheet_format::{RecordRead, SheetState};
 
 pub fn read_line(
     body: &[u8],
@@ -18,47 +21,37 @@ pub fn read_line(
     state: SheetState,
     room: usize,
     content: &mut [u8],
-) -> RecordRead
+) -> Result<RecordRead, Refused>
     ensures { (c : Context) → state_of c ≡ state
-        → ContentLeaves line_kind room 4 whole c body.now content.old result content.new }
+        → ContentLeaves line_kind room 4 whole c body.now content.old (read_answer result) content.new }
 {
     if body.len() < 2 {
-        return refused(14);
+        return Err(Refusal::Record.into());
     }
-    let place = line_place(state);
-    if place != 0 {
-        return refused(place);
-    }
+    state.line_place()?;
     let count = read_u16(body, 0);
-    let number = numbers_number(body, count, room);
-    if number != 0 {
-        return refused(number);
-    }
+    judge_line(body, count, room)?;
     let line = &body[2..];
     keep_numbers(line, count as usize, room, content);
-    accepted(4, 0, count, 0, whole, state)
+    Ok(accepted(RecordKind::ContourLine, 0, count, 0, whole, state))
 }
 
 // "Kind 4: 11, then 12 or 13 at the earliest number", then a leftover, and 5 last.
-fn numbers_number(body: &[u8], count: u32, room: usize) -> u32
+fn judge_line(body: &[u8], count: u32, room: usize) -> Result<(), Refusal>
     requires in_bounds { 2 ≤ length body.now }
     requires count_value { count ≡ number_count body.now }
-    ensures { (c : Context) → result ≡ line_own (lent room) c body.now }
+    ensures { (c : Context) → result_number result ≡ line_own (lent room) c body.now }
 {
     if MAX_PIXELS < count as u64 {
-        return 11;
+        return Err(Refusal::TooMany);
     }
     let line = &body[2..];
-    let judged = judge_numbers(line, count as usize);
-    let number = judged.number;
-    if number != 0 {
-        return number;
-    }
-    if judged.used < line.len() {
-        return 14;
+    let used = judge_numbers(line, count as usize)?;
+    if used < line.len() {
+        return Err(Refusal::Record);
     }
     if room < 4 * count as usize {
-        return 5;
+        return Err(Refusal::Room);
     }
-    0
+    Ok(())
 }

@@ -1,41 +1,26 @@
 // The numbers of a line, one after another: two passes, since a refusal leaves the lent memory as it was.
-ghost use Rattle.std.specs.Prelude.{◌≡◌, ◌++◌, ◌*◌, ◌≤◌, length, drop};
+ghost use Rattle.std.specs.Prelude.{◌≡◌, ◌++◌, ◌*◌, ◌≤◌, length, drop, IfOk};
+ghost use Rattle.answer.specs.Refusal.{result_number};
 ghost use Rattle.sheet_format.specs.Line.{read_line};
-ghost use Rattle.sheet_format.specs.Kind.ContourLine.{fault_number, number_bytes};
-ghost use Rattle.sheet_reader.specs.Line.{line_judged};
+ghost use Rattle.sheet_format.specs.Kind.ContourLine.{fault_number, bytes_of_line, number_bytes};
 
-use adaptive::read_signed;
+use adaptive::{read_signed, signed_number};
+use answer::refusal::Refusal;
 use bitstream::number::put_u32;
 use sheet_format::word::word_of;
 
-// number   12 or 13 at the earliest number that is faulty, else 0
-// used     the bytes of the numbers
-#[derive(Clone, Copy)]
-pub struct LineJudged {
-    pub number: u32,
-    pub used: usize,
-}
-
-pub fn judge_numbers(line: &[u8], count: usize) -> LineJudged
-    ensures { result ≡ line_judged (read_line count line.now) }
+// The bytes of the numbers; 12 or 13 at the earliest number that is faulty.
+pub fn judge_numbers(line: &[u8], count: usize) -> Result<usize, Refusal>
+    ensures number { result_number result ≡ fault_number (read_line count line.now) }
+    ensures used { IfOk result (λ used. used ≡ bytes_of_line (read_line count line.now)) }
 {
     // i numbers are read, and the next one begins at byte `at`
     let mut at = 0;
-    let mut i = 0;
-    while i < count {
-        let part = &line[at..];
-        let read = read_signed(part);
-        let number = read.number;
-        if number != 0 {
-            return LineJudged { number, used: 0 };
-        }
+    for _ in 0..count {
+        let read = signed_number(&line[at..])?;
         at += read.used as usize;
-        i += 1;
     }
-    LineJudged {
-        number: 0,
-        used: at,
-    }
+    Ok(at)
 }
 
 // The numbers of a line that was judged to the front of `content`, four bytes each; nothing where less than the room is
@@ -50,12 +35,10 @@ pub fn keep_numbers(line: &[u8], count: usize, room: usize, content: &mut [u8])
         return;
     }
     let mut at = 0;
-    let mut i = 0;
-    while i < count {
-        let part = &line[at..];
-        let read = read_signed(part);
+    for i in 0..count {
+        // no number of the line is refused
+        let read = read_signed(&line[at..]);
         put_u32(content, 4 * i, word_of(read.value));
         at += read.used as usize;
-        i += 1;
     }
 }

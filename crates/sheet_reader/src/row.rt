@@ -1,35 +1,26 @@
 // What rows have in common, packed or plain: their fields and their place.
 ghost use Rattle.sheet_reader.specs.Row.{RowFieldsOf};
 
+use answer::refusal::Refusal;
 use bitstream::number::read_u16;
 use sheet_format::SheetState;
-use sheet_format::place::row_place;
 
-// number   14 or 16, or 0 where the fields are there and the row may stand here
-// row      its row number
-// count    its pixels
+// A row's number, and its pixels.
 #[derive(Clone, Copy)]
 pub struct RowFields {
-    pub number: u32,
     pub row: u32,
     pub count: u32,
 }
 
-pub fn row_fields(body: &[u8], state: SheetState) -> RowFields
+// 14 where the fields are missing, 16 where the row may not stand here.
+pub fn row_fields(body: &[u8], state: SheetState) -> Result<RowFields, Refusal>
     ensures { RowFieldsOf body.now state result }
 {
     if body.len() < 4 {
-        return RowFields {
-            number: 14,
-            row: 0,
-            count: 0,
-        };
+        return Err(Refusal::Record);
     }
     let row = read_u16(body, 0);
     let count = read_u16(body, 2);
-    RowFields {
-        number: row_place(row, state),
-        row,
-        count,
-    }
+    state.row_place(row)?;
+    Ok(RowFields { row, count })
 }

@@ -22,7 +22,7 @@ next_by s b table content =
 
 -- the step at which the sheet ends
 abbrev pub end_step : ℕ → RecordRead → SheetProgress → SheetStep
-end_step taken read p = record { failed = false; last = true; taken = taken; read = read; next = p }
+end_step taken read p = record { last = true; taken = taken; read = read; next = p }
 
 -- with the bytes b, which are what is held of a record, the step says what comes next; at the end all is carried that was
 pub record StepMade (b : List ℕ) (p : SheetProgress) (table : List ℕ) (s : SheetStep) (table' content' : List ℕ) : Type 0 where

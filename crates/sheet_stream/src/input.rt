@@ -1,34 +1,32 @@
 // A record's bytes from an input.
-ghost use Rattle.std.specs.Prelude.{◌≡◌, List, ℕ, ◌≤◌, length, take};
+ghost use Rattle.std.specs.Prelude.{◌≡◌, List, ℕ, ◌≤◌, IfOk, IfErr, length, take};
 ghost use Rattle.sheet_format.specs.Record.{length_field, record_span};
 ghost use Rattle.sheet_format.specs.Stream.{held_of};
 
 use bitstream::number::read_u32;
-use command::input::{Filled, Source, fill};
+use command::input::Input;
+use command::program::Unread;
 use sheet_format::MAX_RECORD_BYTES;
 
 // Four bytes, and as many more as they say where a record may have that length: enough to judge it, whatever stands there
 // (sheet_format, `record-span`), and no more. Fewer come only at the input's end; none come at the sheet's.
-pub fn fill_record(
-    rt: HostRuntime,
-    program: &[u8],
-    name: &[u8],
-    file: &Source,
-    bytes: &mut [u8],
-) -> Filled
+pub fn fill_record(input: &Input, bytes: &mut [u8]) -> Result<usize, Unread>
     requires { 32778 ≤ length bytes.old }
-    ensures within { result.count ≤ 32778 }
-    ensures held { take result.count bytes.new ≡ held_of (take result.count bytes.new) }
+    ensures within { IfOk result (λ count. count ≤ 32778) }
+    ensures held { IfOk result (λ count. take count bytes.new ≡ held_of (take count bytes.new)) }
+    ensures within_unread { IfErr result (λ unread. unread.count ≤ 32778) }
+    ensures held_unread { IfErr result (λ unread. take unread.count bytes.new ≡ held_of (take unread.count bytes.new)) }
 {
-    let front = fill(rt, program, name, file, &mut bytes[..4]);
-    if front.count < 4 {
-        return front;
+    let front = input.fill(&mut bytes[..4])?;
+    if front < 4 {
+        return Ok(front);
     }
     let end = span(read_u32(bytes, 0));
-    let rest = fill(rt, program, name, file, &mut bytes[4..end]);
-    Filled {
-        count: 4 + rest.count,
-        failed: rest.failed,
+    match input.fill(&mut bytes[4..end]) {
+        Ok(rest) => Ok(4 + rest),
+        Err(unread) => Err(Unread {
+            count: 4 + unread.count,
+        }),
     }
 }
 

@@ -3,8 +3,9 @@ ghost use Rattle.std.specs.Prelude.{◌≡◌, ◌+◌, ◌≤◌, ◌<◌, leng
 ghost use Rattle.sheet_format.specs.Context.{new_sheet, state_of};
 ghost use Rattle.sheet_format.specs.Kinds.{kind_of};
 ghost use Rattle.sheet_format.specs.Stream.{rows_of, end_number};
-ghost use Rattle.sheet_stream.specs.Progress.{table_after};
+ghost use Rattle.sheet_stream.specs.Progress.{carried_by, carried_after, table_after, CarriedFits};
 
+use answer::refusal::Refusal;
 use sheet_format::kind::{is_row, is_table};
 use sheet_format::{RecordRead, SheetState};
 use text::put::put_bytes;
@@ -19,6 +20,27 @@ pub struct SheetProgress {
     pub kept: usize,
     pub index: u64,
     pub rows: u64,
+}
+
+impl SheetProgress {
+    // What is carried on behind the record in `bytes`, which was accepted as `read` says: a table is kept, a row counted.
+    pub fn after(self, read: RecordRead, bytes: &[u8], table: &mut [u8]) -> SheetProgress
+        requires in_bounds { 32772 ≤ length table.old }
+        requires index_bound { self.index < 18446744073709551615 }
+        requires carried_fits { CarriedFits self table.old }
+        requires le_length { (6 ≤ read.length) × (read.length ≤ 32778) × (read.length ≤ length bytes.now) }
+        ensures fits { CarriedFits result table.new }
+        ensures carried { carried_by result table.new ≡ carried_after (carried_by self table.old) read bytes.now }
+    {
+        let kept = keep_table(read, bytes, table, self.kept);
+        let rows = rows_after(read.kind, self.rows);
+        SheetProgress {
+            state: read.state,
+            kept,
+            index: self.index + 1,
+            rows,
+        }
+    }
 }
 
 pub fn begin() -> SheetProgress
@@ -57,9 +79,13 @@ pub fn rows_after(kind: u32, rows: u64) -> u64
     if is_row(kind) { rows + 1 } else { rows }
 }
 
-// "A sheet with no records is refused 16".
+// "A sheet with no records is refused 16". A number, 0 where it is not refused, for that is what reading a record answers C.
 pub fn number_at_end(index: u64) -> u32
     ensures { result ≡ end_number index }
 {
-    if index == 0 { 16 } else { 0 }
+    if index == 0 {
+        Refusal::Place.number()
+    } else {
+        0
+    }
 }

@@ -1,23 +1,22 @@
 // One step: a record is read, and its content put into lent memory.
-ghost use Rattle.std.specs.Prelude.{◌≡◌, true, false, ◌≤◌, ◌<◌, length, take};
+ghost use Rattle.std.specs.Prelude.{◌≡◌, ◌≤◌, ◌<◌, IfOk, OnErr, length, take};
 ghost use Rattle.sheet_format.specs.Stream.{held_of};
 ghost use Rattle.sheet_stream.specs.Progress.{CarriedFits};
 ghost use Rattle.sheet_stream.specs.Step.{end_step, StepMade};
 
 use crate::input::fill_record;
-use crate::progress::{SheetProgress, keep_table, number_at_end, rows_after};
-use command::input::Source;
+use crate::progress::{SheetProgress, number_at_end};
+use command::input::Input;
+use command::program::Unread;
 use sheet_format::{RecordRead, refused};
 use sheet_reader::read_record;
 
-// failed   whether reading failed, which is said on standard error: nothing is known of what comes next
 // last     whether the sheet has ended here
 // taken    the bytes that were read, none at the sheet's end
 // read     what reading the record answered; where the sheet has ended the number says how, and the place where
 // next     what is carried on
 #[derive(Clone, Copy)]
 pub struct SheetStep {
-    pub failed: bool,
     pub last: bool,
     pub taken: usize,
     pub read: RecordRead,
@@ -28,50 +27,27 @@ pub struct SheetStep {
 // that of `table`. What comes next, by the bytes that were read, is what sheet_format defines (`next_of`). No contract can say that
 // reading moves the input's next bytes, fewer than asked only at its end: with that it is the sheet's next record (`front-held`).
 pub fn take_record(
-    rt: HostRuntime,
-    program: &[u8],
-    name: &[u8],
-    file: &Source,
+    input: &Input,
     bytes: &mut [u8],
     table: &mut [u8],
     content: &mut [u8],
     at: SheetProgress,
-) -> SheetStep
+) -> Result<SheetStep, Unread>
     requires in_bounds { 32778 ≤ length bytes.old }
     requires in_bounds_2 { 32772 ≤ length table.old }
     requires in_bounds_3 { 16384 ≤ length content.old }
     requires index_bound { at.index < 18446744073709551615 }
     requires carried_fits { CarriedFits at table.old }
-    ensures taken { result.taken ≤ 32778 }
-    ensures fits { CarriedFits result.next table.new }
-    ensures made { result.failed ≡ false
-        → StepMade (take result.taken bytes.new) at table.old result table.new content.new }
+    ensures taken { IfOk result (λ step. step.taken ≤ 32778) }
+    ensures fits { IfOk result (λ step. CarriedFits step.next table.new) }
+    ensures made { IfOk result (λ step. StepMade (take step.taken bytes.new) at table.old step table.new content.new) }
+    ensures err { OnErr result ((table.new ≡ table.old) × (content.new ≡ content.old)) }
 {
-    let got = fill_record(rt, program, name, file, bytes);
-    let count = got.count;
-    if got.failed {
-        return unread(at);
-    }
+    let count = fill_record(input, bytes)?;
     if count == 0 {
-        return end(0, refused(number_at_end(at.index)), at);
+        return Ok(end(0, refused(number_at_end(at.index)), at));
     }
-    read_one(&bytes[..count], table, content, at)
-}
-
-// Reading failed.
-pub fn unread(at: SheetProgress) -> SheetStep
-    ensures failed { result.failed ≡ true }
-    ensures last { result.last ≡ true }
-    ensures taken { result.taken ≡ 0 }
-    ensures next { result.next ≡ at }
-{
-    SheetStep {
-        failed: true,
-        last: true,
-        taken: 0,
-        read: refused(0),
-        next: at,
-    }
+    Ok(read_one(&bytes[..count], table, content, at))
 }
 
 // The sheet has ended, as `read` says.
@@ -79,7 +55,6 @@ fn end(taken: usize, read: RecordRead, at: SheetProgress) -> SheetStep
     ensures { result ≡ end_step taken read at }
 {
     SheetStep {
-        failed: false,
         last: true,
         taken,
         read,
@@ -99,25 +74,14 @@ fn read_one(bytes: &[u8], table: &mut [u8], content: &mut [u8], at: SheetProgres
     ensures fits { CarriedFits result.next table.new }
     ensures made { StepMade bytes.now at table.old result table.new content.new }
 {
-    let kept = at.kept;
-    let read = read_record(&table[..kept], bytes, at.state, content);
-    let number = read.number;
-    if number != 0 {
+    let read = read_record(&table[..at.kept], bytes, at.state, content);
+    if read.number != 0 {
         return end(bytes.len(), read, at);
     }
-    let kept = keep_table(read, bytes, table, at.kept);
-    let rows = rows_after(read.kind, at.rows);
-    let state = read.state;
     SheetStep {
-        failed: false,
         last: false,
         taken: bytes.len(),
         read,
-        next: SheetProgress {
-            state,
-            kept,
-            index: at.index + 1,
-            rows,
-        },
+        next: at.after(read, bytes, table),
     }
 }

@@ -1,9 +1,9 @@
 // Reading an input twice. No contract can say what a file holds, nor that it holds the same when it is read again.
 ghost use Rattle.std.specs.Prelude.{◌<◌};
 
-use command::input::{Source, fill};
-use command::path_of;
-use command::say::complain;
+use command::input::{Input, Source};
+use command::path::path_of;
+use command::program::{Program, Stopped, Unread, Unwritten};
 use std::fs::{File, OpenOptions, metadata, remove_file};
 use std::io;
 use std::io::{Error, ErrorKind, Seek, SeekFrom, Stdin, Write};
@@ -26,13 +26,13 @@ const STDERR_FILENO: i32 = 2;
 const MOST_TRIES: u32 = 238328;
 
 // The place where the next read begins; for a pipe and for whatever else has none, one that `again` cannot go to.
-pub fn place(file: &Source) -> u64 {
-    place_of(file).unwrap_or(u64::MAX)
+pub fn place(input: &Input) -> u64 {
+    place_of(&input.source).unwrap_or(u64::MAX)
 }
 
 // The same, with the reason where there is none. std knows no place of standard input.
-fn place_of(file: &Source) -> io::Result<u64> {
-    match file {
+fn place_of(source: &Source) -> io::Result<u64> {
+    match source {
         Source::Standard(stdin) => no_place(*stdin),
         Source::Named(file) => {
             let mut at = file;
@@ -48,20 +48,29 @@ fn no_place(stdin: Stdin) -> io::Result<u64> {
     Err(Error::from_raw_os_error(ESPIPE))
 }
 
-// An input that can be read twice: `file` itself where it has a place; of a pipe, and of standard input, a temporary file with what
+// An input that can be read twice: `input` itself where it has a place; of a pipe, and of standard input, a temporary file with what
 // is left of it, which has no name any more. Nothing where that fails, which is said on standard error: an input that is not open
 // fails here, before a temporary file can take its number.
-pub fn twice(rt: HostRuntime, program: &[u8], name: &[u8], file: Source) -> Option<Source> {
-    let file = device_or(rt, file);
-    match place_of(&file) {
-        Ok(_) => Some(file),
-        Err(e) => copy_without(rt, program, name, file, e),
+pub fn twice<'a>(input: Input<'a>) -> Option<Input<'a>> {
+    let Input {
+        program,
+        name,
+        source,
+    } = input;
+    let input = Input {
+        program,
+        name,
+        source: device_or(program.rt, source),
+    };
+    match place_of(&input.source) {
+        Ok(_) => Some(input),
+        Err(e) => copy_without(input, e),
     }
 }
 
 // Where standard input is a device, that device, opened by name: it may have a place, and no end to copy to.
-fn device_or(rt: HostRuntime, file: Source) -> Source {
-    match file {
+fn device_or(rt: HostRuntime, source: Source) -> Source {
+    match source {
         Source::Standard(stdin) => match open_device(rt) {
             Ok(device) => Source::Named(device),
             Err(_) => Source::Standard(stdin),
@@ -79,33 +88,27 @@ fn open_device(rt: HostRuntime) -> io::Result<File> {
 }
 
 // Of an input that has no place, for such a reason.
-fn copy_without(
-    rt: HostRuntime,
-    program: &[u8],
-    name: &[u8],
-    file: Source,
-    error: Error,
-) -> Option<Source> {
+fn copy_without<'a>(input: Input<'a>, error: Error) -> Option<Input<'a>> {
     if error.kind() == ErrorKind::NotSeekable {
-        return copy_of(rt, program, name, &file);
+        return copy_of(&input);
     }
-    complain(rt, program, name, error);
+    input.complain(error);
     None
 }
 
-// Back to a place. Whether that was done; where not, standard error says why.
-pub fn again(rt: HostRuntime, program: &[u8], name: &[u8], file: &Source, place: u64) -> bool {
-    match go_to(file, place) {
-        Ok(_) => true,
-        Err(e) => {
-            complain(rt, program, name, e);
-            false
-        }
+// Back to a place. Where that cannot be, standard error says why.
+pub fn again(input: &Input, place: u64) -> Result<(), Unread> {
+    match input
+        .program
+        .or_complain(input.name, go_to(&input.source, place))
+    {
+        Some(_) => Ok(()),
+        None => Err(Unread { count: 0 }),
     }
 }
 
-pub fn go_to(file: &Source, place: u64) -> io::Result<u64> {
-    match file {
+pub fn go_to(source: &Source, place: u64) -> io::Result<u64> {
+    match source {
         Source::Standard(stdin) => no_place(*stdin),
         Source::Named(file) => {
             let mut at = file;
@@ -114,68 +117,57 @@ pub fn go_to(file: &Source, place: u64) -> io::Result<u64> {
     }
 }
 
-fn copy_of(rt: HostRuntime, program: &[u8], name: &[u8], file: &Source) -> Option<Source> {
-    hold_standard(rt);
-    match create_temp(rt, program) {
-        Ok(copy) => fill_copy(rt, program, name, file, copy),
-        Err(e) => {
-            complain(rt, program, &FOLDER, e);
-            None
-        }
-    }
+fn copy_of<'a>(input: &Input<'a>) -> Option<Input<'a>> {
+    let program = input.program;
+    hold_standard(program.rt);
+    let copy = program.or_complain(&FOLDER, create_temp(program))?;
+    fill_copy(input, copy)
 }
 
-fn fill_copy(
-    rt: HostRuntime,
-    program: &[u8],
-    name: &[u8],
-    file: &Source,
-    copy: File,
-) -> Option<Source> {
+fn fill_copy<'a>(input: &Input<'a>, copy: File) -> Option<Input<'a>> {
+    let program = input.program;
     let mut block = [0u8; 65536];
-    if copy_rest(rt, program, name, file, &copy, &mut block) {
-        let held = Source::Named(copy);
-        if again(rt, program, &FOLDER, &held, 0) {
-            return Some(held);
-        }
-    }
-    None
+    copy_rest(input, &copy, &mut block).ok()?;
+    let source = Source::Named(copy);
+    program.or_complain(&FOLDER, go_to(&source, 0))?;
+    Some(Input {
+        program,
+        name: input.name,
+        source,
+    })
 }
 
 // A new file to write and read, whose name is gone again.
-fn create_temp(rt: HostRuntime, program: &[u8]) -> io::Result<File> {
-    let mut path = *b"/tmp/sheet-XXXXXX";
-    let mut tries = 0;
-    loop {
-        put_letters(rt, tries, &mut path);
-        match create_new(rt, &path) {
-            Ok(file) => {
-                unlink(rt, program, &path);
-                return Ok(file);
-            }
-            Err(e) => {
-                if e.kind() != ErrorKind::AlreadyExists {
-                    return Err(e);
-                }
-                if tries == MOST_TRIES {
-                    return Err(e);
-                }
-            }
+fn create_temp(program: Program) -> io::Result<File> {
+    for tries in 0..MOST_TRIES {
+        match create_by_chance(program, tries) {
+            Ok(file) => return Ok(file),
+            Err(e) => if e.kind() != ErrorKind::AlreadyExists {
+                return Err(e);
+            },
         }
-        tries += 1;
     }
+    create_by_chance(program, MOST_TRIES)
 }
 
-// Six letters or digits at the end of a path, by chance; another choice with each try, even where there is no chance.
-fn put_letters(rt: HostRuntime, tries: u32, path: &mut [u8; 17]) {
+fn create_by_chance(program: Program, tries: u32) -> io::Result<File> {
+    let mut path = *b"/tmp/sheet-XXXXXX";
+    put_letters(program.rt, tries, &mut path[11..]);
+    let file = create_new(program.rt, &path)?;
+    if let Err(e) = remove_named(program.rt, &path) {
+        program.complain(&path, e);
+    }
+    Ok(file)
+}
+
+// Letters or digits by chance; another choice with each try, even where there is no chance.
+fn put_letters(rt: HostRuntime, tries: u32, letters: &mut [u8]) {
     let mut chance = [0u8; 8];
     let _ = rt.fill_bytes(&mut chance);
     let mut left = u64::from_le_bytes(chance).wrapping_add(u64::from(tries));
-    let mut i = 11;
-    while i < 17 {
-        path[i] = letter(left % 62);
+    for place in letters {
+        *place = letter(left % 62);
         left /= 62;
-        i += 1;
     }
 }
 
@@ -199,12 +191,6 @@ fn create_new(rt: HostRuntime, path: &[u8]) -> io::Result<File> {
     how.open(&rt, path_of(path)?)
 }
 
-fn unlink(rt: HostRuntime, program: &[u8], path: &[u8]) {
-    if let Err(e) = remove_named(rt, path) {
-        complain(rt, program, path, e);
-    }
-}
-
 fn remove_named(rt: HostRuntime, path: &[u8]) -> io::Result<()> {
     remove_file(&rt, path_of(path)?)
 }
@@ -212,9 +198,9 @@ fn remove_named(rt: HostRuntime, path: &[u8]) -> io::Result<()> {
 // Holds the numbers of standard streams that are closed, for the temporary file is not to have one of them: what goes to standard
 // output or standard error would be written into it.
 fn hold_standard(rt: HostRuntime) {
-    if hold_next(rt) {
-        if hold_next(rt) {
-            hold_next(rt);
+    for _ in 0..3 {
+        if !hold_next(rt) {
+            return;
         }
     }
 }
@@ -233,42 +219,21 @@ fn hold_next(rt: HostRuntime) -> bool {
     }
 }
 
-// What is left of `file`, a block at a time, until a read brings less than a block. `blocks` is a number that no run uses up, so
-// that the loop ends.
-fn copy_rest(
-    rt: HostRuntime,
-    program: &[u8],
-    name: &[u8],
-    file: &Source,
-    to: &File,
-    block: &mut [u8],
-) -> bool {
-    let mut blocks = 0u64;
-    while blocks < u64::MAX {
-        let got = fill(rt, program, name, file, block);
-        let count = got.count;
-        if got.failed {
-            return false;
-        }
-        if write_block(rt, program, to, &block[..count]) {
-            blocks += 1;
-        } else {
-            return false;
-        }
+// What is left of the input, a block at a time, until a read brings less than a block. No run uses up so many blocks.
+fn copy_rest(input: &Input, to: &File, block: &mut [u8]) -> Result<(), Stopped> {
+    for _ in 0..u64::MAX {
+        let count = input.fill(block)?;
+        write_block(input.program, to, &block[..count])?;
         if count < block.len() {
-            return true;
+            return Ok(());
         }
     }
-    false
+    Err(Stopped::Unread)
 }
 
-fn write_block(rt: HostRuntime, program: &[u8], to: &File, block: &[u8]) -> bool {
+fn write_block(program: Program, to: &File, block: &[u8]) -> Result<(), Unwritten> {
     let mut writer = to;
-    match writer.write_all(block) {
-        Ok(()) => true,
-        Err(e) => {
-            complain(rt, program, &FOLDER, e);
-            false
-        }
-    }
+    program
+        .or_complain(&FOLDER, writer.write_all(block))
+        .ok_or(Unwritten)
 }

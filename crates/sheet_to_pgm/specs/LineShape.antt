@@ -1,6 +1,7 @@
 -- The shape of a sheet's rows as lines, as it is found a row at a time: rows come in the order of their numbers. Definitions only;
 -- their laws are in LineShape/Laws.antt. Assumes nothing.
-use Rattle.std.specs.Prelude.{ℕ, ◌+◌, ◌≤◌, ◌≡◌, cond, List, ltb, eqb}
+use Rattle.std.specs.Prelude.{ℕ, ◌+◌, ◌≤◌, max, ◌≡◌, cond, List, ltb, eqb, Option, Some, None}
+use Rattle.std.specs.Option.{option_or}
 use Rattle.sheet_format.specs.declared.RecordRead.{RecordRead}
 use Rattle.sheet_format.specs.Context.{new_sheet}
 use Rattle.sheet_format.specs.Kind.{is_row}
@@ -10,16 +11,16 @@ use Rattle.sheet_format.specs.Stream.{Carried, Carries}
 use Rattle.sheet_format.specs.Size.{rows_width, rows_height}
 use Rattle.pgm_format.specs.Shape.{LineFault, no_fault, row_missing, row_unequal, heights_in, sheet_fault}
 use Rattle.sheet_to_pgm.specs.declared.shape.RowFault.{RowFault}
-use Rattle.sheet_to_pgm.specs.declared.shape.RowFault.TheVariants.{Whole, Missing, Unequal}
+use Rattle.sheet_to_pgm.specs.declared.shape.RowFault.TheVariants.{Missing, Unequal}
 use Rattle.sheet_to_pgm.specs.declared.shape.LineShape.{LineShape}
 pub mod Laws
 pub mod Steps
 
 -- the fault that is meant
-abbrev pub fault_said : RowFault → LineFault
-fault_said Whole = no_fault
-fault_said (Missing n) = row_missing n
-fault_said (Unequal n k w) = row_unequal n k w
+abbrev pub fault_said : Option RowFault → LineFault
+fault_said None = no_fault
+fault_said (Some (Missing n)) = row_missing n
+fault_said (Some (Unequal n k w)) = row_unequal n k w
 
 -- of some rows
 pub record ShapeOf (s : LineShape) (ys : List StoredRow) : Type 0 where
@@ -30,32 +31,24 @@ pub record ShapeOf (s : LineShape) (ys : List StoredRow) : Type 0 where
 
 -- ---- a row at a time
 abbrev pub shape_none : LineShape
-shape_none = record { width = 0; count = 0; first = 0; fault = Whole }
-
-abbrev pub or_first : RowFault → RowFault → RowFault
-or_first Whole f = f
-or_first (Missing n) f = Missing n
-or_first (Unequal n k w) f = Unequal n k w
+shape_none = record { width = 0; count = 0; first = 0; fault = None }
 
 -- of row n with k heights, where c is the next number and row 0 has w heights
-abbrev pub fault_with : ℕ → ℕ → ℕ → ℕ → RowFault
-fault_with c n k w = cond (ltb c n) (Missing c) (cond (eqb k w) Whole (Unequal n k w))
+abbrev pub fault_with : ℕ → ℕ → ℕ → ℕ → Option RowFault
+fault_with c n k w = cond (ltb c n) (Some (Missing c)) (cond (eqb k w) None (Some (Unequal n k w)))
 
 abbrev pub first_with : ℕ → ℕ → ℕ → ℕ
 first_with w n k = cond (eqb n 0) k w
-
-abbrev pub shape_width : ℕ → ℕ → ℕ
-shape_width w k = cond (ltb w k) k w
 
 -- with row n, which has k heights
 abbrev pub shape_with : LineShape → ℕ → ℕ → LineShape
 shape_with s n k =
     let first : ℕ = first_with s.first n k in
     record {
-      width = shape_width s.width k;
+      width = max s.width k;
       count = n + 1;
       first = first;
-      fault = or_first s.fault (fault_with s.count n k first);
+      fault = option_or s.fault (fault_with s.count n k first);
     }
 
 -- with an accepted record that was answered so

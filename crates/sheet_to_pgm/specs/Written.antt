@@ -1,6 +1,6 @@
 -- What the program may write: the picture that is defined for an accepted sheet (pgm_format, `sheet_pgm`), or the reason why there is
 -- none. Definitions only; their laws are in Written/Laws.antt. Assumes nothing.
-use Rattle.std.specs.Prelude.{ℕ, ◌+◌, ◌≤◌, ◌<◌, ◌≡◌, true, cond, List, [], ◌++◌}
+use Rattle.std.specs.Prelude.{ℕ, ◌+◌, ◌≤◌, ◌<◌, ◌≡◌, true, cond, List, [], ◌++◌, Option, Some, None}
 use Rattle.text.specs.Text.{ascii, field, fields}
 use Rattle.sheet_format.specs.declared.RecordRead.{RecordRead}
 use Rattle.sheet_format.specs.Kind.{is_row}
@@ -13,19 +13,18 @@ use Rattle.pgm_format.specs.Samples.{samples_of, lines_bytes}
 use Rattle.pgm_format.specs.Shape.{LineFault, no_fault, row_missing, row_unequal, padded_line, padded_lines, Padding, no_padding, pad_with}
 use Rattle.pgm_format.specs.Shape.{SheetPgm, no_heights, at_fault, pgm_picture, sheet_pgm}
 use Rattle.sheet_stream.specs.AcceptedRecord.{AcceptedRecord, row_answered}
-use Rattle.sheet_to_pgm.specs.declared.pads.Pads.{Pads}
-use Rattle.sheet_to_pgm.specs.declared.pads.Pads.TheVariants.{Refused, Height}
 pub mod Laws
 pub mod Theorems
 
-abbrev pub padding : Pads → Padding
-padding Refused = no_padding
-padding (Height h) = pad_with h
+-- what a row lacks is a fault, or is this
+abbrev pub padding : Option ℕ → Padding
+padding None = no_padding
+padding (Some h) = pad_with h
 
 -- what a line lacks is this; a picture without padding lacks nothing
-abbrev pub pad_height : Pads → ℕ
-pad_height Refused = 0
-pad_height (Height h) = h
+abbrev pub pad_height : Option ℕ → ℕ
+pad_height None = 0
+pad_height (Some h) = h
 
 -- ---- no picture
 -- `row 3 is missing`, `row 7 has 12 heights and row 0 has 16`
@@ -40,7 +39,7 @@ reason_text (at_fault f) = fault_text f
 reason_text (pgm_picture b) = []
 
 -- text says why some accepted sheet has no picture
-pub record Reason (p : Pads) (text : List ℕ) : Type 0 where
+pub record Reason (p : Option ℕ) (text : List ℕ) : Type 0 where
   pub sheet : List ℕ
   pub accepted : (sheet_read sheet).number ≡ 0
   pub says : text ≡ reason_text (sheet_pgm (padding p) (stored_rows (sheet_read sheet).records))
@@ -53,7 +52,7 @@ pub record FaultFound (f : LineFault) : Type 0 where
 
 -- ---- a picture
 -- of some accepted sheet: c lines of w heights. Here as above, that it is the sheet that was read is the loop's (judge_sheet)
-pub record PictureFound (p : Pads) (w c : ℕ) : Type 0 where
+pub record PictureFound (p : Option ℕ) (w c : ℕ) : Type 0 where
   pub sheet : List ℕ
   pub accepted : (sheet_read sheet).number ≡ 0
   pub wide : w ≤ 4096
@@ -61,7 +60,7 @@ pub record PictureFound (p : Pads) (w c : ℕ) : Type 0 where
       ≡ pgm_picture (pgm_front w c ++ lines_bytes (padded_lines (pad_height p) w 0 c (stored_rows (sheet_read sheet).records)))
 
 -- text is its header
-pub record PictureFront (p : Pads) (w c : ℕ) (text : List ℕ) : Type 0 where
+pub record PictureFront (p : Option ℕ) (w c : ℕ) (text : List ℕ) : Type 0 where
   pub found : PictureFound p w c
   pub front : text ≡ pgm_front w c
 

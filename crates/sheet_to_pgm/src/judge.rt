@@ -1,77 +1,45 @@
 // The first pass: the sheet is judged, and the shape of its rows found.
-ghost use Rattle.std.specs.Prelude.{◌≡◌, true, false, ◌≤◌, ◌<◌, length};
+ghost use Rattle.std.specs.Prelude.{◌≡◌, true, ◌<◌, IfOk};
 ghost use Rattle.sheet_format.specs.Kind.{is_row};
 ghost use Rattle.sheet_format.specs.Kinds.{kind_of};
 ghost use Rattle.sheet_to_pgm.specs.LineShape.{shape_after, ShapeFound};
 
-use crate::PROGRAM;
-use crate::shape::{LineShape, shape_none, shape_with};
-use command::input::Source;
+use crate::memory::Memory;
+use crate::reason::NoPicture;
+use crate::shape::LineShape;
+use command::input::Input;
 use sheet_format::RecordRead;
 use sheet_format::kind::is_row;
 use sheet_stream::progress::begin;
 use sheet_stream::step::take_record;
 use sheet_verdict::say_verdict;
 
-// accepted   whether the sheet is
-// shape      then the shape of its rows
-#[derive(Clone, Copy)]
-pub struct Judged {
-    pub accepted: bool,
-    pub shape: LineShape,
-}
-
-// How the sheet ends is said on standard error; where reading fails, that is.
-// bytes     the record that is read
-// table     the sheet's table, from its first record on
-// content   the heights of a row
-// at        what is carried; its index is a number that no run uses up, so that the loop ends
-pub fn judge_sheet(
-    rt: HostRuntime,
-    file: &Source,
-    name: &[u8],
-    bytes: &mut [u8],
-    table: &mut [u8],
-    content: &mut [u8],
-) -> Judged
-    requires in_bounds { 32778 ≤ length bytes.old }
-    requires in_bounds_2 { 32772 ≤ length table.old }
-    requires in_bounds_3 { 16384 ≤ length content.old }
-    ensures { result.accepted ≡ true → ShapeFound result.shape }
+// The shape of the rows of a sheet that is accepted. How the sheet ends is said on standard error; where reading fails, that is. No
+// run uses up so many records.
+pub fn judge_sheet(input: &Input, memory: &mut Memory) -> Result<LineShape, NoPicture>
+    ensures { IfOk result (λ shape. ShapeFound shape) }
 {
     let mut at = begin();
-    let mut shape = shape_none();
-    while at.index < u64::MAX {
-        let step = take_record(rt, &PROGRAM, name, file, bytes, table, content, at);
-        if step.failed {
-            return ended_with(1, shape);
-        }
-        let taken = step.taken;
+    let mut shape = LineShape::none();
+    for _ in 0..u64::MAX {
+        let step = take_record(
+            input,
+            &mut memory.bytes,
+            &mut memory.table,
+            &mut memory.content,
+            at,
+        )?;
         if step.last {
-            say_verdict(rt, &bytes[..taken], step);
-            return ended_with(step.read.number, shape);
+            say_verdict(input.program, &memory.bytes[..step.taken], step);
+            if step.read.number == 0 {
+                return Ok(shape);
+            }
+            return Err(NoPicture);
         }
         shape = shape_after(shape, step.read);
         at = step.next;
     }
-    ended_with(1, shape)
-}
-
-// A sheet that ends with such a number.
-fn ended_with(number: u32, shape: LineShape) -> Judged
-    ensures accepted { result.accepted ≡ true → number ≡ 0 }
-    ensures shape { result.shape ≡ shape }
-{
-    if number == 0 {
-        return Judged {
-            accepted: true,
-            shape,
-        };
-    }
-    Judged {
-        accepted: false,
-        shape,
-    }
+    Err(NoPicture)
 }
 
 // With the record that was read last.
@@ -80,7 +48,7 @@ fn shape_after(shape: LineShape, read: RecordRead) -> LineShape
     ensures { result ≡ shape_after shape read }
 {
     if is_row(read.kind) {
-        return shape_with(shape, read.row, read.count);
+        return shape.with_row(read.row, read.count);
     }
     shape
 }

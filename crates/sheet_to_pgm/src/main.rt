@@ -2,8 +2,10 @@
 // row at a time; how it ends is said on standard error.
 #![tactic(auto)]
 
+mod frame;
 mod judge;
 mod lines;
+mod memory;
 mod pads;
 mod passes;
 mod picture;
@@ -12,55 +14,15 @@ mod rows;
 mod shape;
 mod words;
 
-use command::option::{Asked, read_options};
-use command::say::{complain, print_version, refuse_lacking, refuse_option};
-use std::io;
-use std::io::Print;
+use command::program::Program;
 use words::write_words;
 
-pub const PROGRAM: [u8; 12] = *b"sheet_to_pgm";
-
-// The options and their values.
-pub const USAGE: [u8; 7] = *b"--pad H";
-
 fn main(rt: HostRuntime) {
-    match read_options(rt, &USAGE) {
-        Asked::Help => print_help(rt),
-        Asked::Version => print_program(rt),
-        Asked::Unknown(i) => refuse(rt, i),
-        Asked::Lacking(i) => refuse_short(rt, i),
-        Asked::Words => write_words(rt),
-    }
-}
-
-fn print_help(rt: HostRuntime) {
-    if let Err(e) = help(&rt.stdout()) {
-        complain(rt, &PROGRAM, b"standard output", e);
-    }
-}
-
-fn print_program(rt: HostRuntime) {
-    print_version(rt, &PROGRAM);
-}
-
-fn refuse(rt: HostRuntime, i: usize) {
-    refuse_option(rt, &PROGRAM, i);
-    say_help(rt);
-}
-
-fn refuse_short(rt: HostRuntime, i: usize) {
-    refuse_lacking(rt, &PROGRAM, i);
-    say_help(rt);
-}
-
-// The same on standard error.
-pub fn say_help(rt: HostRuntime) {
-    let _ = help(&rt.stderr());
-}
-
-pub fn help(to: &impl Print) -> io::Result<()> {
-    to.write_all(
-        b"usage: sheet_to_pgm [--pad H] [FILE]
+    let program = Program {
+        rt,
+        name: b"sheet_to_pgm",
+        usage: b"--pad H",
+        help: b"usage: sheet_to_pgm [--pad H] [FILE]
 
 Writes the heights of a sheet as a binary PGM, a line of samples a row, two
 bytes a sample and 4095 the largest value. Every row from 0 to the last is to be
@@ -74,5 +36,8 @@ copied to a file in /tmp.
   --version  prints the version
   --         ends the options
 ",
-    )
+    };
+    if program.is_asked_to_work() {
+        write_words(program);
+    }
 }

@@ -8,7 +8,7 @@ ghost use Rattle.sheet_format.specs.Kinds.{kind_of};
 ghost use Rattle.sheet_stream.specs.AcceptedRecord.{row_answered};
 ghost use Rattle.sheet_to_text.specs.SheetText.{held_text};
 
-use crate::range::{RowRange, is_asked};
+use crate::range::RowRange;
 use map_text::spaced::put_spaced;
 use sheet_format::kind::is_row;
 use sheet_stream::step::SheetStep;
@@ -27,14 +27,14 @@ pub fn put_record_text(out: &mut [u8], range: RowRange, step: SheetStep, content
 {
     let read = step.read;
     let row = read.row as u64;
-    if is_row(read.kind) {
-        if is_asked(range, row) {
-            let n = 2 * read.count as usize;
-            return put_row_line(out, row, &content[..n]);
-        }
+    if !is_row(read.kind) {
         return 0;
     }
-    0
+    if !range.has(row) {
+        return 0;
+    }
+    let n = 2 * read.count as usize;
+    put_row_line(out, row, &content[..n])
 }
 
 // A row's number and its heights, two little-endian bytes each.

@@ -1,8 +1,8 @@
 // Which rows are asked for.
 ghost use Rattle.std.specs.Prelude.{◌≡◌, ◌≤◌, length};
-ghost use Rattle.sheet_to_text.specs.RowRange.{before_dash, in_order_only, range_between, range_in, is_asked};
+ghost use Rattle.sheet_to_text.specs.RowRange.{before_dash, range_between, range_in, is_asked};
 
-use text::read::{Decimal, read_decimal};
+use text::read::read_decimal;
 
 // The rows with these numbers and those between them.
 #[derive(Clone, Copy)]
@@ -11,45 +11,37 @@ pub struct RowRange {
     pub last: u64,
 }
 
-// What some bytes say, where they are read as a range.
-#[derive(Clone, Copy)]
-pub enum RangeRead {
-    Range(RowRange),
-    NoRange,
-}
-
-// `A-B`
-pub fn range_in(word: &[u8]) -> RangeRead
-    ensures { result ≡ range_in word.now }
-{
-    let dash = before_dash(word);
-    if dash == word.len() {
-        return RangeRead::NoRange;
+impl RowRange {
+    // What `A-B` says; nothing where a word is not so.
+    pub fn read(word: &[u8]) -> Option<RowRange>
+        ensures { result ≡ range_in word.now }
+    {
+        let dash = before_dash(word);
+        if dash == word.len() {
+            return None;
+        }
+        let first = read_decimal(&word[..dash], 65535);
+        let last = read_decimal(&word[dash + 1..], 65535);
+        range_between(first, last)
     }
-    let first = read_decimal(&word[..dash], 65535);
-    let last = read_decimal(&word[dash + 1..], 65535);
-    range_between(first, last)
+
+    // Whether the row of that number is asked for.
+    pub fn has(self, row: u64) -> bool
+        ensures { result ≡ is_asked self row }
+    {
+        self.first <= row && row <= self.last
+    }
 }
 
-fn range_between(first: Decimal, last: Decimal) -> RangeRead
+fn range_between(first: Option<u64>, last: Option<u64>) -> Option<RowRange>
     ensures { result ≡ range_between first last }
 {
-    let Decimal::Number(a) = first else {
-        return RangeRead::NoRange;
-    };
-    let Decimal::Number(b) = last else {
-        return RangeRead::NoRange;
-    };
-    in_order_only(a, b)
-}
-
-fn in_order_only(a: u64, b: u64) -> RangeRead
-    ensures { result ≡ in_order_only a b }
-{
-    if b < a {
-        return RangeRead::NoRange;
+    let first = first?;
+    let last = last?;
+    if last < first {
+        return None;
     }
-    RangeRead::Range(RowRange { first: a, last: b })
+    Some(RowRange { first, last })
 }
 
 // How many bytes stand before the first `-`.
@@ -57,24 +49,10 @@ fn before_dash(word: &[u8]) -> usize
     ensures is { result ≡ before_dash word.now }
     ensures within { result ≤ length word.now }
 {
-    let mut i = 0;
-    while i < word.len() {
-        if word[i] == b'-' {
+    for (i, b) in word.iter().enumerate() {
+        if *b == b'-' {
             return i;
         }
-        i += 1;
     }
-    i
-}
-
-pub fn is_asked(range: RowRange, row: u64) -> bool
-    ensures { result ≡ is_asked range row }
-{
-    if row < range.first {
-        return false;
-    }
-    if range.last < row {
-        return false;
-    }
-    true
+    word.len()
 }

@@ -17,7 +17,13 @@ use Rattle.sheet_format.specs.Kind.{after_record}
 use Rattle.sheet_format.specs.Kinds.{kind_of}
 use Rattle.sheet_format.specs.Writing.{record_for, write_number, not_written, record_written}
 use Rattle.sheet_format.specs.Writing.Laws.{record_written-done, record_written-refused}
+use Rattle.std.specs.Prelude.{Result}
+use Rattle.std.specs.Result.{IsErrAnd}
+use Rattle.std.proofs.lemmas.Result.{err_from_is_err_and}
+use Rattle.sheet_writer.specs.declared.done.Written.{Written}
+use Rattle.sheet_writer.specs.declared.done.NotWritten.{NotWritten}
 use Rattle.sheet_writer.specs.BeforeRoom.{before_room}
+use Rattle.sheet_writer.specs.Done.{record_answer}
 
 -- k bytes of fields, f, and behind them the content b
 pub record Frame (code : ℕ) (h : Heading) (c : Context) (x f b : List ℕ) (k : ℕ) : Type 0 where
@@ -28,6 +34,10 @@ pub record Frame (code : ℕ) (h : Heading) (c : Context) (x f b : List ℕ) (k 
 -- what copying all of b leaves
 pub all-copied : (b m y : List ℕ) → y ≡ take (length b) b ++ drop (length b) m → y ≡ b ++ drop (length b) m
 all-copied b m y e = rw (take-length b) at e
+
+-- what a refusal with the number n answers
+pub err-answer : (r : Result Written NotWritten) {n : ℕ} → IsErrAnd r (λ y. y.number ≡ n) → record_answer r ≡ not_written n
+err-answer r is = let p = err_from_is_err_and r is in rw (p.1, p.2)
 
 -- ---- any record
 pub refused-number : (code : ℕ) (h : Heading) (c : Context) (x m : List ℕ)

@@ -1,3 +1,4 @@
 pub mod BeforeRoom
+pub mod Done
 pub mod Fields
 pub mod Numbers

@@ -12,13 +12,10 @@ pub fn line_bytes(content: &[u8]) -> usize
     requires { length content.now / 4 ≤ 4096 }
     ensures { result ≡ length (line_bytes (given_numbers content.now)) }
 {
-    let n = content.len() / 4;
     let mut bytes: usize = 0;
-    let mut i = 0;
-    while i < n {
+    for i in 0..content.len() / 4 {
         let value = number_at(content, i);
         bytes += number_bytes(value);
-        i += 1;
     }
     bytes
 }
@@ -28,14 +25,11 @@ pub fn put_numbers(content: &[u8], out: &mut [u8])
     requires { length (line_bytes (given_numbers content.now)) ≤ length out.old }
     ensures { out.new ≡ numbers_written content.now out.old }
 {
-    let n = content.len() / 4;
     // the bytes of the first i numbers end at `at`
     let mut at: usize = 0;
-    let mut i = 0;
-    while i < n {
+    for i in 0..content.len() / 4 {
         let value = number_at(content, i);
         let put = write_signed(value, &mut out[at..]);
         at += put.count as usize;
-        i += 1;
     }
 }

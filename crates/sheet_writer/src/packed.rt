@@ -1,18 +1,17 @@
 // Kind 2: a row, packed under the sheet's table.
-ghost use Rattle.std.specs.Prelude.{◌≡◌, min};
+ghost use Rattle.std.specs.Prelude.{◌≡◌};
 ghost use Rattle.answer.specs.Outcome.{outcome};
 ghost use Rattle.row_packer.specs.Known.{Known};
 ghost use Rattle.sheet_format.specs.Context.{context_of};
 ghost use Rattle.sheet_format.specs.Writing.{record_written};
+ghost use Rattle.sheet_writer.specs.Done.{record_answer};
 
-use crate::done::{refused, written};
-use crate::fields::put_row_fields;
+use crate::done::{NotWritten, Written, count_of, record_answer};
+use crate::fields::{ROW_FIELD_BYTES, put_row_fields};
+use answer::refusal::Refusal;
 use row_packer::pack::pack_known;
-use sheet_format::place::{after_row, row_place};
+use sheet_format::kind::RecordKind;
 use sheet_format::{RecordWritten, SheetState};
-
-// Length 4, kind 2, row number 2 and pixel count 2.
-const FIELD_BYTES: usize = 10;
 
 // The table may be known to be accepted, with a longest item of `most` bits: it is then not checked. With 0 nothing is known.
 pub fn write_packed(
@@ -27,29 +26,41 @@ pub fn write_packed(
     ensures { outcome result out.new ≡ record_written 2 (record { row = row })
         (context_of table.now state) content.now out.old }
 {
-    let place = row_place(row, state);
-    if place != 0 {
-        return refused(place);
-    }
-    // The words are packed straight to their place behind the fields. Memory that is too small for these lends its empty
-    // end: packing then gives the numbers that come before 5, and writes nothing.
-    let start = lesser(FIELD_BYTES, out.len());
-    let packed = pack_known(table, most, content, &mut out[start..]);
-    if packed.number != 0 {
-        return refused(packed.number);
-    }
-    if start < FIELD_BYTES {
-        return refused(5);
-    }
-    let pixels = content.len() / 2;
-    let words = ((packed.count + 31) / 32) as usize;
-    let record_bytes = FIELD_BYTES + 4 * words;
-    put_row_fields(2, row, pixels as u32, record_bytes as u32, out);
-    written(record_bytes as u32, after_row(row, state))
+    record_answer(put_packed(row, content, table, most, state, out))
 }
 
-fn lesser(a: usize, b: usize) -> usize
-    ensures { result ≡ min a b }
+pub fn put_packed(
+    row: u32,
+    content: &[u8],
+    table: &[u8],
+    most: u32,
+    state: SheetState,
+    out: &mut [u8],
+) -> Result<Written, NotWritten>
+    requires { Known most table.now }
+    ensures { outcome (record_answer result) out.new ≡ record_written 2 (record { row = row })
+        (context_of table.now state) content.now out.old }
 {
-    if a < b { a } else { b }
+    state.row_place(row)?;
+    // The words are packed straight to their place behind the fields. Memory that is too small for these lends its empty
+    // end: packing then gives the numbers that come before 5, and writes nothing.
+    let start = ROW_FIELD_BYTES.min(out.len());
+    let bits = count_of(pack_known(table, most, content, &mut out[start..]))?;
+    if start < ROW_FIELD_BYTES {
+        return Err(Refusal::Room.into());
+    }
+    let pixels = content.len() / 2;
+    let words = bits.div_ceil(32) as usize;
+    let record_bytes = ROW_FIELD_BYTES + 4 * words;
+    put_row_fields(
+        RecordKind::PackedRow,
+        row,
+        pixels as u32,
+        record_bytes as u32,
+        out,
+    );
+    Ok(Written {
+        count: record_bytes as u32,
+        state: state.after_row(row),
+    })
 }

@@ -3,8 +3,10 @@
 -- value; tb, pb and wb are the bytes of a table, of pixels and of words, and m is the memory lent for a row. Every call but opening
 -- looks at the shelf's length, and at what it holds through the party's view of it, v. Definitions only; their laws are in proofs/Calls/.
 -- Assumes nothing.
-use Rattle.std.specs.Prelude.{ℕ, ◌+◌, ◌≤◌, ◌<◌, ◌≡◌, Bool, true, false, not, List, [], ◌∷◌, ◌++◌, length, replicate, eqb}
+use Rattle.std.specs.Prelude.{ℕ, ◌+◌, ◌≤◌, ◌<◌, ◌≡◌, Bool, true, false, not, List, [], ◌∷◌, ◌++◌, length, replicate, eqb, Result, Ok, Err}
 use Rattle.answer.specs.declared.Answer.{Answer}
+use Rattle.answer.specs.declared.refusal.Refusal.{Refusal}
+use Rattle.answer.specs.Refusal.{refusal_number}
 use Rattle.answer.specs.Outcome.{Outcome, outcome, refusal, refused, wrote, ◌or_else◌, refuse_if, unless, lent, room_number}
 use Rattle.row_format.specs.declared.RowUnpacked.{RowUnpacked}
 use Rattle.row_format.specs.Lists.{least}
@@ -35,6 +37,11 @@ shelf_opened t0 t1 t2 t3 s =
 -- ---- a put and a removal answer the place that changed; refused, they answer the place 0 and leave the shelf as found
 abbrev pub not_changed : ℕ → PlaceChanged
 not_changed e = record { number = e; place = 0 }
+
+-- what was given, as C has it: the place, or why not
+abbrev pub as_place_changed : Result ℕ Refusal → PlaceChanged
+as_place_changed (Ok i) = record { number = 0; place = i }
+as_place_changed (Err e) = not_changed (refusal_number e)
 
 abbrev pub changed : List ℕ → ℕ → List ℕ → Outcome PlaceChanged
 changed s i b = outcome (record { number = 0; place = i }) (placed s i b)

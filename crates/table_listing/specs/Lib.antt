@@ -1,6 +1,8 @@
 pub mod Order
+pub mod Way
 pub mod Parted
 pub mod Line
+pub mod Listed
 pub mod Listing
 pub mod Append
 pub mod Theorems

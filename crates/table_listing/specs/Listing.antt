@@ -7,7 +7,7 @@ use Rattle.row_format.specs.Table.{codeword_at, table_number}
 use Rattle.text.specs.Lines.{refused_line}
 use Rattle.table_listing.specs.Order.{order, places}
 use Rattle.table_listing.specs.Line.{line}
-use Rattle.table_listing.specs.declared.ListedLines.{ListedLines}
+use Rattle.table_listing.specs.Listed.{ListedLines}
 pub mod Laws
 pub mod Blocks
 pub mod Answers

@@ -5,8 +5,9 @@ ghost use Rattle.row_format.specs.Table.{codeword_at};
 ghost use Rattle.text.specs.Put.{Put};
 ghost use Rattle.table_listing.specs.Order.{picked, order, places};
 ghost use Rattle.table_listing.specs.Parted.{Parted};
+ghost use Rattle.table_listing.specs.Way.{way_number};
 
-use crate::string::way_of;
+use crate::string::{Way, way_of};
 
 // Where the places that go into the 0-branch begin, and where those that go into the 1-branch do.
 #[derive(Clone, Copy)]
@@ -20,10 +21,8 @@ pub fn number(list: &mut [u16])
     requires { length list.old ≤ 8190 }
     ensures { list.new ≡ places (length list.old) }
 {
-    let mut i = 0;
-    while i < list.len() {
-        list[i] = i as u16;
-        i += 1;
+    for (i, place) in list.iter_mut().enumerate() {
+        *place = i as u16;
     }
 }
 
@@ -57,7 +56,7 @@ fn part(table: &[u8], list: &mut [u16], scratch: &mut [u16], d: u32) -> Parts
 {
     let n = list.len();
     let from = &mut scratch[..n];
-    copy(list, from);
+    from.copy_from_slice(list);
     pick_each(table, from, d, list)
 }
 
@@ -67,40 +66,24 @@ fn pick_each(table: &[u8], from: &[u16], d: u32, out: &mut [u16]) -> Parts
     requires from_len { length from.now ≡ length out.old }
     ensures { Parted (codeword_at (words_of table.now)) d from.now result out.new }
 {
-    let ends = pick(table, from, d, 0, out, 0);
-    let zeros = pick(table, from, d, 1, out, ends);
-    pick(table, from, d, 2, out, zeros);
+    let ends = pick(table, from, d, Way::Ends, out, 0);
+    let zeros = pick(table, from, d, Way::Zero, out, ends);
+    pick(table, from, d, Way::One, out, zeros);
     Parts { ends, zeros }
 }
 
-fn copy(from: &[u16], to: &mut [u16])
-    requires { length from.now ≡ length to.old }
-    ensures { to.new ≡ from.now }
-{
-    let mut i = 0;
-    while i < from.len() {
-        to[i] = from[i];
-        i += 1;
-    }
-}
-
-// Puts those of some places whose strings go the way k, in their order.
-fn pick(table: &[u8], from: &[u16], d: u32, k: u32, out: &mut [u16], at: usize) -> usize
+// Puts those of some places whose strings go one way, in their order.
+fn pick(table: &[u8], from: &[u16], d: u32, way: Way, out: &mut [u16], at: usize) -> usize
     requires d_bound { d < 32 }
-    requires from_in_bounds { at + length (picked (codeword_at (words_of table.now)) d k from.now) ≤ length out.old }
+    requires from_in_bounds { at + length (picked (codeword_at (words_of table.now)) d (way_number way) from.now) ≤ length out.old }
     ensures { Put out.old at
-        (picked (codeword_at (words_of table.now)) d k from.now) result out.new }
+        (picked (codeword_at (words_of table.now)) d (way_number way) from.now) result out.new }
 {
     let mut next = at;
-    let mut i = 0;
-    while i < from.len() {
-        let place = from[i];
-        if way_of(table, d, place) == k {
+    for &place in from {
+        if way_of(table, d, place) == way {
             out[next] = place;
             next += 1;
-            i += 1;
-        } else {
-            i += 1;
         }
     }
     next

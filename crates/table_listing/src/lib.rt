@@ -10,17 +10,17 @@ mod string;
 ghost use Rattle.std.specs.Prelude.{◌≡◌, ◌≤◌, length};
 ghost use Rattle.answer.specs.Outcome.{outcome};
 ghost use Rattle.row_format.specs.Table.{table_number};
+ghost use Rattle.table_listing.specs.Listed.{as_listed};
 ghost use Rattle.table_listing.specs.Listing.{block};
 
+use answer::refusal::Refusal;
 use arrange::{arrange, number};
 use block::list_lines;
-use code_table::check::check;
+use code_table::check::max_item_bits;
 
-// A number of document 01's table, 0 for done; how many lines a call put, and how many bytes they take. A refusal has 0 for
-// both.
+// How many lines a call put, and how many bytes they take.
 #[derive(Clone, Copy)]
-pub struct ListedLines {
-    pub number: u32,
+pub struct Listed {
     pub lines: usize,
     pub bytes: usize,
 }
@@ -28,18 +28,10 @@ pub struct ListedLines {
 // Puts the lines of a table's strings from the line `first` on, counted from 0, at the front of `out`: as many as fit whole,
 // and none where the listing has ended. It refuses 1, 2, 3 for the table, and 5 where the first of these lines does not fit;
 // no line has more than 128 bytes.
-pub fn list_table(table: &[u8], first: usize, out: &mut [u8]) -> ListedLines
-    ensures { outcome result out.new ≡ block table.now first out.old }
+pub fn list_table(table: &[u8], first: usize, out: &mut [u8]) -> Result<Listed, Refusal>
+    ensures { outcome (as_listed result) out.new ≡ block table.now first out.old }
 {
-    let answer = check(table);
-    let number = answer.number;
-    if number != 0 {
-        return ListedLines {
-            number,
-            lines: 0,
-            bytes: 0,
-        };
-    }
+    max_item_bits(table)?;
     // a table has at most 8190 strings
     let mut list = [0u16; 8190];
     let mut scratch = [0u16; 8190];
@@ -53,11 +45,11 @@ fn list_strings(
     scratch: &mut [u16],
     first: usize,
     out: &mut [u8],
-) -> ListedLines
+) -> Result<Listed, Refusal>
     requires table_value { table_number table.now ≡ 0 }
     requires in_bounds { 8190 ≤ length list.old }
     requires in_bounds_2 { 8190 ≤ length scratch.old }
-    ensures { outcome result out.new ≡ block table.now first out.old }
+    ensures { outcome (as_listed result) out.new ≡ block table.now first out.old }
 {
     let count = table.len() / 4 - 3;
     let places = &mut list[..count];

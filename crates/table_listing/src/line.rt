@@ -35,16 +35,12 @@ fn put_name(out: &mut [u8], at: usize, table: &[u8], place: u16) -> usize
     ensures put { Put out.old at (name (words_of table.now) place) result out.new }
     ensures most { result ≤ at + 21 }
 {
-    if place == 0 {
-        return put_bytes(out, at, b"raw");
+    match place {
+        0 => put_bytes(out, at, b"raw"),
+        1 => put_bytes(out, at, b"bad-pixel"),
+        2 => put_bytes(out, at, b"bad-bias"),
+        _ => put_integer(out, at, difference_of(table, place as u32 - 3)),
     }
-    if place == 1 {
-        return put_bytes(out, at, b"bad-pixel");
-    }
-    if place == 2 {
-        return put_bytes(out, at, b"bad-bias");
-    }
-    put_integer(out, at, difference_of(table, place as u32 - 3))
 }
 
 // The bits of the string that a word holds, the first one first, as digits.
@@ -53,11 +49,9 @@ fn put_bits(out: &mut [u8], at: usize, w: u32) -> usize
     ensures put { Put out.old at (map digit (codeword w)) result out.new }
     ensures most { result ≤ at + 31 }
 {
-    let n = (w % 32) as usize;
-    let mut i = 0;
-    while i < n {
-        out[at + i] = 48 + bit_of(w / 32, i as u32) as u8;
-        i += 1;
+    let n = w % 32;
+    for i in 0..n {
+        out[at + i as usize] = b'0' + bit_of(w / 32, i) as u8;
     }
-    at + i
+    at + n as usize
 }

@@ -21,17 +21,5 @@ fn fill(to: &mut [u8], table: &[u8])
     ensures { to.new ≡ filled table.now }
 {
     copy(table, table.len(), to);
-    clear(to, table.len());
-}
-
-// Zeros from byte `from` on.
-pub fn clear(to: &mut [u8], from: usize)
-    requires { from ≤ length to.old }
-    ensures { to.new ≡ take from to.old ++ replicate (length to.old - from) 0 }
-{
-    let mut i = from;
-    while i < to.len() {
-        to[i] = 0;
-        i += 1;
-    }
+    to[table.len()..].fill(0);
 }

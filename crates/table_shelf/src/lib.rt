@@ -2,7 +2,6 @@
 // the table of a place. Document 02, ticket 6; the definitions are in shelf_format.
 #![tactic(auto)]
 
-mod changed;
 mod fill;
 pub mod open;
 mod party;

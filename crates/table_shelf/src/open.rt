@@ -1,11 +1,13 @@
 // Opening a shelf. Refusals: 1, 2, 3, table by table, then 5.
 ghost use Rattle.std.specs.Prelude.{◌≡◌, [], ◌∷◌, ◌++◌, ◌≤◌, length, drop, replicate};
 ghost use Rattle.answer.specs.Outcome.{outcome};
+ghost use Rattle.answer.specs.Refusal.{result_number, as_answer};
 ghost use Rattle.shelf_format.specs.Calls.{tables_number, shelved, shelf_opened};
 
-use crate::fill::{clear, fill_place};
-use crate::table::table_number;
+use crate::fill::fill_place;
+use crate::table::judge_table;
 use answer::Answer;
+use answer::refusal::Refusal;
 use shelf_format::{PLACE_BYTES, SHELF_BYTES};
 
 // Puts the four tables to the common places and leaves all others free. The answer is the number and the bytes of the shelf.
@@ -13,40 +15,36 @@ pub fn open(table0: &[u8], table1: &[u8], table2: &[u8], table3: &[u8], shelf: &
     ensures { outcome result shelf.new ≡ shelf_opened table0.now table1.now table2.now
         table3.now shelf.old }
 {
-    let number = tables_number(table0, table1, table2, table3);
-    if number != 0 {
-        return Answer { number, count: 0 };
-    }
-    if shelf.len() < SHELF_BYTES {
-        return Answer {
-            number: 5,
-            count: 0,
-        };
-    }
-    fill_shelf(table0, table1, table2, table3, shelf);
-    Answer {
-        number: 0,
-        count: SHELF_BYTES as u32,
-    }
+    opened(table0, table1, table2, table3, shelf).into()
 }
 
-// The number of the first table that is refused.
-fn tables_number(table0: &[u8], table1: &[u8], table2: &[u8], table3: &[u8]) -> u32
-    ensures { result ≡ tables_number (table0.now ∷ table1.now ∷ table2.now ∷ table3.now ∷ []) }
+// The same, with the refusal by its name.
+fn opened(
+    table0: &[u8],
+    table1: &[u8],
+    table2: &[u8],
+    table3: &[u8],
+    shelf: &mut [u8],
+) -> Result<u32, Refusal>
+    ensures { outcome (as_answer result) shelf.new ≡ shelf_opened table0.now table1.now table2.now
+        table3.now shelf.old }
 {
-    let first = table_number(table0);
-    if first != 0 {
-        return first;
+    judge_tables(table0, table1, table2, table3)?;
+    if shelf.len() < SHELF_BYTES {
+        return Err(Refusal::Room);
     }
-    let second = table_number(table1);
-    if second != 0 {
-        return second;
-    }
-    let third = table_number(table2);
-    if third != 0 {
-        return third;
-    }
-    table_number(table3)
+    fill_shelf(table0, table1, table2, table3, shelf);
+    Ok(SHELF_BYTES as u32)
+}
+
+// Refused as the first table is that is refused.
+fn judge_tables(table0: &[u8], table1: &[u8], table2: &[u8], table3: &[u8]) -> Result<(), Refusal>
+    ensures { result_number result ≡ tables_number (table0.now ∷ table1.now ∷ table2.now ∷ table3.now ∷ []) }
+{
+    judge_table(table0)?;
+    judge_table(table1)?;
+    judge_table(table2)?;
+    judge_table(table3)
 }
 
 // All twelve places.
@@ -60,5 +58,5 @@ fn fill_shelf(table0: &[u8], table1: &[u8], table2: &[u8], table3: &[u8], shelf:
     fill_place(shelf, 1, table1);
     fill_place(shelf, 2, table2);
     fill_place(shelf, 3, table3);
-    clear(&mut shelf[4 * PLACE_BYTES..SHELF_BYTES], 0);
+    shelf[4 * PLACE_BYTES..SHELF_BYTES].fill(0);
 }

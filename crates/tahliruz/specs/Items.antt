@@ -1,12 +1,13 @@
 -- The item reader as C has it: its place and its answers in numbers, and what its two calls answer. Assumes nothing.
-use Rattle.std.specs.Prelude.{ℕ, Bool, true, false, not, List, ltb, eqb, ℤ, pos}
+use Rattle.std.specs.Prelude.{ℕ, Bool, true, false, not, List, ltb, eqb, ℤ, pos, Result, Ok, Err}
+use Rattle.answer.specs.declared.refusal.Refusal.{Refusal}
 use Rattle.answer.specs.Outcome.{◌or_else◌, refuse_if, unless}
+use Rattle.answer.specs.Refusal.{refusal_number}
 use Rattle.row_format.specs.Table.{table_number}
 use Rattle.row_item.specs.declared.Item.{Item}
 use Rattle.row_item.specs.declared.Item.TheVariants.{Difference, BadPixel, BadBias, Escape}
 use Rattle.row_reader.specs.declared.step.Place.{Place}
-use Rattle.row_reader.specs.declared.step.ItemRead.{ItemRead}
-use Rattle.row_reader.specs.Step.{start_place, item_read}
+use Rattle.row_reader.specs.Step.{ItemRead, start_place, item_read}
 use Rattle.tahliruz.specs.declared.item.ReaderPlace.{ReaderPlace}
 use Rattle.tahliruz.specs.declared.item.ReaderOpened.{ReaderOpened}
 use Rattle.tahliruz.specs.declared.item.ItemAnswer.{ItemAnswer}
@@ -45,6 +46,11 @@ item_step (Escape h) = pos 0
 -- a refusal has 0 for every value, and the place p as it was given
 abbrev pub refused_item : ReaderPlace → ℕ → ItemAnswer
 refused_item p e = record { number = e; kind = 0; step = pos 0; pixel = 0; place = p }
+
+-- what the code gives, beside the place p
+abbrev pub as_item : ReaderPlace → Result ItemAnswer Refusal → ItemAnswer
+as_item p (Ok given) = given
+as_item p (Err e) = refused_item p (refusal_number e)
 
 abbrev pub given_item : ItemRead → ItemAnswer
 given_item r =

@@ -1,10 +1,12 @@
 // The item reader as C has it: its place and its answers as structs of numbers.
 ghost use Rattle.std.specs.Prelude.{◌≡◌, ◌≤◌};
-ghost use Rattle.tahliruz.specs.Items.{item_first_number, place_of, flat_place, item_kind, item_step, refused_item};
+ghost use Rattle.answer.specs.Refusal.{refusal_number, result_number};
+ghost use Rattle.tahliruz.specs.Items.{item_first_number, place_of, flat_place, item_kind, item_step, refused_item, as_item, next_item};
 
-use code_table::check::check;
+use answer::refusal::Refusal;
+use code_table::check::max_item_bits;
 use row_item::{Item, Progress};
-use row_reader::step::Place;
+use row_reader::step::{Place, item_at};
 
 // A reader's place. at: the bit place of the next item; count: the items given; previous: the previous height; begun: 0 where
 // no pixel has become previous, else 1. Numbers of one size, so that no bytes lie unused between or after them.
@@ -37,17 +39,29 @@ pub struct ItemAnswer {
 }
 
 // What refuses before a place is looked at as Rattle has it: the table, as at every call; then a begun that is neither 0 nor 1.
-pub fn next_number(table: &[u8], p: ReaderPlace) -> u32
-    ensures { result ≡ item_first_number table.now p }
+fn judge(table: &[u8], p: ReaderPlace) -> Result<(), Refusal>
+    ensures { result_number result ≡ item_first_number table.now p }
 {
-    let number = check(table).number;
-    if number != 0 {
-        return number;
-    }
+    max_item_bits(table)?;
     if 1 < p.begun {
-        return 11;
+        return Err(Refusal::TooMany);
     }
-    0
+    Ok(())
+}
+
+// The item at a place.
+pub fn next(table: &[u8], words: &[u8], p: ReaderPlace) -> Result<ItemAnswer, Refusal>
+    ensures { as_item p result ≡ next_item table.now words.now p }
+{
+    judge(table, p)?;
+    let given = item_at(table, words, place_of(p))?;
+    Ok(ItemAnswer {
+        number: 0,
+        kind: kind_of(given.item),
+        step: step_of(given.item),
+        pixel: given.pixel,
+        place: flat_place(given.place),
+    })
 }
 
 // The place as Rattle has it, under a table that is accepted.
@@ -78,11 +92,11 @@ pub fn flat_place(p: Place) -> ReaderPlace
     }
 }
 
-pub fn refused(number: u32, place: ReaderPlace) -> ItemAnswer
-    ensures { result ≡ refused_item place number }
+pub fn refused(refusal: Refusal, place: ReaderPlace) -> ItemAnswer
+    ensures { result ≡ refused_item place (refusal_number refusal) }
 {
     ItemAnswer {
-        number,
+        number: refusal.number(),
         kind: 0,
         step: 0,
         pixel: 0,

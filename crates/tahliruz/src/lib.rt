@@ -71,7 +71,7 @@ pub extern "C" fn tahliruz_room(table: &[u8], n: u64) -> Answer
 pub extern "C" fn tahliruz_open(table: &[u8]) -> ReaderOpened
     ensures { result ≡ reader_opened table.now }
 {
-    let start = row_reader::step::start(table);
+    let start = row_reader::step::Place::start(table);
     ReaderOpened {
         number: start.opening,
         place: item::flat_place(start),
@@ -82,22 +82,9 @@ pub extern "C" fn tahliruz_open(table: &[u8]) -> ReaderOpened
 pub extern "C" fn tahliruz_next(table: &[u8], words: &[u8], place: ReaderPlace) -> ItemAnswer
     ensures { result ≡ next_item table.now words.now place }
 {
-    let first = item::next_number(table, place);
-    if first != 0 {
-        return item::refused(first, place);
-    }
-    let read = row_reader::step::item_at(table, words, item::place_of(place));
-    let number = read.number;
-    if number != 0 {
-        return item::refused(number, place);
-    }
-    let given = read.item;
-    ItemAnswer {
-        number: 0,
-        kind: item::kind_of(given),
-        step: item::step_of(given),
-        pixel: read.pixel,
-        place: item::flat_place(read.place),
+    match item::next(table, words, place) {
+        Ok(given) => given,
+        Err(refusal) => item::refused(refusal, place),
     }
 }
 

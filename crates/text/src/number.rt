@@ -21,23 +21,13 @@ pub fn put_decimal(out: &mut [u8], at: usize, n: u64) -> usize
     next + 1
 }
 
-// The magnitude of a signed number. The least i32 has no opposite, so the sum is taken from -1.
-fn magnitude(v: i32) -> u64
-    ensures { result ≡ nat_abs v }
-{
-    if v < 0 {
-        return (-1 - v) as u64 + 1;
-    }
-    v as u64
-}
-
 // With a minus sign where it is below 0, and no plus sign.
 pub fn put_integer(out: &mut [u8], at: usize, v: i32) -> usize
     requires { at + 21 ≤ length out.old }
     ensures put { Put out.old at (integer v) result out.new }
     ensures most { result ≤ at + 21 }
 {
-    let size = magnitude(v);
+    let size = v.unsigned_abs() as u64;
     if v < 0 {
         out[at] = b'-';
         return put_decimal(out, at + 1, size);

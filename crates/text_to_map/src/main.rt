@@ -7,46 +7,15 @@ mod take;
 mod verdict;
 mod words;
 
-use command::say::{complain, print_version, refuse_option};
-use command::{Request, read_request};
-use std::io;
-use std::io::Print;
+use command::program::Program;
 use words::convert_words;
 
-pub const PROGRAM: [u8; 11] = *b"text_to_map";
-
 fn main(rt: HostRuntime) {
-    match read_request(rt) {
-        Request::Help => print_help(rt),
-        Request::Version => print_program(rt),
-        Request::Unknown(i) => refuse(rt, i),
-        Request::Files(words) => convert_words(rt, words),
-    }
-}
-
-fn print_help(rt: HostRuntime) {
-    if let Err(e) = help(&rt.stdout()) {
-        complain(rt, &PROGRAM, b"standard output", e);
-    }
-}
-
-fn print_program(rt: HostRuntime) {
-    print_version(rt, &PROGRAM);
-}
-
-fn refuse(rt: HostRuntime, i: usize) {
-    refuse_option(rt, &PROGRAM, i);
-    say_help(rt);
-}
-
-// The same on standard error.
-pub fn say_help(rt: HostRuntime) {
-    let _ = help(&rt.stderr());
-}
-
-pub fn help(to: &impl Print) -> io::Result<()> {
-    to.write_all(
-        b"usage: text_to_map GROUP [FILE]
+    let program = Program {
+        rt,
+        name: b"text_to_map",
+        usage: b"",
+        help: b"usage: text_to_map GROUP [FILE]
 
 Turns text into a pressure mat map on standard output: 16384 counts in decimal,
 each at most 65535, with blanks, tabs, newlines or carriage returns between
@@ -59,5 +28,8 @@ FILE is -, it reads standard input.
   --version  prints the version
   --         ends the options
 ",
-    )
+    };
+    if let Some(words) = program.files() {
+        convert_words(program, words);
+    }
 }

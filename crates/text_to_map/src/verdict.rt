@@ -6,19 +6,19 @@ ghost use Rattle.text.specs.Put.{Put};
 ghost use Rattle.map_text.specs.MapText.{done_bytes_line};
 ghost use Rattle.text_to_map.specs.Made.{making_text, MakingEnded, VerdictOf};
 
-use command::say::say;
+use command::program::Program;
 use row_pixels::pixel_at;
 use text::line::put_refused_line;
 use text::number::put_fields;
 use text::put::put_bytes;
 
 // Says the verdict of a conversion that ended so, by the number that refuses the map, or its bytes.
-pub fn end(rt: HostRuntime, group: u32, counts: &[u8], number: u32, bytes: u32)
+pub fn end(program: Program, group: u32, counts: &[u8], number: u32, bytes: u32)
     requires { MakingEnded group counts.now number bytes }
 {
     let mut line = [0u8; 128];
     let n = put_verdict(&mut line, number, bytes, photons(counts));
-    say_verdict(rt, group, counts, &line[..n]);
+    say_verdict(program, group, counts, &line[..n]);
 }
 
 // The photons of some counts, two bytes each.
@@ -26,12 +26,9 @@ fn photons(counts: &[u8]) -> u64
     requires { length counts.now ≤ 32770 }
     ensures { result ≡ sum (halves_of counts.now) }
 {
-    let n = counts.len() / 2;
     let mut all = 0;
-    let mut i = 0;
-    while i < n {
-        all += pixel_at(counts, i) as u64;
-        i += 1;
+    for i in 0..counts.len() / 2 {
+        all += u64::from(pixel_at(counts, i));
     }
     all
 }
@@ -59,8 +56,8 @@ fn put_done(out: &mut [u8], bytes: u32, photons: u64) -> usize
 
 // Writes the verdict to standard error; nothing else goes there but complaints. `group` and `counts` say what the line must be;
 // nothing else is done with them.
-fn say_verdict(rt: HostRuntime, group: u32, counts: &[u8], line: &[u8])
+fn say_verdict(program: Program, group: u32, counts: &[u8], line: &[u8])
     requires { VerdictOf group counts.now line.now }
 {
-    say(rt, line);
+    program.say(line);
 }

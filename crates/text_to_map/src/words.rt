@@ -1,62 +1,27 @@
 // The words of a command line: a group size and one file at most.
 use crate::convert::convert_input;
-use crate::{PROGRAM, say_help};
-use command::number::number_at;
-use command::say::hint;
-use command::{Files, close, count_files, open, place_of, word_at};
-use text::read::Decimal;
+use command::files::Files;
+use command::program::Program;
 
-pub fn convert_words(rt: HostRuntime, words: Files) {
-    let count = count_files(words);
-    if count < 1 {
-        refuse_fewer(rt);
+pub fn convert_words(program: Program, words: Files) {
+    if words.count() < 1 {
+        program.refuse_use(b"GROUP", b"missing");
         return;
     }
-    if 2 < count {
-        refuse_more(rt, words);
+    if !program.takes_one(words, 1) {
         return;
     }
-    let read = number_at(
-        rt,
-        &PROGRAM,
-        place_of(words, 0),
+    match read_group(program, words) {
+        Some(group) => program.with_input(words.word(1), |input| convert_input(input, group)),
+        None => program.say_help(),
+    }
+}
+
+fn read_group(program: Program, words: Files) -> Option<u32> {
+    let group = program.number_at(
+        words.place_of(0),
         4294967295,
         b"GROUP is to be a decimal number of at most 32 bits",
-    );
-    let Decimal::Number(group) = read else {
-        say_help(rt);
-        return;
-    };
-    convert_group(rt, words, count, group as u32);
-}
-
-// The same with its group size.
-fn convert_group(rt: HostRuntime, words: Files, count: usize, group: u32) {
-    if count == 1 {
-        convert_file(rt, b"-", group);
-        return;
-    }
-    let mut word = [0u8; 4096];
-    let n = word_at(rt, place_of(words, 1), &mut word);
-    convert_file(rt, &word[..n], group);
-}
-
-fn refuse_fewer(rt: HostRuntime) {
-    hint(rt, &PROGRAM, b"GROUP", b"missing");
-    say_help(rt);
-}
-
-fn refuse_more(rt: HostRuntime, words: Files) {
-    let mut word = [0u8; 4096];
-    let n = word_at(rt, place_of(words, 2), &mut word);
-    hint(rt, &PROGRAM, &word[..n], b"only one file is taken");
-    say_help(rt);
-}
-
-fn convert_file(rt: HostRuntime, name: &[u8], group: u32) {
-    let Some(file) = open(rt, &PROGRAM, name) else {
-        return;
-    };
-    convert_input(rt, &file, name, group);
-    close(file);
+    )?;
+    Some(group as u32)
 }

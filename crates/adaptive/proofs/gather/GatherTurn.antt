@@ -9,20 +9,15 @@ use lib.ListN.{length, drop, get_or, drop_of_length-le}
 use lib.Seq.{drop-cons}
 use lib.Dec.{lit<}
 use lib.Arith.{digits_lt}
-use Rattle.adaptive.specs.Number.{NumberFront, whole, fault, byte_before, front, data_of}
-use Rattle.adaptive.specs.Number.Laws.{pow-128-le, front-more, front-last}
+use Rattle.adaptive.specs.Number.{NumberFront, whole, fault, NumberReading, accepted, byte_before, front, data_of}
+use Rattle.adaptive.specs.Number.Laws.{front-more, front-last}
 use Rattle.adaptive.specs.Gather.{gathered_of}
-use Rattle.adaptive.specs.declared.gather.Gathered.{Gathered}
+use Rattle.adaptive.specs.declared.gather.Data.{Data}
 
 -- the answer where i bytes with the data bits d stand before a front
-abbrev pub after : ℕ → ℕ → NumberFront → Gathered
+abbrev pub after : ℕ → ℕ → NumberFront → NumberReading Data
 after d i (whole bs) =
-    record {
-      number = 0;
-      raw = d * 128 ^ length bs + data_of bs;
-      span = 128 ^ (i + length bs);
-      used = i + length bs;
-    }
+    accepted (record { raw = d * 128 ^ length bs + data_of bs; span = 128 ^ (i + length bs) }) (i + length bs)
 after d i (fault e) = gathered_of (fault e)
 
 after_none : (f : NumberFront) → gathered_of f ≡ after 0 0 f
@@ -41,8 +36,8 @@ after_more d i b (whole bs) =
 after_more d i b (fault e) = refl
 
 -- i bytes and one more, which is the last
-abbrev pub ended : ℕ → ℕ → ℕ → ℕ → Gathered
-ended d span i b = record { number = 0; raw = d * 128 + b % 128; span = span * 128; used = i + 1 }
+abbrev pub ended : ℕ → ℕ → ℕ → ℕ → NumberReading Data
+ended d span i b = accepted (record { raw = d * 128 + b % 128; span = span * 128 }) (i + 1)
 
 after_last : (d i b : ℕ) → after d i (whole (b ∷ [])) ≡ ended d (128 ^ i) i b
 unfolding data_of
@@ -70,10 +65,6 @@ next s i h g =
     rw (left, drop-cons s i 0 g, add-one i)
 
 module _ {s : List ℕ} {d span i : ℕ} (t : Taken s d span i) where
-  -- a byte more leaves both numbers far below 2 ^ 64
-  pub taken-small : i < 5 → span ≤ 128 ^ 4
-  taken-small h = let fewer : i ≤ 4 = omega arith in rw t.power (pow-128-le fewer)
-
   -- another byte follows
   pub taken_more : i < 5 → i < length s → 128 ≤ get_or s i 0
       → Taken s (d * 128 + get_or s i 0 % 128) (span * 128) (i + 1)

@@ -1,5 +1,5 @@
 -- What a turn of later_bytes does to the count. Assumes nothing.
-use Prim.Native.Nat.{ℕ, zero, suc, ◌+◌, ◌-◌, ◌*◌, ◌^◌, ◌≤◌, ◌<◌, zero-le}
+use Prim.Native.Nat.{ℕ, zero, suc, ◌+◌, ◌-◌, ◌*◌, ◌^◌, ◌≤◌, ◌<◌}
 use native.Mathlib.Nat.{pow-suc, mul-le-mul_right}
 use native.Mathlib.Numerals.{add-one}
 use native.Mathlib.Omega.{arith}
@@ -26,9 +26,6 @@ pub record Counted (first m top k : ℕ) : Type 0 where
   pub bound : top ≤ 128 ^ suc k
   pub count : later_bytes 4 first m ≡ k + later_bytes (4 - k) top m
 
-pub counted_none : (first m : ℕ) → first ≤ 128 → Counted first m first 0
-counted_none first m h = record { most = zero-le; bound = h; count = omega arith }
-
 pub counted-found : {first m top k : ℕ} → Counted first m top k → m < top → k ≡ later_bytes 4 first m
 counted-found {first} {m} {top} {k} c h = omega (arith, c.count, later-found (4 - k) top m h)
 
@@ -43,7 +40,7 @@ counted-more {first} {m} {top} {k} c h g =
       count = omega (arith, c.count);
     }
 
-pub counted-all : {first m top k : ℕ} → Counted first m top k → 4 ≤ k → k ≡ later_bytes 4 first m
+pub counted-all : {first m top k : ℕ} → Counted first m top k → 4 ≤ k → 4 ≡ later_bytes 4 first m
 counted-all {first} {m} {top} {k} c h =
     let left : 4 - k ≡ 0 = omega arith in
     let over : later_bytes (4 - k) top m ≡ 0 = rw left (later-none top m) in

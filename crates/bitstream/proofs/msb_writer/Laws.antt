@@ -1,12 +1,11 @@
 -- The laws of the writer of bit strings, the most significant bit first: its register and the words that it stores. Assumes nothing.
 use Prim.Native.Nat.{ℕ, zero, suc, ◌+◌, ◌-◌, ◌*◌, ◌/◌, ◌%◌, ◌^◌, ◌≤◌, ◌<◌}
 use native.Mathlib.Nat.{add-zero, add_comm, mod-lt, zero-div, div-one}
-use native.Mathlib.Numerals.{add-one, add-two, add-three}
 use native.Mathlib.Omega.{arith}
 use mathlib.Core.Path.{◌≡◌, refl, sym, ap, ◌∙◌, subst}
 use mathlib.Core.List.{List, [], ◌∷◌, ◌++◌, append_assoc, append-nil}
-use lib.ListN.{length, take, set}
-use lib.Seq.{drop_at, sets-eq}
+use lib.ListN.{length, take}
+use lib.Seq.{drop_at}
 use lib.Pow.{pow_pos}
 use Rattle.bitstream.specs.Bits.{pad}
 use Rattle.bitstream.specs.Bits.Laws.{above-lt, pad-at, pad-append, pad-whole}
@@ -43,14 +42,6 @@ four_bytes_lem v =
     ∙ ap (v / 16777216 % 256 ∷◌) (bytes-split 2 16 v
     ∙ ap (v / 65536 % 256 ∷◌) (bytes-split 1 8 v
     ∙ ap (v / 256 % 256 ∷◌) (bytes-split 0 0 v ∙ unfold msb_bytes_of in ap (λ (k : ℕ). k % 256 ∷ []) (div-one v))))
-
-pub put_four : (s : List ℕ) (at v : ℕ) → at + 4 ≤ length s
-    → set (set (set (set s at (v / 16777216 % 256)) (at + 1) (v / 65536 % 256)) (at + 2) (v / 256 % 256)) (at + 3) (v % 256)
-    ≡ overwritten s at (msb_bytes_of 4 (msb_digits 32 v))
-put_four s at v h =
-    rw (add-one at, add-two at, add-three at)
-    (sets-eq (v / 16777216 % 256 ∷ v / 65536 % 256 ∷ v / 256 % 256 ∷ v % 256 ∷ []) s at h
-    ∙ ap (overwritten s at) (sym (four_bytes_lem v)))
 
 -- ---- a stored word
 word-bits : (v : ℕ) → msb_bits_of (msb_bytes_of 4 (msb_digits 32 v)) ≡ msb_digits 32 v

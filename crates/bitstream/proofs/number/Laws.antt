@@ -1,14 +1,12 @@
--- The bytes of a number, written one by one. Assumes nothing.
-use Prim.Native.Nat.{ℕ, suc, ◌+◌, ◌/◌, ◌%◌, ◌^◌, ◌≤◌}
+-- The bytes of a number. Assumes nothing.
+use Prim.Native.Nat.{ℕ, suc, ◌+◌, ◌/◌, ◌%◌, ◌^◌}
 use native.Mathlib.Nat.{div-div-eq-div-mul}
-use native.Mathlib.Numerals.{add-one, add-two, add-three}
+use native.Mathlib.Omega.{arith}
 use mathlib.Core.Path.{◌≡◌, refl, sym, ap, ◌∙◌}
-use mathlib.Core.List.{List, [], ◌∷◌}
-use lib.ListN.{length, set}
-use lib.Seq.{take_at, drop_at, sets-eq}
+use mathlib.Core.List.{[], ◌∷◌}
+use lib.Seq.{take_at, drop_at}
 use Rattle.bitstream.specs.Bits.{digits, cut, bytes_of}
 use Rattle.bitstream.specs.Bits.Laws.{digits-split, length_digits, num_of-digits}
-use Rattle.bitstream.specs.Memory.{overwritten}
 
 -- ---- the lowest first
 pub cut-digits : (w n k v : ℕ) → cut w (suc n) (digits (w + k) v) ≡ v % 2 ^ w ∷ cut w n (digits k (v / 2 ^ w))
@@ -29,17 +27,9 @@ four_bytes_lem v =
     ∙ ap (v / 256 % 256 ∷◌)
     (two_bytes_lem (v / 256 / 256) ∙ rw third (ap (λ (k : ℕ). v / 65536 % 256 ∷ k % 256 ∷ []) (div-div-eq-div-mul v 65536 256))))
 
-pub put_two : (s : List ℕ) (at v : ℕ) → at + 2 ≤ length s
-    → set (set s at (v % 256)) (at + 1) (v / 256 % 256) ≡ overwritten s at (bytes_of 2 (digits 16 v))
-put_two s at v h =
-    ap (λ (k : ℕ). set (set s at (v % 256)) k (v / 256 % 256)) (add-one at)
-    ∙ sets-eq (v % 256 ∷ v / 256 % 256 ∷ []) s at h
-    ∙ ap (overwritten s at) (sym (two_bytes_lem v))
-
-pub put_four : (s : List ℕ) (at v : ℕ) → at + 4 ≤ length s
-    → set (set (set (set s at (v % 256)) (at + 1) (v / 256 % 256)) (at + 2) (v / 65536 % 256)) (at + 3) (v / 16777216 % 256)
-    ≡ overwritten s at (bytes_of 4 (digits 32 v))
-put_four s at v h =
-    rw (add-one at, add-two at, add-three at)
-    (sets-eq (v % 256 ∷ v / 256 % 256 ∷ v / 65536 % 256 ∷ v / 16777216 % 256 ∷ []) s at h
-    ∙ ap (overwritten s at) (sym (four_bytes_lem v)))
+-- two bytes of the low half
+pub low-two-bytes : (v : ℕ) → v % 65536 % 256 ∷ v % 65536 / 256 % 256 ∷ [] ≡ bytes_of 2 (digits 16 v)
+low-two-bytes v =
+    let low : v % 65536 % 256 ≡ v % 256 = omega arith in
+    let high : v % 65536 / 256 % 256 ≡ v / 256 % 256 = omega arith in
+    rw (low, high) (sym (two_bytes_lem v))

@@ -5,6 +5,10 @@ use Rattle.bitstream.specs.Bits.{num_of, flat, bits_of, number_of}
 use Rattle.bitstream.specs.Bits.Laws.{num_of-append, number_of-suc, num_of-field, below-flat, length-flat, flat_append, flat-take, flat-drop}
 use Rattle.bitstream.specs.Memory.{ByteAt, overwritten}
 
+-- each byte that a slice has
+pub byte_in : (s : List ℕ) → ((i : ℕ) → get_or s i 0 < 256) → (i : ℕ) → ByteAt s i (get_or s i 0)
+byte_in s small i = record { value = refl; small = small i }
+
 byte-mod : {s : List ℕ} {at b : ℕ} → ByteAt s at b → get_or s at 0 % 256 ≡ b
 byte-mod h = ap (◌% 256) (sym h.value) ∙ mod-eq_of_lt h.small
 

@@ -1,8 +1,9 @@
 -- A part of a slice up to its end, as code lends it and gets it back, and its laws. Assumes nothing.
-use Rattle.std.specs.Prelude.{ℕ, ◌-◌, ◌≤◌, ◌≡◌, List, [], ◌++◌, length, take, drop}
-use Rattle.std.proofs.Common.{arith, append-nil, length-drop, drop_of_length-le}
+use Rattle.std.specs.Prelude.{ℕ, ◌+◌, ◌-◌, ◌≤◌, ◌≡◌, List, [], ◌++◌, length, take, drop}
+use Rattle.std.proofs.Common.{arith, sym, append_assoc, append-nil, length-drop, drop-drop, drop_of_length-le}
 use borrow.Author.Rules.{part_to_end}
 use borrow.Rule.Slice.PartMut.{mid_of, put_mid}
+use Rattle.bitstream.specs.Memory.{overwritten}
 
 -- the memory m from the place a on; and m when y comes back for it
 abbrev pub part_from : ℕ → List ℕ → List ℕ
@@ -19,3 +20,9 @@ part-back a m y =
     let short : length (drop a m) ≤ length m - a = omega (arith, length-drop a m) in
     let none : drop (length m - a) (drop a m) ≡ [] = drop_of_length-le (drop a m) short in
     rw (none, append-nil y)
+
+-- n bytes from the place a on, lent and given back as y
+pub part-overwritten : (a n : ℕ) (m y : List ℕ) → length y ≡ n → put_mid a (a + n - a) m y ≡ overwritten m a y
+part-overwritten a n m y e =
+    let size : a + n - a ≡ length y = omega arith in
+    rw (size, drop-drop (length y) a m) (sym (append_assoc (take a m) y (drop (a + length y) m)))

@@ -12,9 +12,9 @@ use borrow.Author.Tests.{not-true, not-false}
 use Rattle.bitstream.specs.Bits.{words_of}
 use Rattle.row_format.specs.Lists.{any}
 use Rattle.row_format.specs.Table.{wrong_word, codeword, longest}
-use Rattle.row_format.specs.Lists.Laws.{true-false, any_append}
+use Rattle.row_format.specs.Lists.Laws.{any_append}
 use Rattle.row_format.specs.Table.Laws.{length-codeword}
-use Rattle.code_table.specs.Check.{AllGathered}
+use Rattle.code_table.specs.Check.{Gathered}
 use Rattle.code_table.specs.Check.Laws.{length-words}
 
 -- the same pass, n words wanted, after i of them: longest is the longest length so far
@@ -60,28 +60,22 @@ module _ (ts : List ℕ) (n : ℕ) (enough : n ≤ length ts) where
           longest-is = rw next (sym (longest-snoc (take i ts) w ∙ ap (λ (k : ℕ). max k (w % 32)) (sym g.longest-is)));
         }
 
-    pub gathered-wrong : (out' : List ℕ) → not (wrong_word w) ≡ false → AllGathered (take n ts) (record { ok = false; longest = 0 }) out'
-    gathered-wrong out' r =
-        record { copied = λ e. true-false e refl; right = λ e. true-false e refl; most = λ e. true-false e refl; wrong = λ e. some }
+    pub gathered-wrong : not (wrong_word w) ≡ false → any wrong_word (take n ts) ≡ true
+    gathered-wrong r =
+        let e : n ≡ i + 1 + (n - (i + 1)) = omega arith in
+        ap (λ (k : ℕ). any wrong_word (take k ts)) e
+        ∙ ap (any wrong_word) (take-add (i + 1) (n - (i + 1)) ts)
+        ∙ any_append wrong_word (take (i + 1) ts) (take (n - (i + 1)) (drop (i + 1) ts))
+        ∙ ap (◌|| any wrong_word (take (n - (i + 1)) (drop (i + 1) ts))) bad
       where
         bad : any wrong_word (take (i + 1) ts) ≡ true
         bad = rw (next, any_append wrong_word (take i ts) (w ∷ []), g.right) (unfold any in rw (not-false (wrong_word w) r))
 
-        some : any wrong_word (take n ts) ≡ true
-        some =
-            let e : n ≡ i + 1 + (n - (i + 1)) = omega arith in
-            ap (λ (k : ℕ). any wrong_word (take k ts)) e
-            ∙ ap (any wrong_word) (take-add (i + 1) (n - (i + 1)) ts)
-            ∙ any_append wrong_word (take (i + 1) ts) (take (n - (i + 1)) (drop (i + 1) ts))
-            ∙ ap (◌|| any wrong_word (take (n - (i + 1)) (drop (i + 1) ts))) bad
-
-  pub gathered-all : (out : List ℕ) (most i : ℕ) → Gathering ts n out most i → n ≤ i
-      → AllGathered (take n ts) (record { ok = true; longest = most }) out
+  pub gathered-all : (out : List ℕ) (most i : ℕ) → Gathering ts n out most i → n ≤ i → Gathered (take n ts) most out
   gathered-all out most i g h =
       let e : i ≡ n = omega (arith, g.within) in
       record {
-        copied = λ _. sym (take_all n out (omega (arith, g.size))) ∙ subst (λ (k : ℕ). take k out ≡ take k ts) e g.copied;
-        right = λ _. subst (λ (k : ℕ). any wrong_word (take k ts) ≡ false) e g.right;
-        most = λ _. subst (λ (k : ℕ). most ≡ longest (map codeword (take k ts))) e g.longest-is;
-        wrong = λ x. true-false refl x;
+        copied = sym (take_all n out (omega (arith, g.size))) ∙ subst (λ (k : ℕ). take k out ≡ take k ts) e g.copied;
+        right = subst (λ (k : ℕ). any wrong_word (take k ts) ≡ false) e g.right;
+        most = subst (λ (k : ℕ). most ≡ longest (map codeword (take k ts))) e g.longest-is;
       }

@@ -1,13 +1,13 @@
--- The ways out of the check: of a string word, of the whole table, and of its last stage. Assumes nothing.
-use Prim.Native.Nat.{ℕ, ◌+◌, ◌-◌, ◌/◌, ◌%◌, ◌^◌, ◌≤◌, ◌<◌, max}
+-- The ways out of the check of the whole table. Assumes nothing.
+use Prim.Native.Nat.{ℕ, ◌-◌, ◌/◌, ◌%◌, ◌≤◌, ◌<◌}
 use native.Mathlib.Omega.{arith}
-use mathlib.Core.Path.{◌≡◌, sym, ap, ◌∙◌, subst}
-use mathlib.Core.Bool.{Bool, true, false, cond, not, ◌||◌, or-true, not-not}
+use mathlib.Core.Path.{◌≡◌, ap, ◌∙◌, subst}
+use mathlib.Core.Bool.{Bool, true, false, cond, ◌||◌, or-true}
 use mathlib.Core.List.{List, map}
 use lib.ListN.{length, drop, length-drop}
 use lib.Seq.{take_all}
 use lib.Dec.{ltb}
-use borrow.Author.Tests.{lt-leb, le-leb, lt-ltb, le-ltb, eq-eqb, not-true, not-false}
+use borrow.Author.Tests.{lt-ltb, le-ltb, eq-eqb}
 use Rattle.answer.specs.Outcome.{answer_of}
 use Rattle.bitstream.specs.Bits.{words_of}
 use Rattle.row_format.specs.Lists.Laws.{by-test}
@@ -25,23 +25,8 @@ use Rattle.row_format.specs.Table.{
   table_number,
 }
 use Rattle.row_format.specs.Calls.{checked}
-use Rattle.code_table.specs.Check.{WholeTable, AllGathered, codeword_words, codewords_judged}
+use Rattle.code_table.specs.Check.{WholeTable, Gathered, codeword_words, codewords_judged}
 use Rattle.code_table.specs.Check.Laws.{length-words}
-use Rattle.code_table.specs.declared.check.Gathered.{Gathered}
-
--- ---- a string word
-module _ (w : ℕ) where
-  pub formed-empty : w % 32 < 1 → false ≡ not (wrong_word w)
-  unfolding wrong_word
-  formed-empty h = rw (lt-leb 1 (w % 32) h)
-
-  pub formed-long : 1 ≤ w % 32 → 27 < w % 32 → false ≡ not (wrong_word w)
-  unfolding wrong_word
-  formed-long g h = rw (le-leb 1 (w % 32) g, lt-leb (w % 32) 27 h)
-
-  pub formed-last : 1 ≤ w % 32 → w % 32 ≤ 27 → ltb (w / 32) (2 ^ (w % 32)) ≡ not (wrong_word w)
-  unfolding wrong_word
-  formed-last g h = rw (le-leb 1 (w % 32) g, le-leb (w % 32) 27 h) (sym (not-not (ltb (w / 32) (2 ^ (w % 32)))))
 
 -- ---- the ways out of the check
 pub checked-sizes : (b : List ℕ) → table_number b ≡ 1 → answer_of 1 0 ≡ checked b
@@ -85,25 +70,13 @@ module _ (b : List ℕ) (h : WholeTable b) where
           (λ x. rw (number_is, q, x))
 
 -- the words that a pass over the whole table gathered, k of them
-module _
-    (b : List ℕ) (h : WholeTable b) (k : ℕ) (e : k ≡ length b / 4 - 3) (r : Gathered) (out : List ℕ)
-    (g : AllGathered (codeword_words b k) r out) where
-  pub checked_refused : r.ok ≡ false → answer_of 2 0 ≡ checked b
-  checked_refused q = checked-word b h (subst (λ (n : ℕ). any wrong_word (codeword_words b n) ≡ true) e (g.wrong q))
+module _ (b : List ℕ) (h : WholeTable b) (k : ℕ) (e : k ≡ length b / 4 - 3) where
+  pub checked_refused : any wrong_word (codeword_words b k) ≡ true → answer_of 2 0 ≡ checked b
+  checked_refused g = checked-word b h (subst (λ (n : ℕ). any wrong_word (codeword_words b n) ≡ true) e g)
 
-  pub checked-gathered : (escape : ℕ) → r.ok ≡ true → escape ≡ escape_length (words_of b) → escape ≤ 15
-      → codewords_judged out r.longest escape ≡ checked b
-  checked-gathered escape q is most =
+  pub checked-gathered : (m : ℕ) (out : List ℕ) → Gathered (codeword_words b k) m out → (escape : ℕ)
+      → escape ≡ escape_length (words_of b) → escape ≤ 15 → codewords_judged out m escape ≡ checked b
+  checked-gathered m out g escape is most =
       let same : codeword_words b k ≡ codeword_words b (length b / 4 - 3) = ap (codeword_words b) e in
-      rw (g.copied q, g.most q, is, same)
-      (checked-codewords_judged b h (subst (◌≤ 15) is most) (subst (λ (n : ℕ). any wrong_word (codeword_words b n) ≡ false) e (g.right q)))
-
--- ---- the last stage
-module _ (ws : List ℕ) (most escape : ℕ) where
-  pub codewords_judged-free : not (clash (map codeword ws)) ≡ true → answer_of 0 (max most (escape + 12)) ≡ codewords_judged ws most escape
-  unfolding codewords_judged
-  codewords_judged-free e = rw (not-true (clash (map codeword ws)) e)
-
-  pub codewords_judged-clash : not (clash (map codeword ws)) ≡ false → answer_of 3 0 ≡ codewords_judged ws most escape
-  unfolding codewords_judged
-  codewords_judged-clash e = rw (not-false (clash (map codeword ws)) e)
+      rw (g.copied, g.most, is, same)
+      (checked-codewords_judged b h (subst (◌≤ 15) is most) (subst (λ (n : ℕ). any wrong_word (codeword_words b n) ≡ false) e g.right))

@@ -83,3 +83,8 @@ pub whole-table-words : (b : List ℕ) → WholeTable b → Sizes b
 whole-table-words b h =
     let s = sized (words_of b) h.size in
     record { words = sym (length-words b) ∙ s.words; least = s.least; most = s.most }
+
+-- what a check of the code asks of them
+pub whole_table : (b : List ℕ) → WholeTable b
+    → (6 < length b / 4) × (length b / 4 ≤ 8193) × (low_limit (words_of b) + table_size (words_of b) ≤ 8187)
+whole_table b h = let s = whole-table-words b h in (omega (arith, s.words, s.least), omega (arith, s.words, s.most), s.most)

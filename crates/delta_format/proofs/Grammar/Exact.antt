@@ -1,78 +1,14 @@
 -- Reading and the grammar agree on every input: what is read, what is left, and every number. Assumes nothing.
-use Rattle.std.specs.Prelude.{ℕ, zero, suc, ◌+◌, ◌-◌, ◌≤◌, ◌<◌, ◌≡◌, refl, true, false, ◌⊎◌, List, [], ◌∷◌, ◌++◌, map, length, take, drop, replicate, eqb, ltb, ℤ, pos}
-use Rattle.std.proofs.Common.{zero-add, arith, sym, ap, ◌∙◌, subst, inl, inr, append_assoc, append-nil, length-append, eqb-true, lt-ltb, le-ltb, ne_eqb, eq-eqb}
+use Rattle.std.specs.Prelude.{ℕ, suc, ◌+◌, ◌-◌, ◌≤◌, ◌<◌, ◌≡◌, refl, ◌⊎◌, List, [], ◌∷◌, ◌++◌, length, replicate, eqb, ltb, ℤ, pos}
+use Rattle.std.proofs.Common.{arith, sym, ap, ◌∙◌, subst, inl, inr, append_assoc, append-nil, length-append, eqb-true, lt-ltb, le-ltb, ne_eqb, eq-eqb}
 use Rattle.std.proofs.lemmas.List.{length-replicate, length-map}
 use Rattle.std.proofs.Math.Seq.{take-append_seam, drop-append_seam}
 use Rattle.std.proofs.lemmas.Bool.{eqb-false}
 use Rattle.row_format.specs.Lists.Laws.{by-test}
-use Rattle.delta_format.specs.Row.{
-  Element,
-  good,
-  bad,
-  Flag,
-  full,
-  same,
-  bad-run,
-  bad-one,
-  fulls,
-  Previous,
-  none,
-  value,
-  last_from,
-  Part,
-  fault,
-  gives,
-  count_of,
-  values_for,
-  flag_gives,
-  flag_part,
-  part_of,
-  RowReading,
-  stops,
-  reads,
-  joined_to,
-  and_then,
-  row_from,
-}
+use Rattle.delta_format.specs.Row.{Element, good, bad, Flag, full, same, bad-run, bad-one, fulls, Previous, none, value, Part, fault, gives, values_for, flag_gives, flag_part, part_of, RowReading, stops, reads, joined_to, and_then, row_from}
 use Rattle.delta_format.proofs.Row.Laws.{from_zero, from-ends, from_next}
-use Rattle.delta_format.specs.Grammar.{
-  IsFlag,
-  NoFlag,
-  PartCode,
-  full-value,
-  same-values,
-  bad-values,
-  bad-end,
-  bad-value,
-  bad_last,
-  full-values,
-  step,
-  RowCode,
-  row-end,
-  part,
-  RowBegins,
-  HasCount,
-  full-one,
-  bad-only,
-  same_count,
-  bad-count,
-  full-count,
-  CountedFlag,
-  same-counted,
-  bad-counted,
-  fulls-counted,
-  FaultCode,
-  no_flag,
-  no-count,
-  leaves,
-  below_one_lem,
-  sum-out,
-  RowFault,
-  data-ends,
-  faulty,
-  after,
-}
-use Rattle.delta_format.proofs.Grammar.Laws.{part-flag, part-difference, PartTaken, PartIs, part-is}
+use Rattle.delta_format.specs.Grammar.{PartCode, full-value, same-values, bad-values, bad-end, bad-value, bad_last, full-values, step, RowCode, row-end, part, RowBegins, HasCount, full-one, bad-only, same_count, bad-count, full-count, CountedFlag, same-counted, bad-counted, fulls-counted, FaultCode, no_flag, no-count, leaves, below_one_lem, sum-out, RowFault, data-ends, faulty, after}
+use Rattle.delta_format.proofs.Grammar.Laws.{part-flag, part-difference, PartIs, part-is}
 
 -- ---- an element gives some, and no more than the row wants
 pub part-some : {max : ℤ} {p : Previous} {left : ℕ} {d : ℤ} {us cs : List ℤ} {es : List Element} {q : Previous}

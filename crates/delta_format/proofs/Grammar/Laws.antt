@@ -1,76 +1,13 @@
 -- What each element of DATA is read as, by the grammar. Assumes nothing.
-use Rattle.std.specs.Prelude.{ℕ, zero, suc, ◌+◌, ◌≤◌, ◌<◌, ◌≡◌, refl, true, false, cond, ◌⊎◌, List, [], ◌∷◌, ◌++◌, map, length, take, drop, replicate, eqb, ltb, ℤ, pos, negsuc, nat_abs, ◌+ℤ◌, ◌-ℤ◌}
-use Rattle.std.proofs.Common.{arith, sym, ◌∙◌, subst, inl, inr, append-nil, take-append-drop, length-take-le, eqb-true, ltb-true, ltb-false, lt-ltb, le-ltb, eq-eqb, ne_eqb}
+use Rattle.std.specs.Prelude.{ℕ, zero, suc, ◌≤◌, ◌<◌, ◌≡◌, refl, cond, List, [], ◌∷◌, ◌++◌, map, length, take, drop, replicate, eqb, ltb, ℤ, pos, negsuc, nat_abs, ◌+ℤ◌, ◌-ℤ◌}
+use Rattle.std.proofs.Common.{arith, sym, ◌∙◌, subst, inl, inr, append-nil, take-append-drop, length-take-le, eqb-true, ltb-true, ltb-false}
 use Rattle.std.proofs.Math.Path.{ap}
 use Rattle.std.proofs.Math.IntN.{pos-ne-negsuc}
 use Rattle.std.proofs.lemmas.Bool.{eqb-false}
-use Rattle.answer.specs.Outcome.{unless}
 use Rattle.row_format.specs.Lists.Laws.{by-test}
 use Rattle.delta_format.specs.Numbers.{in32}
-use Rattle.delta_format.specs.Row.{
-  Element,
-  good,
-  bad,
-  Flag,
-  full,
-  same,
-  bad-run,
-  bad-one,
-  fulls,
-  Meaning,
-  flag,
-  difference,
-  meaning_at,
-  meaning_of,
-  Previous,
-  none,
-  value,
-  last_from,
-  Part,
-  fault,
-  gives,
-  count_of,
-  values_for,
-  elements_for,
-  flag_number,
-  flag_gives,
-  flag_part,
-  summed,
-  difference_part,
-  part_by,
-  part_of,
-}
-use Rattle.delta_format.proofs.Row.Laws.{free-row, free-values, free-count}
-use Rattle.delta_format.specs.Grammar.{
-  below_max,
-  IsFlag,
-  NoFlag,
-  PartCode,
-  full-value,
-  same-values,
-  bad-values,
-  bad-end,
-  bad-value,
-  bad_last,
-  full-values,
-  step,
-  HasCount,
-  full-one,
-  bad-only,
-  same_count,
-  bad-count,
-  full-count,
-  CountedFlag,
-  same-counted,
-  bad-counted,
-  fulls-counted,
-  FaultCode,
-  no_flag,
-  no-count,
-  leaves,
-  below_one_lem,
-  sum-out,
-}
+use Rattle.delta_format.specs.Row.{Element, good, bad, Flag, full, same, bad-run, bad-one, fulls, Meaning, flag, difference, meaning_at, meaning_of, Previous, none, value, last_from, Part, fault, gives, count_of, values_for, elements_for, flag_gives, flag_part, summed, difference_part, part_by, part_of}
+use Rattle.delta_format.specs.Grammar.{below_max, IsFlag, NoFlag, PartCode, full-value, same-values, bad-values, bad-end, bad-value, bad_last, full-values, step, HasCount, full-one, bad-only, same_count, bad-count, full-count, same-counted, bad-counted, fulls-counted, FaultCode, no_flag, no-count, leaves, below_one_lem, sum-out}
 
 -- ---- what an element is
 pos-same : {a b : ℕ} → pos a ≡ pos b → a ≡ b

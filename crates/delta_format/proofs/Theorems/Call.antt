@@ -1,12 +1,12 @@
 -- The call: what the theorems page says of it. Assumes nothing.
-use Rattle.std.specs.Prelude.{ℕ, zero, suc, ◌+◌, ◌-◌, ◌*◌, ◌/◌, ◌≤◌, ◌<◌, ◌≡◌, false, ◌⊎◌, List, [], ◌∷◌, ◌++◌, map, length, drop, eqb, ltb, leb, ℤ, pos, negsuc, ◌-ℤ◌}
+use Rattle.std.specs.Prelude.{ℕ, suc, ◌+◌, ◌-◌, ◌*◌, ◌/◌, ◌≤◌, ◌<◌, ◌≡◌, ◌⊎◌, List, [], ◌∷◌, ◌++◌, map, length, drop, eqb, ltb, leb, ℤ, pos, negsuc}
 use Rattle.std.proofs.Common.{arith, sym, ap, ◌∙◌, subst, length-append, length-drop, drop_at}
 use Rattle.std.proofs.Math.Path.{refl}
 use Rattle.std.proofs.Math.Bool.{true}
 use Rattle.std.proofs.Math.Logic.{inl, inr}
 use Rattle.std.proofs.lemmas.List.{length-map}
-use borrow.Author.Tests.{eqb-true, eq-eqb, ne_eqb, lt-ltb, le-ltb, ltb-true, ltb-false, leb-true}
-use Rattle.answer.specs.Outcome.{◌or_else◌, refuse_if, unless, lent, room_number}
+use borrow.Author.Tests.{eqb-true, ne_eqb, lt-ltb, le-ltb, leb-true}
+use Rattle.answer.specs.Outcome.{◌or_else◌, lent, room_number}
 use Rattle.answer.specs.Outcome.Laws.{or_else-zero-left, or_else-zero-right, less_number-zero}
 use Rattle.row_format.specs.Lists.{any}
 use Rattle.row_format.specs.Lists.Laws.{by-test, true-false, and-true-left}
@@ -15,21 +15,7 @@ use Rattle.delta_format.specs.Numbers.{max_of, signed_number, elements_of, bits_
 use Rattle.delta_format.specs.Row.{Element, none, RowReading, stops, reads, row_from}
 use Rattle.delta_format.proofs.Row.Laws.{from_zero}
 use Rattle.delta_format.specs.Grammar.{RowBegins, RowFault}
-use Rattle.delta_format.specs.Calls.{
-  Arrays,
-  delta_row_at,
-  value_of,
-  mark_of,
-  element_bytes,
-  values_bytes,
-  DeltaOutcome,
-  delta_refused,
-  delta_written,
-  delta_left,
-  width_number,
-  row_number,
-  delta_row,
-}
+use Rattle.delta_format.specs.Calls.{Arrays, delta_row_at, mark_of, values_bytes, DeltaOutcome, delta_refused, delta_written, delta_left, width_number, row_number, delta_row}
 use Rattle.delta_format.specs.Calls.Laws.{length-row}
 use Rattle.delta_format.proofs.Theorems.Rows.{done-is, refused-is, code-length, fault-number}
 

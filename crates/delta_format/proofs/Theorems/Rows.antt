@@ -1,60 +1,12 @@
 -- Rows: what the theorems page says of them. Assumes nothing.
-use Rattle.std.specs.Prelude.{ℕ, zero, suc, ◌+◌, ◌-◌, ◌≤◌, ◌<◌, ◌≡◌, refl, true, false, ◌↔◌, ◌⊎◌, List, [], ◌∷◌, ◌++◌, length, drop, replicate, eqb, ℤ, pos, negsuc, neg_ℤ, ◌+ℤ◌, ◌-ℤ◌}
+use Rattle.std.specs.Prelude.{ℕ, ◌+◌, ◌-◌, ◌≤◌, ◌<◌, ◌≡◌, refl, true, ◌↔◌, ◌⊎◌, List, [], ◌∷◌, ◌++◌, length, drop, eqb, ℤ, pos, neg_ℤ, ◌+ℤ◌, ◌-ℤ◌}
 use Rattle.std.proofs.Common.{arith, sym, ap, ◌∙◌, subst, inl, inr, append-nil, length-append, length-drop, ne_eqb}
 use Rattle.std.proofs.Math.IntN.{+ℤ_assoc, +ℤ_invr, +ℤ_idl, neg_ℤ-+ℤ, neg_ℤ-neg_ℤ}
 use Rattle.row_format.specs.Lists.{any}
 use Rattle.row_format.specs.Lists.Laws.{by-test}
-use Rattle.delta_format.specs.Row.{
-  Element,
-  Flag,
-  full,
-  same,
-  bad-run,
-  bad-one,
-  fulls,
-  Previous,
-  none,
-  value,
-  Meaning,
-  flag,
-  difference,
-  meaning_of,
-  values_for,
-  RowReading,
-  stops,
-  reads,
-  joined_to,
-  row_from,
-}
+use Rattle.delta_format.specs.Row.{Element, Flag, full, same, bad-run, bad-one, fulls, Previous, Meaning, flag, difference, meaning_of, values_for, stops, reads, joined_to, row_from}
 use Rattle.delta_format.proofs.Row.Laws.{from_zero, from_next}
-use Rattle.delta_format.specs.Grammar.{
-  below_max,
-  IsFlag,
-  NoFlag,
-  PartCode,
-  full-value,
-  same-values,
-  bad-values,
-  bad-end,
-  bad-value,
-  bad_last,
-  full-values,
-  step,
-  RowCode,
-  row-end,
-  part,
-  RowBegins,
-  FaultCode,
-  no_flag,
-  no-count,
-  leaves,
-  below_one_lem,
-  sum-out,
-  RowFault,
-  data-ends,
-  faulty,
-  after,
-}
+use Rattle.delta_format.specs.Grammar.{below_max, NoFlag, PartCode, RowCode, row-end, part, RowBegins, FaultCode, no_flag, no-count, leaves, below_one_lem, sum-out, RowFault, data-ends, faulty, after}
 use Rattle.delta_format.proofs.Grammar.Laws.{View, a-flag, no-flag-at-all, flag-view, flag-means, no-flag-means}
 use Rattle.delta_format.proofs.Grammar.Exact.{RowReadAs, row_is, code_reads, code_row, fault-row, part_length}
 

@@ -1,24 +1,12 @@
 -- The values of a done row have 32 bits, and their bytes are read back as them. Assumes nothing.
-use Rattle.std.specs.Prelude.{ℕ, zero, suc, ◌+◌, ◌-◌, ◌*◌, ◌/◌, ◌%◌, ◌^◌, ◌≤◌, ◌<◌, ◌≡◌, refl, true, false, cond, ◌⊎◌, List, [], ◌∷◌, ◌++◌, map, length, take, drop, get_or, replicate, ltb, leb, ℤ, pos, negsuc, ◌-ℤ◌}
-use Rattle.std.proofs.Common.{mod-eq_of_lt, arith, sym, ap, ◌∙◌, subst, inl, inr, take_at, drop_at, ltb-true, ltb-false, leb-true, lt-ltb, le-ltb, le-leb}
+use Rattle.std.specs.Prelude.{ℕ, zero, suc, ◌+◌, ◌-◌, ◌*◌, ◌/◌, ◌^◌, ◌≤◌, ◌<◌, ◌≡◌, refl, true, cond, List, [], ◌∷◌, ◌++◌, map, length, take, drop, replicate, ltb, ℤ, pos, negsuc, ◌-ℤ◌}
+use Rattle.std.proofs.Common.{mod-eq_of_lt, arith, ap, ◌∙◌, subst, inl, inr, take_at, drop_at, ltb-true, ltb-false, leb-true, lt-ltb, le-leb}
 use Rattle.std.proofs.lemmas.List.{length-map}
-use Rattle.bitstream.specs.Bits.{digits, flat, cut, num_of, bits_of, bytes_of, Below}
-use Rattle.bitstream.specs.Bits.Laws.{
-  length_digits,
-  below-digits,
-  num_of-digits,
-  flat_append,
-  flat-cut,
-  pad-whole,
-  length_cut,
-  below-cut,
-  below-flat,
-  below-head,
-  below-tail,
-}
-use Rattle.row_format.specs.Lists.Laws.{by-test, and-true-left}
+use Rattle.bitstream.specs.Bits.{digits, cut, num_of, bits_of, Below}
+use Rattle.bitstream.specs.Bits.Laws.{length_digits, below-digits, num_of-digits, flat_append, flat-cut, pad-whole, below-cut, below-flat, below-head, below-tail}
+use Rattle.row_format.specs.Lists.Laws.{by-test}
 use Rattle.delta_format.specs.declared.RowPlaces.{RowPlaces}
-use Rattle.delta_format.specs.Numbers.{half_of, signed_number, elements_of, bits_for, in32}
+use Rattle.delta_format.specs.Numbers.{signed_number, elements_of, bits_for, in32}
 use Rattle.delta_format.specs.Row.{Element, good, bad, Previous}
 use Rattle.delta_format.specs.Grammar.{
   PartCode,

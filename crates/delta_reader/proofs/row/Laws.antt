@@ -3,12 +3,15 @@ use Prim.Native.Nat.{ℕ, zero, suc, ◌/◌, ◌≤◌, ◌<◌}
 use native.Mathlib.Nat.{zero-add}
 use native.Mathlib.Omega.{arith}
 use mathlib.Core.Path.{◌≡◌, refl, sym, ap, ◌∙◌, subst}
-use mathlib.Core.Bool.{true, false}
+use mathlib.Core.Bool.{Bool, true, false}
 use mathlib.Core.List.{List, ◌++◌, map}
 use lib.ListN.{length, drop, length-map}
 use lib.Dec.{eqb, ltb}
 use lib.IntN.{ℤ}
-use borrow.Author.Tests.{eqb-true, eqb-false, lt-ltb, le-ltb, ne_eqb}
+use borrow.Author.Tests.{eqb-true, eqb-false, lt-ltb, le-ltb}
+use Rattle.answer.specs.declared.refusal.Refusal.{Refusal}
+use Rattle.answer.specs.Refusal.{refusal_number}
+use Rattle.answer.specs.Refusal.Laws.{refusal_not_done}
 use Rattle.answer.specs.Outcome.{◌or_else◌, refuse_if, lent, room_number, unless}
 use Rattle.answer.specs.Outcome.Laws.{less_number-zero, or_else-zero-left, or_else-zero-right}
 use Rattle.row_format.specs.Lists.Laws.{by-test}
@@ -26,34 +29,12 @@ use Rattle.delta_format.specs.Calls.{
   row_number,
   delta_row,
 }
-use Rattle.delta_reader.specs.Offset.{Width, eight, sixteen, thirty_two}
 use Rattle.delta_reader.specs.Puts.{RoomFor, PutsElements, Unchanged, AsLong}
 use Rattle.delta_reader.specs.Walk.{WholeRow, WalkedAll, Walked}
 
--- ---- widths
-pub width-8 : {w : ℕ} → w ≡ 8 → 0 ≡ width_number w
-unfolding width_number
-width-8 e = rw e refl
-
-pub width-16 : {w : ℕ} → w ≡ 16 → 0 ≡ width_number w
-unfolding width_number
-width-16 e = rw e refl
-
-pub width-32 : {w : ℕ} → w ≡ 32 → 0 ≡ width_number w
-unfolding width_number
-width-32 e = rw e refl
-
-pub width-other : (w : ℕ) → (w ≡ 8 → ⊥) → (w ≡ 16 → ⊥) → (w ≡ 32 → ⊥) → 14 ≡ width_number w
-unfolding width_number
-width-other w a b c = rw (ne_eqb w 8 a, ne_eqb w 16 b, ne_eqb w 32 c) refl
-
-pub width_of : (w : ℕ) → width_number w ≡ 0 → Width w
-unfolding width_number
-width_of w z =
-    by-test (eqb w 8) (λ e. subst Width (sym (eqb-true w 8 e)) eight)
-    (λ a. by-test (eqb w 16) (λ e. subst Width (sym (eqb-true w 16 e)) sixteen)
-    (λ b. by-test (eqb w 32) (λ e. subst Width (sym (eqb-true w 32 e)) thirty_two)
-    (λ c. let q : ◌≡◌ {A = ℕ} 14 0 = sym (rw (a, b, c) refl) ∙ z in absurd (omega arith))))
+-- a refusal's number is no 0
+pub refusal_some : (e : Refusal) → refusal_number e ≡ 0 → ⊥
+refusal_some e none = omega (arith, refusal_not_done e, none)
 
 -- ---- what is judged first
 pub first-is : {e : ℕ} (n : ℕ) (a : Arrays) (x y : List ℕ)
@@ -70,16 +51,9 @@ module _ (n : ℕ) (a : Arrays) (x y : List ℕ) (z : row_number n a x y ≡ 0) 
   abbrev rest : ℕ
   rest = width_number a.value_bits or_else room
 
-  pub data-width : Width a.data_bits
-  unfolding row_number
-  data-width = width_of a.data_bits (or_else-zero-left (width_number a.data_bits) rest z)
-
   rest-width : width_number a.value_bits or_else room_number (lent (length x / 4)) n or_else room_number (lent (length y)) n ≡ 0
   unfolding row_number
   rest-width = or_else-zero-right (width_number a.data_bits) rest z
-
-  pub value-width : Width a.value_bits
-  value-width = width_of a.value_bits (or_else-zero-left (width_number a.value_bits) room rest-width)
 
   rooms : room_number (lent (length x / 4)) n or_else room_number (lent (length y)) n ≡ 0
   rooms = or_else-zero-right (width_number a.value_bits) room rest-width
@@ -103,6 +77,17 @@ room-marks m k n h g = rw (le-ltb m n h, lt-ltb k n g) refl
 
 pub room-both : (m k n : ℕ) → n ≤ m → n ≤ k → 0 ≡ refuse_if (ltb m n) 5 or_else refuse_if (ltb k n) 5
 room-both m k n h g = rw (le-ltb m n h, le-ltb k n g) refl
+
+-- the arrays, as their elements have them
+pub arrays-are : {w w' v v' : ℕ} {s s' t t' : List ℕ} (u : List ℕ) → w ≡ w' → s ≡ s' → v ≡ v' → t ≡ t'
+    → ◌≡◌ {A = Arrays} (record { data_bits = w; data_bytes = s; value_bits = v; value_bytes = t; repeat_bytes = u })
+    (record { data_bits = w'; data_bytes = s'; value_bits = v'; value_bytes = t'; repeat_bytes = u })
+arrays-are u a b c d = λ i. record { data_bits = a i; data_bytes = b i; value_bits = c i; value_bytes = d i; repeat_bytes = u }
+
+pub walked-at : {write : Bool} {n : ℕ} {a b : Arrays} (at : RowPlaces) {x y x' y' : List ℕ} {r : ℕ} → a ≡ b
+    → Walked write n (delta_row_at n a at) x y x' y' r → Walked write n (delta_row_at n b at) x y x' y' r
+walked-at {write} {n} {a} {b} at {x} {y} {x'} {y'} {r} e k =
+    subst (λ (c : Arrays). Walked write n (delta_row_at n c at) x y x' y' r) e k
 
 -- ---- the call
 module _ (n : ℕ) (a : Arrays) (at : RowPlaces) (x y : List ℕ) where

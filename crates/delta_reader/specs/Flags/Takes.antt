@@ -1,8 +1,11 @@
 -- What a flag gives, from what it takes. Assumes nothing.
-use Rattle.std.specs.Prelude.{ℕ, zero, suc, ◌+◌, ◌≤◌, ◌<◌, ◌≡◌, refl, cond, List, [], ◌∷◌, ◌++◌, map, length, take, drop, replicate, eqb, ℤ}
+use Rattle.std.specs.Prelude.{ℕ, zero, suc, ◌+◌, ◌≤◌, ◌<◌, ◌≡◌, refl, cond, List, [], ◌∷◌, ◌++◌, map, length, take, drop, replicate, eqb, ℤ, Ok, Err}
 use Rattle.std.proofs.Common.{arith, sym, ap, ◌∙◌, subst, length-append, length-take-le, eqb-true}
 use Rattle.std.proofs.lemmas.List.{length-map, length-replicate}
 use Rattle.std.proofs.lemmas.Bool.{eqb-false}
+use Rattle.answer.specs.declared.refusal.Refusal.{Refusal}
+use Rattle.answer.specs.Refusal.{refusal_number}
+use Rattle.answer.specs.Refusal.Laws.{refusal_not_done}
 use Rattle.answer.specs.Outcome.{unless}
 use Rattle.row_format.specs.Lists.Laws.{by-test}
 use Rattle.delta_format.specs.Row.{
@@ -28,7 +31,11 @@ use Rattle.delta_format.specs.Row.{
 }
 use Rattle.delta_format.proofs.Row.Laws.{free-row, free-values, free-count}
 use Rattle.delta_reader.specs.declared.flag.Taken.{Taken}
-use Rattle.delta_reader.specs.Flags.{taken_none, taken_at, taken_of, counts_after, elements_given, FlagValues, FlagTakes}
+use Rattle.delta_reader.specs.Flags.{TakenAnswer, as_taken, taken_none, taken_at, taken_of, counts_after, elements_given, FlagValues, FlagTakes}
+
+-- without its number
+abbrev taken_in : TakenAnswer → Taken
+taken_in a = record { count = a.count; values = a.values }
 
 -- ---- with a count c
 number-zero : (e c n : ℕ) → (unless e taken_none (record { number = 0; count = c; values = n })).number ≡ 0 → e ≡ 0
@@ -43,12 +50,12 @@ number-fault (suc e) c n g h = refl
 module _ (f : Flag) (left c : ℕ) (vs rs ts : List ℤ)
     (part : (p : Previous) → flag_part f p left vs rs ≡ flag_gives f p left c (values_for f left c) vs ts) (after : counts_after f rs ≡ ts)
   where
-    goes_at : (taken_at f left c vs).number ≡ 0 → FlagTakes f left vs rs (taken_at f left c vs)
+    goes_at : (taken_at f left c vs).number ≡ 0 → FlagTakes f left vs rs (taken_in (taken_at f left c vs))
     goes_at h =
         let n : ℕ = values_for f left c in
         let free : flag_number left c n vs ≡ 0 = number-zero (flag_number left c n vs) c n h in
         let some : 0 < c = (let z : c ≡ 0 → ⊥ = free-count left c n vs free in omega arith) in
-        let is : record { number = 0; count = c; values = n } ≡ taken_at f left c vs = rw free refl in
+        let is : record { count = c; values = n } ≡ taken_in (taken_at f left c vs) = rw free refl in
         subst (FlagTakes f left vs rs) is
         (record {
           some = some;
@@ -65,7 +72,8 @@ module _ (f : Flag) (left c : ℕ) (vs rs ts : List ℤ)
         ∙ number-fault (flag_number left c n vs) c n (gives (elements_for f c (take n vs)) (last_from p (take n vs)) (drop n vs) ts) h
 
 -- ---- with the flag's own count
-goes_of : (f : Flag) (left : ℕ) (vs rs : List ℤ) → (taken_of f left vs rs).number ≡ 0 → FlagTakes f left vs rs (taken_of f left vs rs)
+goes_of : (f : Flag) (left : ℕ) (vs rs : List ℤ) → (taken_of f left vs rs).number ≡ 0
+    → FlagTakes f left vs rs (taken_in (taken_of f left vs rs))
 goes_of full left vs rs h = goes_at full left 1 vs rs rs (λ p. refl) refl h
 goes_of same left vs [] h = absurd (omega arith)
 goes_of same left vs (r ∷ rs) h = goes_at same left (count_of r) vs (r ∷ rs) rs (λ p. refl) refl h
@@ -86,15 +94,16 @@ faults-of bad-one left vs rs h = faults-at bad-one left 1 vs rs rs (λ p. refl) 
 faults-of fulls left vs [] h = λ p. refl
 faults-of fulls left vs (r ∷ rs) h = faults-at fulls left (count_of r) vs (r ∷ rs) rs (λ p. refl) refl h
 
-module _ (f : Flag) (left : ℕ) (vs rs : List ℤ) {t : Taken} (e : t ≡ taken_of f left vs rs) where
-  pub taken-goes : t.number ≡ 0 → FlagTakes f left vs rs t
-  taken-goes z =
-      subst (FlagTakes f left vs rs) (sym e) (goes_of f left vs rs (sym (ap (λ (s : Taken). s.number) e) ∙ z))
+module _ (f : Flag) (left : ℕ) (vs rs : List ℤ) where
+  pub taken-goes : {t : Taken} → as_taken (Ok t) ≡ taken_of f left vs rs → FlagTakes f left vs rs t
+  taken-goes {t} e =
+      subst (FlagTakes f left vs rs) (sym (ap taken_in e)) (goes_of f left vs rs (sym (ap (λ (a : TakenAnswer). a.number) e)))
 
-  pub taken-faults : (t.number ≡ 0 → ⊥) → (p : Previous) → flag_part f p left vs rs ≡ fault t.number
-  taken-faults h p =
-      let same : t.number ≡ (taken_of f left vs rs).number = ap (λ (s : Taken). s.number) e in
-      faults-of f left vs rs (λ z. h (same ∙ z)) p ∙ ap fault (sym same)
+  pub taken-faults : (r : Refusal) → as_taken (Err r) ≡ taken_of f left vs rs
+      → (p : Previous) → flag_part f p left vs rs ≡ fault (refusal_number r)
+  taken-faults r e p =
+      let same : refusal_number r ≡ (taken_of f left vs rs).number = ap (λ (a : TakenAnswer). a.number) e in
+      faults-of f left vs rs (λ z. omega (arith, refusal_not_done r, same, z)) p ∙ ap fault (sym same)
 
 -- ---- how many elements they are
 -- c bad elements, and n values after them

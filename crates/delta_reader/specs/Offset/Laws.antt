@@ -1,6 +1,6 @@
 -- Signed numbers in offset binary: differences of two ℕ, of which omega knows. Assumes nothing.
 use Rattle.std.specs.Prelude.{ℕ, zero, suc, ◌+◌, ◌-◌, ◌*◌, ◌/◌, ◌%◌, ◌^◌, ◌≤◌, ◌<◌, ◌≡◌, refl, true, false, cond, List, length, take, drop, get_or, ltb, ℤ, pos, negsuc, ◌+ℤ◌, ◌-ℤ◌}
-use Rattle.std.proofs.Common.{mul_assoc, one-mul, zero-add, arith, sym, ◌∙◌, subst, length-drop, length-take-le, lit<, ltb-true, ltb-false, lt-ltb, le-ltb, le-leb}
+use Rattle.std.proofs.Common.{eqb, eqb-true, mul_assoc, one-mul, zero-add, arith, sym, ◌∙◌, subst, length-drop, length-take-le, lit<, ltb-true, ltb-false, lt-ltb, le-ltb, le-leb}
 use Rattle.std.proofs.Math.Nat.{mod-eq_of_lt}
 use Rattle.std.proofs.Math.Path.{ap}
 use Rattle.std.proofs.lemmas.List.{length-map}
@@ -13,6 +13,7 @@ use Rattle.bitstream.specs.Memory.{ByteAt}
 use Rattle.row_format.specs.Lists.Laws.{by-test}
 use Rattle.delta_format.specs.Numbers.{signed_number, elements_of, bits_for, in32}
 use Rattle.delta_format.specs.Row.{count_of}
+use Rattle.delta_format.specs.Calls.{width_number}
 use Rattle.delta_reader.specs.Offset.{Width, eight, sixteen, thirty_two, Offset, offset_value}
 
 -- ---- a - b
@@ -265,3 +266,12 @@ count-is n = by-test (ltb n 2147483648)
 
 pub low_count : {v : ℤ} (n : ℕ) → v ≡ offset_value n → n < 2147483648 → 0 ≡ count_of v
 low_count n e h = let q : 0 ≡ n - 2147483648 = omega arith in q ∙ sym (ap count_of e ∙ count-is n)
+
+-- the width of elements that are read
+pub width_of : (w : ℕ) → width_number w ≡ 0 → Width w
+unfolding width_number
+width_of w z =
+    by-test (eqb w 8) (λ e. subst Width (sym (eqb-true w 8 e)) eight)
+    (λ a. by-test (eqb w 16) (λ e. subst Width (sym (eqb-true w 16 e)) sixteen)
+    (λ b. by-test (eqb w 32) (λ e. subst Width (sym (eqb-true w 32 e)) thirty_two)
+    (λ c. let q : ◌≡◌ {A = ℕ} 14 0 = sym (rw (a, b, c) refl) ∙ z in absurd (omega arith))))

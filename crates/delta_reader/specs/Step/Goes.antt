@@ -1,11 +1,12 @@
 -- A flag's step, from what its parts leave. Assumes nothing.
-use Rattle.std.specs.Prelude.{ℕ, ◌+◌, ◌≤◌, ◌<◌, ◌≡◌, refl, Bool, true, List, [], length, take, drop, leb, ℤ}
+use Rattle.std.specs.Prelude.{ℕ, ◌+◌, ◌≤◌, ◌<◌, ◌≡◌, refl, Bool, true, List, [], length, take, drop, leb, ℤ, Ok, Err}
 use Rattle.std.proofs.Common.{arith, sym, ap, ◌∙◌, length-drop, drop_of_length-le, drop-drop, length-take-le, leb-true, leb-false}
 use Rattle.row_format.specs.Lists.Laws.{by-test}
-use Rattle.delta_format.specs.Row.{Flag, last_from, fault, gives, elements_for}
+use Rattle.delta_format.specs.Row.{Flag, last_from, gives, elements_for}
+use Rattle.answer.specs.declared.refusal.Refusal.{Refusal}
 use Rattle.delta_reader.specs.declared.flag.Taken.{Taken}
 use Rattle.delta_reader.specs.declared.step.Step.{Step}
-use Rattle.delta_reader.specs.Flags.{is_counted, taken_none, taken_of, counts_after, elements_given, FlagTakes}
+use Rattle.delta_reader.specs.Flags.{TakenAnswer, is_counted, as_taken, taken_none, taken_of, counts_after, elements_given, FlagTakes}
 use Rattle.delta_reader.specs.Flags.Takes.{taken-faults, takes-given, takes-few, takes-some, takes-last}
 use Rattle.delta_reader.specs.Puts.{PutsIf}
 use Rattle.delta_reader.specs.Step.{LastValue, count_place, StepGoes, FlagStep}
@@ -15,13 +16,13 @@ counts-next : (f : Flag) (counts : ℕ) (rs : List ℤ) → counts_after f (drop
 counts-next f counts rs = by-test (is_counted f) (λ e. rw e (drop-drop 1 counts rs)) (λ e. rw e refl)
 
 -- a flag that has a count has found it in REPEAT
-pub counted-inside : (f : Flag) (left : ℕ) (vs rs : List ℤ) (counts : ℕ) {t : Taken} → t ≡ taken_of f left vs (drop counts rs)
-    → t.number ≡ 0 → is_counted f ≡ true → counts < length rs
-counted-inside f left vs rs counts {t} e z counted =
+pub counted-inside : (f : Flag) (left : ℕ) (vs rs : List ℤ) (counts : ℕ) {t : Taken}
+    → as_taken (Ok t) ≡ taken_of f left vs (drop counts rs) → is_counted f ≡ true → counts < length rs
+counted-inside f left vs rs counts {t} e counted =
     by-test (leb (length rs) counts)
     (λ h. let out : drop counts rs ≡ [] = drop_of_length-le rs (leb-true (length rs) counts h) in
     let is : taken_of f left vs (drop counts rs) ≡ taken_none 25 = rw (counted, out) refl in
-    let q : ◌≡◌ {A = ℕ} 25 0 = sym (ap (λ (s : Taken). s.number) (e ∙ is)) ∙ z in
+    let q : ◌≡◌ {A = ℕ} 0 25 = ap (λ (a : TakenAnswer). a.number) (e ∙ is) in
     omega arith)
     (leb-false (length rs) counts)
 
@@ -56,21 +57,17 @@ module _ {write : Bool} {f : Flag} {left : ℕ} (vs rs : List ℤ) (from counts 
         written = q.written;
       }
 
-  pub step-done : {r : Step} → r.number ≡ 0 → r.given ≡ elements_given f t.count t.values
+  pub step-done : {r : Step} → r.given ≡ elements_given f t.count t.values
       → LastValue (take t.values (drop from vs)) r.previous → r.value.0 ≡ from + t.values → r.repeat.0 ≡ count_place f counts
-      → FlagStep write f left vs rs from counts x y at x' y' r
-  step-done z given last places counted = record {
-    refused = λ h. absurd (h z);
-    goes = λ e. step-goes given last places counted;
-    kept = q.kept;
-  }
+      → FlagStep write f left vs rs from counts x y at x' y' (Ok r)
+  step-done given last places counted = record { refused = tt; goes = step-goes given last places counted; kept = q.kept }
 
 -- ---- refused
-pub step-refused : {write : Bool} (f : Flag) (left : ℕ) (vs rs : List ℤ) (from counts : ℕ) {x y : List ℕ} {at : ℕ} {t : Taken} {r : Step}
-    → t ≡ taken_of f left (drop from vs) (drop counts rs) → (t.number ≡ 0 → ⊥) → r.number ≡ t.number
-    → FlagStep write f left vs rs from counts x y at x y r
-step-refused f left vs rs from counts e h same = record {
-  refused = λ g p. taken-faults f left (drop from vs) (drop counts rs) e h p ∙ ap fault (sym same);
-  goes = λ z. absurd (h (sym same ∙ z));
+pub step-refused : {write : Bool} (f : Flag) (left : ℕ) (vs rs : List ℤ) (from counts : ℕ) {x y : List ℕ} {at : ℕ} (e : Refusal)
+    → as_taken (Err e) ≡ taken_of f left (drop from vs) (drop counts rs)
+    → FlagStep write f left vs rs from counts x y at x y (Err e)
+step-refused f left vs rs from counts e is = record {
+  refused = taken-faults f left (drop from vs) (drop counts rs) e is;
+  goes = tt;
   kept = λ w. record { row = refl; marks = refl };
 }

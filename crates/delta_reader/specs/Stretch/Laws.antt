@@ -1,11 +1,15 @@
 -- The laws of differences one after the other. Assumes nothing.
-use Rattle.std.specs.Prelude.{ℕ, ◌+◌, ◌-◌, ◌≤◌, ◌<◌, ◌≡◌, refl, Bool, List, [], ◌∷◌, length, get_or, eqb, ℤ, pos, nat_abs}
+use Rattle.std.specs.Prelude.{ℕ, ◌+◌, ◌-◌, ◌≤◌, ◌<◌, ◌≡◌, refl, Bool, List, [], ◌∷◌, length, get_or, eqb, ℤ, pos, nat_abs, Result, Ok, Err}
 use Rattle.std.proofs.Common.{arith, sym, ap, ◌∙◌, subst, eqb-true}
 use Rattle.std.proofs.lemmas.Bool.{eqb-false}
 use Rattle.row_format.specs.Lists.Laws.{by-test}
 use Rattle.delta_format.specs.declared.FirstData.{FirstData}
 use Rattle.delta_format.specs.Numbers.{half_of, max_of}
 use Rattle.delta_format.specs.Row.{good, RowReading}
+use Rattle.std.proofs.lemmas.Result.{IfOk-at_ok, IfErr-at_err}
+use Rattle.answer.specs.declared.refusal.Refusal.{Refusal}
+use Rattle.answer.specs.declared.refusal.Refusal.TheVariants.{DeltaSum}
+use Rattle.answer.specs.Refusal.{refusal_number}
 use Rattle.delta_reader.specs.declared.stretch.Stretch.{Stretch}
 use Rattle.delta_reader.specs.Offset.{Width, Offset, offset_value}
 use Rattle.delta_reader.specs.Puts.{PutsIf, RoomFor, AsLong}
@@ -32,11 +36,11 @@ module _ {write : Bool} {n w : ℕ} (width : Width w) (ds : List ℤ) {s : Stret
   module _ {at : FirstData} {previous left : ℕ} {x' y' : List ℕ} (k : Stretching write n w ds s x y at.0 previous left x' y') where
     -- it stops here, at what is no ordinary element, or at the row's end
     stays : (0 < s.left → Ordinary w ds at.0 → left ≡ s.left → ⊥)
-        → Stretched write n w ds s x y x' y' (record { number = 0; at = at; previous = previous; left = left })
+        → Stretched write n w ds s x y x' y' (Ok (record { at = at; previous = previous; left = left }))
     stays no_more = record {
-      goes = λ z. k.walks;
-      stops = λ h. absurd (h refl);
-      less = λ z some o.
+      goes = k.walks;
+      stops = tt;
+      less = λ some o.
           by-test (eqb left s.left)
           (λ t. let e : left ≡ s.left = eqb-true left s.left t in
           absurd (no_more some (subst (Ordinary w ds) (sym (k.moved e)) o) e))
@@ -44,18 +48,18 @@ module _ {write : Bool} {n w : ℕ} (width : Width w) (ds : List ℤ) {s : Stret
       long = k.long;
     }
 
-    pub stretch-ends : length ds ≤ at.0 → Stretched write n w ds s x y x' y' (record
-        { number = 0; at = at; previous = previous; left = left })
+    pub stretch-ends : length ds ≤ at.0 → Stretched write n w ds s x y x' y' (Ok (record
+        { at = at; previous = previous; left = left }))
     stretch-ends out = stays (λ some o e. omega (arith, o.inside))
 
     pub stretch-flag : {e h : ℕ} → Offset w (get_or ds at.0 (pos 0)) e → h ≡ half_of w → 2147483647 + h < e + 5
-        → Stretched write n w ds s x y x' y' (record { number = 0; at = at; previous = previous; left = left })
+        → Stretched write n w ds s x y x' y' (Ok (record { at = at; previous = previous; left = left }))
     stretch-flag {e} {h} o half test =
         stays (λ some p z.
         let same : 2147483647 + half_of w - e ≡ p.down = ap nat_abs (sym (down width o) ∙ p.is) in
         omega (arith, p.far))
 
-    pub stretch-done : left ≡ 0 → Stretched write n w ds s x y x' y' (record { number = 0; at = at; previous = previous; left = left })
+    pub stretch-done : left ≡ 0 → Stretched write n w ds s x y x' y' (Ok (record { at = at; previous = previous; left = left }))
     stretch-done z = stays (λ some o e. omega arith)
 
     module _ {e h : ℕ} (fewer : s.left < n) (some : 0 < left) (inside : at.0 < length ds) (o : Offset w (get_or ds at.0 (pos 0)) e)
@@ -64,16 +68,11 @@ module _ {write : Bool} {n w : ℕ} (width : Width w) (ds : List ℤ) {s : Stret
       later z = omega (arith, k.fewer)
 
       out-28 : WalksOut write n w ds s.at.0 s.previous s.left x y x' y' 28
-          → Stretched write n w ds s x y x' y' (record { number = 28; at = at; previous = 0; left = 0 })
-      out-28 out = record {
-        goes = λ z. absurd (let q : ◌≡◌ {A = ℕ} 28 0 = z in omega arith);
-        stops = λ d. out;
-        less = λ z. absurd (let q : ◌≡◌ {A = ℕ} 28 0 = z in omega arith);
-        long = k.long;
-      }
+          → Stretched write n w ds s x y x' y' (Err DeltaSum)
+      out-28 out = record { goes = tt; stops = out; less = tt; long = k.long }
 
       pub stretch-below : previous + e < 2147483648
-          → Stretched write n w ds s x y x' y' (record { number = 28; at = at; previous = 0; left = 0 })
+          → Stretched write n w ds s x y x' y' (Err DeltaSum)
       stretch-below low =
           out-28 (record {
             out = λ row vs rs from counts x₀ y₀ room w₀.
@@ -81,7 +80,7 @@ module _ {write : Bool} {n w : ℕ} (width : Width w) (ds : List ℤ) {s : Stret
           })
 
       pub stretch-above : 6442450943 < previous + e
-          → Stretched write n w ds s x y x' y' (record { number = 28; at = at; previous = 0; left = 0 })
+          → Stretched write n w ds s x y x' y' (Err DeltaSum)
       stretch-above high =
           out-28 (record {
             out = λ row vs rs from counts x₀ y₀ room w₀.
@@ -112,13 +111,6 @@ stretch-room fewer room k = record {
   marks = omega (arith, room.marks, k.long.marks, k.fewer);
 }
 
--- the answer, as the code has it; of the place it begins at no number is asked
-pub stretch-answered : {write : Bool} {n w : ℕ} {ds : List ℤ} (s : Stretch) {x y x' y' : List ℕ} {r r' : Stretch} → r' ≡ r
-    → Stretched write n w ds (record { number = 0; at = s.at; previous = s.previous; left = s.left }) x y x' y' r
-    → Stretched write n w ds s x y x' y' r'
-stretch-answered {write} {n} {w} {ds} s {x} {y} {x'} {y'} {r} {r'} e k =
-    subst (Stretched write n w ds s x y x' y') (sym e) (record { goes = k.goes; stops = k.stops; less = k.less; long = k.long })
-
 -- a flag, or none, by MAX as the code has it
 pub flag_by : (h e : ℕ) {top : ℕ} → top ≡ 2147483647 + h → top < e + 5 → 2147483647 + h < e + 5
 flag_by h e is test = omega arith
@@ -126,26 +118,16 @@ flag_by h e is test = omega arith
 pub no-flag-by : (h e : ℕ) {top : ℕ} → top ≡ 2147483647 + h → e + 5 ≤ top → e + 5 ≤ 2147483647 + h
 no-flag-by h e is test = omega arith
 
--- ---- a stretch in a walk: from where the walk is, which the code keeps as s
-module _ {at : FirstData} {previous left : ℕ} {s : Stretch} (here : s ≡ record
-    { number = 0; at = at; previous = previous; left = left }) where
-  pub stretch-pre : {n : ℕ} {x y : List ℕ} → left ≤ n → (left ≡ n → ⊥) → previous < 4294967296 → RoomFor x y (n - left) left
-      → (s.left < n) × ((s.previous < 4294967296) × RoomFor x y (n - s.left) s.left)
-  stretch-pre {n} {x} {y} few later small room =
-      subst (λ (t : Stretch). (t.left < n) × ((t.previous < 4294967296) × RoomFor x y (n - t.left) t.left)) (sym here)
-      ((let q : left < n = omega arith in q), (small, room))
+-- ---- a stretch in a walk, from where the walk is
+module _ {write : Bool} {n w : ℕ} {row : RowReading} (ds vs rs : List ℤ) {x y x' y' x'' y'' : List ℕ} {at : FirstData}
+    {from counts previous left : ℕ} {r : Result Stretch Refusal} (room : RoomFor x y 0 n)
+    (k : Walking write n row (max_of w) ds vs rs x y at.0 from counts previous left x' y')
+    (t : Stretched write n w ds (record { at = at; previous = previous; left = left }) x' y' x'' y'' r) where
+  pub stretch-on : {g : Stretch} → r ≡ Ok g → Walking write n row (max_of w) ds vs rs x y g.at.0 from counts g.previous g.left x'' y''
+  stretch-on is = (IfOk-at_ok _ is t.goes).on row vs rs from counts x y room k
 
-  module _ {write : Bool} {n w : ℕ} {row : RowReading} (ds vs rs : List ℤ) {x y x' y' x'' y'' : List ℕ} {from counts : ℕ} {r : Stretch}
-      (room : RoomFor x y 0 n) (k : Walking write n row (max_of w) ds vs rs x y at.0 from counts previous left x' y')
-      (t : Stretched write n w ds s x' y' x'' y'' r) where
-    there : Stretched write n w ds (record { number = 0; at = at; previous = previous; left = left }) x' y' x'' y'' r
-    there = subst (λ (u : Stretch). Stretched write n w ds u x' y' x'' y'' r) here t
+  pub stretch-out : {e : Refusal} → r ≡ Err e → Walked write n row x y x'' y'' (refusal_number e)
+  stretch-out is = (IfErr-at_err _ is t.stops).out row vs rs from counts x y room k
 
-    pub stretch-on : r.number ≡ 0 → Walking write n row (max_of w) ds vs rs x y r.at.0 from counts r.previous r.left x'' y''
-    stretch-on z = (there.goes z).on row vs rs from counts x y room k
-
-    pub stretch-out : (r.number ≡ 0 → ⊥) → Walked write n row x y x'' y'' r.number
-    stretch-out h = (there.stops h).out row vs rs from counts x y room k
-
-    pub stretch-less : r.number ≡ 0 → 0 < left → Ordinary w ds at.0 → r.left < left
-    stretch-less z some o = there.less z some o
+  pub stretch-less : {g : Stretch} → r ≡ Ok g → 0 < left → Ordinary w ds at.0 → g.left < left
+  stretch-less is some o = IfOk-at_ok _ is t.less some o

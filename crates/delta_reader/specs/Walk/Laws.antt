@@ -32,6 +32,11 @@ use Rattle.delta_format.specs.declared.FirstValue.{FirstValue}
 use Rattle.delta_format.specs.declared.FirstRepeat.{FirstRepeat}
 use Rattle.delta_format.specs.Calls.{delta_row_at}
 use Rattle.delta_format.proofs.Row.Laws.{joined-none, joined-joined, from_zero, from-ends, from_next}
+use Rattle.std.specs.Prelude.{Result, Ok, Err}
+use Rattle.std.proofs.lemmas.Result.{IfOk-at_ok, IfErr-at_err}
+use Rattle.answer.specs.declared.refusal.Refusal.{Refusal}
+use Rattle.answer.specs.Refusal.{refusal_number}
+use Rattle.answer.specs.Refusal.Laws.{refusal_not_done}
 use Rattle.delta_reader.specs.declared.step.Step.{Step}
 use Rattle.delta_reader.specs.Offset.{Width, eight, sixteen, thirty_two, Offset, offset_value}
 use Rattle.delta_reader.specs.Offset.Laws.{down_is, sum_is, in-32, below-32, above-32}
@@ -214,7 +219,7 @@ module _ {write : Bool} {n : ℕ} {row : RowReading} {w : ℕ} (width : Width w)
               ∙ ap (joined_to es) (same-previous q last))
 
       -- a flag; h is half of the numbers, as the code has it
-      module _ {h : ℕ} {x'' y'' : List ℕ} {r : Step} (half : h ≡ half_of w) (test : 2147483647 + h < e + 5)
+      module _ {h : ℕ} {x'' y'' : List ℕ} {r : Result Step Refusal} (half : h ≡ half_of w) (test : 2147483647 + h < e + 5)
           (step : FlagStep write (flag_at (2147483647 + h - e)) left vs rs from counts x' y' (n - left) x'' y'' r) where
         low : 2147483647 + half_of w - e < 5
         low = omega arith
@@ -223,17 +228,18 @@ module _ {write : Bool} {n : ℕ} {row : RowReading} {w : ℕ} (width : Width w)
         s =
             subst (λ (m : ℕ). FlagStep write (flag_at (2147483647 + m - e)) left vs rs from counts x' y' (n - left) x'' y'' r) half step
 
-        pub walk_refused : (r.number ≡ 0 → ⊥) → Walked write n row x y x'' y'' r.number
-        walk_refused h =
-            stops-here r.number h
+        pub walk_refused : {c : Refusal} → r ≡ Err c → Walked write n row x y x'' y'' (refusal_number c)
+        walk_refused {c} is =
+            stops-here (refusal_number c) (λ z. omega (arith, refusal_not_done c, z))
             (part-flag width o (previous_at n left previous) left (drop from vs) (drop counts rs) low
-            ∙ s.refused h (previous_at n left previous))
+            ∙ IfErr-at_err _ is s.refused (previous_at n left previous))
             s.kept
 
-        pub walk-flag : {at' : ℕ} → at' ≡ at + 1 → r.number ≡ 0 → AsLong x' y' x'' y''
-            → Walking write n row (max_of w) ds vs rs x y at' r.value.0 r.repeat.0 r.previous (left - r.given) x'' y''
-        walk-flag moved z long =
-            let g : StepGoes write (flag_at (2147483647 + half_of w - e)) left vs rs from counts x' y' (n - left) x'' y'' r = s.goes z in
+        pub walk-flag : {at' : ℕ} {g : Step} → at' ≡ at + 1 → r ≡ Ok g → AsLong x' y' x'' y''
+            → Walking write n row (max_of w) ds vs rs x y at' g.value.0 g.repeat.0 g.previous (left - g.given) x'' y''
+        walk-flag {g = went} moved is long =
+            let g : StepGoes write (flag_at (2147483647 + half_of w - e)) left vs rs from counts x' y' (n - left) x'' y'' went =
+            IfOk-at_ok _ is s.goes in
             goes_on_lem moved g.elements (last_from (previous_at n left previous) g.values)
             (part-flag width o (previous_at n left previous) left (drop from vs) (drop counts rs) low ∙ g.part (previous_at n left previous))
             g.some g.few (ap (λ (m : ℕ). left - m) g.given)

@@ -21,7 +21,7 @@ use Rattle.sheet_stream.specs.Step.Laws.{step-ended, step-carries}
 use Rattle.sheet_stream.specs.Step.Rows.{rowless-next, row_next, row_count, row-there, gap-absent}
 use Rattle.sheet_picture.specs.View.{heights_by}
 use Rattle.draw_sheet.specs.declared.advance.Ahead.{Ahead}
-use Rattle.draw_sheet.specs.Ahead.{rows_in, height_bytes, least_in, is_known, BeginsSheet, MayBe, SheetOver}
+use Rattle.draw_sheet.specs.Ahead.{none_read, rows_in, height_bytes, least_in, is_known, BeginsSheet, MayBe, SheetOver}
 use Rattle.draw_sheet.specs.Ahead.{HeldLast, HeldBy, ReadTo, Onward}
 
 -- ---- the bytes of a row's heights
@@ -152,8 +152,8 @@ module _ {a : Ahead} {bytes table content : List ℕ} {n : ℕ} (w : ReadTo a by
     narrower : {t : List ℕ} → BeginsSheet w.taken t → MayBe a.ended w.taken w.last t
     narrower h = rw unended h
 
-    pub onward-ended : s.last ≡ true → {bytes' : List ℕ} {f : Bool} {h k : ℕ} {a' : Ahead} → take h bytes' ≡ b
-        → a' ≡ record { failed = f; ended = true; held = h; count = k; at = s.next } → Onward w a' bytes' table' content' n
+    pub onward-ended : s.last ≡ true → {bytes' : List ℕ} {h k : ℕ} {a' : Ahead} → take h bytes' ≡ b
+        → a' ≡ record { ended = true; held = h; count = k; at = s.next } → Onward w a' bytes' table' content' n
     onward-ended last same is =
         rw (is, (step.still last).0, (step.still last).1) (record {
           now = record {
@@ -172,7 +172,6 @@ module _ {a : Ahead} {bytes table content : List ℕ} {n : ℕ} (w : ReadTo a by
       abbrev after : Ahead
       after =
           record {
-            failed = false;
             ended = false;
             held = s.taken;
             count = height_bytes (holds_of s.read) s.read.count;
@@ -210,10 +209,9 @@ module _ {a : Ahead} {bytes table content : List ℕ} {n : ℕ} (w : ReadTo a by
           })
 
 -- ---- at the start nothing is read
-pub read_first : (bytes table content : List ℕ) (n : ℕ) {f : Bool} {h k : ℕ} {a : Ahead}
-    → a ≡ record { failed = f; ended = false; held = h; count = k; at = progress_first } → ReadTo a bytes table content n
-read_first bytes table content n is =
-    rw is (record {
+pub read_first : (bytes table content : List ℕ) (n : ℕ) → ReadTo none_read bytes table content n
+read_first bytes table content n =
+    record {
       taken = [];
       last = [];
       carries = carries-none;
@@ -221,4 +219,4 @@ read_first bytes table content n is =
       row = λ less rest. absurd (omega arith);
       between = λ m from less rest. absurd (omega arith);
       known = λ k. true-false k (le-ltb n 0 (omega arith));
-    })
+    }

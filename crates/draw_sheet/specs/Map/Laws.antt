@@ -1,26 +1,26 @@
 -- What stands beside the sheet, by what reading a map answered. Assumes nothing.
-use Rattle.std.specs.Prelude.{ℕ, ◌≡◌, false, List, length}
+use Rattle.std.specs.Prelude.{ℕ, ◌≡◌, refl, false, List, length}
 use Rattle.std.proofs.Common.{arith, sym, eq-eqb, ne_eqb}
 use Rattle.answer.specs.declared.Answer.{Answer}
 use Rattle.answer.specs.Outcome.{outcome}
 use Rattle.bitstream.specs.Bits.{halves_of}
 use Rattle.map_format.specs.Calls.{map_read}
 use Rattle.sheet_picture.specs.Grid.{most_of}
-use Rattle.draw_sheet.specs.declared.map.MapSide.{MapSide}
+use Rattle.draw_sheet.specs.declared.side.Side.{Side}
+use Rattle.draw_sheet.specs.declared.side.Side.TheVariants.{Nothing, Counts, Refused}
 use Rattle.draw_sheet.specs.Map.{without_map, with_map, SideShown, SideRead}
 
 -- nothing
-pub side-none : {s : MapSide} {c : List ℕ} → s.beside ≡ 0 → length c ≡ 32768 → SideShown s c
-side-none e room = record { shown = without_map e; few = omega arith; room = room; most = λ z. absurd (omega (arith, z)) }
+pub side-none : {c : List ℕ} → length c ≡ 32768 → SideShown Nothing c
+side-none room = record { shown = without_map refl; few = omega arith; room = room; most = λ z. absurd (omega (arith, z)) }
 
 -- a map of group size g and a total, whose bytes are b, was read to memory m, which is c now
 module _ (g : ℕ) (b : List ℕ) (total : ℕ) (m : List ℕ) (room : length m ≡ 32768) {a : Answer} {c : List ℕ} (size : length c ≡ 32768)
     (read : outcome a c ≡ map_read g b total m) where
-  abbrev Both : MapSide → Type 0
+  abbrev Both : Side → Type 0
   Both s = SideShown s c × SideRead g b total m s c
 
-  pub side-refused : (a.number ≡ 0 → ⊥)
-      → Both (record { failed = false; beside = 2; most = 1; number = a.number })
+  pub side-refused : (a.number ≡ 0 → ⊥) → Both (Refused a.number)
   side-refused wrong = (
     record {
       shown = with_map g b total m room (rw (← read, ne_eqb a.number 0 wrong));
@@ -31,8 +31,7 @@ module _ (g : ℕ) (b : List ℕ) (total : ℕ) (m : List ℕ) (room : length m 
     record { beside = rw (← read, ne_eqb a.number 0 wrong); number = rw (← read) },
   )
 
-  pub side-read : {k : ℕ} → a.number ≡ 0 → k ≡ most_of (halves_of c)
-      → Both (record { failed = false; beside = 1; most = k; number = 0 })
+  pub side-read : {k : ℕ} → a.number ≡ 0 → k ≡ most_of (halves_of c) → Both (Counts k)
   side-read ok most = (
     record {
       shown = with_map g b total m room (rw (← read, eq-eqb a.number 0 ok));

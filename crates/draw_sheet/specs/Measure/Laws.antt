@@ -31,7 +31,7 @@ use Rattle.sheet_stream.specs.Step.Laws.{step-ended, step-accepted, step-read, s
 use Rattle.sheet_stream.specs.Step.Rows.{rowless-next, rowless-same, row-least, row_small, row_next, row_count}
 use Rattle.sheet_verdict.specs.Verdict.{SheetEnds}
 use Rattle.sheet_picture.specs.Extent.{records_length, sheet_extent}
-use Rattle.draw_sheet.specs.declared.measure.Measured.{Measured}
+use Rattle.draw_sheet.specs.declared.measured.Measured.{Measured}
 use Rattle.draw_sheet.specs.Measure.{width_with, Passing, PassEnds, BrokenBy, Measures}
 
 -- ---- the bytes of records

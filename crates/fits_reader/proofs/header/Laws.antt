@@ -14,7 +14,6 @@ use Rattle.row_format.specs.Lists.{any}
 use Rattle.row_format.specs.Lists.Laws.{by-test, true-false, and-true-all, or-false-left, or-false-right}
 use Rattle.text.specs.Text.{ascii}
 use Rattle.text.specs.Same.{same_bytes}
-use Rattle.fits_format.specs.declared.ImageHeader.{ImageHeader}
 use Rattle.fits_format.specs.Card.{FieldValue, no_integer, is_integer, has_keyword, has_value, is_true, integer_of}
 use Rattle.fits_format.specs.Header.{header_cards, before_end, card_integer, axis1, axis2, lacking, is_number, below_one, above_most, axis_length, stands, header_number, end_card, no_image, image_of, header_clauses}
 use Rattle.fits_format.specs.Header.Laws.{before_end-front, before_end-most, stands-less, less-stands, length-plain_table_record}
@@ -102,10 +101,6 @@ module _ (s : List ℕ) where
   unfolding header_clauses
   no_end e = given 9 (rw (end-lacking e))
 
-  pub end_card-within : end_card s ≤ length (header_cards s)
-  unfolding end_card
-  end_card-within = before_end-most (header_cards s)
-
   front : (e : ℕ) → e ≡ end_card s → take e (header_cards s) ≡ before_end (header_cards s)
   unfolding end_card
   front e is = rw is (sym (before_end-front (header_cards s)))
@@ -163,15 +158,25 @@ module _ (s : List ℕ) where
       header_number-17 s 4 (rw none)
 
 -- ---- the header alone
+-- one of 17 refuses it
+pub judged-first : (s : List ℕ) (n : ℕ) → (n ≡ 0 → ⊥) → n ≡ unfit_number s → no_image n ≡ unless (header_number s) no_image (image_of s)
+judged-first s zero some is = absurd (some refl)
+judged-first s (suc n) some is = rw (header_number-parts s, ← is)
+
 module _ (s : List ℕ) (w r e : ℕ) (cards : CardsRead s w r e) where
   long-is : refuse_if (ltb 4096 w) 11 or_else refuse_if (ltb 4096 r) 11 ≡ long_number s
   unfolding long_number
   long-is = rw (cards.width, cards.rows, clipped-above (axis1 s), clipped-above (axis2 s))
 
-  -- the numbers in their order
-  pub number_is : (u l n : ℕ) → u ≡ unfit_number s
-      → l ≡ refuse_if (ltb 4096 w) 11 or_else refuse_if (ltb 4096 r) 11 → n ≡ u or_else l → n ≡ header_number s
-  number_is u l n unfit long is = is ∙ rw (unfit, long, long-is) (sym (header_number-parts s))
+  -- one of 11
+  pub judged-second : (n : ℕ) → (n ≡ 0 → ⊥) → 0 ≡ unfit_number s → n ≡ refuse_if (ltb 4096 w) 11 or_else refuse_if (ltb 4096 r) 11
+      → no_image n ≡ unless (header_number s) no_image (image_of s)
+  judged-second zero some fit is = absurd (some refl)
+  judged-second (suc n) some fit is = rw (header_number-parts s, ← fit, ← long-is, ← is)
+
+  -- none
+  pub judged_none : 0 ≡ unfit_number s → 0 ≡ refuse_if (ltb 4096 w) 11 or_else refuse_if (ltb 4096 r) 11 → header_number s ≡ 0
+  judged_none fit is = header_number-parts s ∙ rw (← fit, ← long-is, ← is)
 
   pub judged-done : header_number s ≡ 0
       → record { number = 0; width = w; rows = r; start = 2880 * (e / 36 + 1); count = 2078 }
@@ -189,7 +194,6 @@ module _ (s : List ℕ) (w r e : ℕ) (cards : CardsRead s w r e) where
         length-plain_table_record,
       )
 
-pub judged-refused : (s : List ℕ) (n : ℕ) (h : ImageHeader) → n ≡ header_number s → (n ≡ 0 → ⊥) → h ≡ no_image n
-    → h ≡ unless (header_number s) no_image (image_of s)
-judged-refused s zero h is some e = absurd (some refl)
-judged-refused s (suc n) h is some e = rw (← is) e
+pub or_true_right : (a b : Bool) → b ≡ true → (a || b) ≡ true
+or_true_right true b e = refl
+or_true_right false b e = e

@@ -4,9 +4,11 @@ use native.Mathlib.Omega.{arith}
 use mathlib.Core.Path.{◌≡◌, refl, sym, ap, ◌∙◌}
 use mathlib.Core.List.{List}
 use lib.ListN.{length}
+use lib.Dec.{ltb}
 use Rattle.answer.specs.Outcome.{Outcome, outcome, writes, ◌or_else◌, unless, lent, room_number}
 use Rattle.answer.specs.Outcome.Laws.{unless-part}
 use Rattle.row_format.specs.Plain.{plain_bytes}
+use Rattle.row_format.specs.Lists.Laws.{by-test}
 use Rattle.code_table.specs.Plain.Laws.{plain-accepted}
 use Rattle.sheet_format.specs.declared.RecordWritten.{RecordWritten}
 use Rattle.sheet_format.specs.Context.{no_heading, new_sheet}
@@ -34,6 +36,14 @@ table-written x m m' r plain e =
     (writes (record_done 1 no_heading new_sheet plain_bytes) (record_for 1 no_heading new_sheet plain_bytes) m)
     ∙ ap (λ (k : ℕ). unless k (λ j. outcome j m) (writes 0 (record_for 1 no_heading new_sheet plain_bytes) m))
     (write_number-writable 1 no_heading new_sheet plain_bytes (length m) table-writable)
+
+-- where it is not done there is no room
+pub table-full : (m m' : List ℕ) (n : ℕ) → (n ≡ 0 → ⊥) → outcome n m' ≡ table_written m → outcome 5 m' ≡ table_written m
+unfolding table_written
+table-full m m' n some e =
+    by-test (ltb (length m) (length plain_table_record))
+    (λ t. let five : n ≡ 5 = ap (λ (o : Outcome ℕ). o.answer) (rw t at e) in rw five at e)
+    (λ t. absurd (some (ap (λ (o : Outcome ℕ). o.answer) (rw t at e))))
 
 -- ---- the outcome, by the header's number e and the room's number d
 abbrev number_of : ImageHeader → ℕ

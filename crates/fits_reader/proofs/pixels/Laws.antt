@@ -1,7 +1,7 @@
 -- A row's pixels copied one by one. Assumes nothing.
 use Prim.Native.Nat.{ℕ, ◌+◌, ◌*◌, ◌≤◌, ◌<◌}
 use native.Mathlib.Omega.{arith}
-use mathlib.Core.Path.{◌≡◌, refl, sym, ap, ◌∙◌}
+use mathlib.Core.Path.{◌≡◌, sym, ap, ◌∙◌}
 use mathlib.Core.List.{List, [], ◌++◌, append_assoc, append-nil}
 use lib.ListN.{length, take, drop, get_or}
 use Rattle.bitstream.specs.Bits.{digits, flat, cut, bytes_of}
@@ -23,9 +23,6 @@ pub record Copied (vs : List ℕ) (size : ℕ) (out : List ℕ) (i : ℕ) : Type
   pub so_far_lem : take (2 * i) out ++ pixel_bytes (drop i vs) ≡ pixel_bytes vs
 
 module _ (vs : List ℕ) (size : ℕ) where
-  pub copied_none : (out : List ℕ) → length out ≡ size → Copied vs size out 0
-  copied_none out e = record { within = omega arith; kept = e; so_far_lem = refl }
-
   pub copied_more : 2 * length vs ≤ size → {out : List ℕ} {i v : ℕ} → Copied vs size out i → i < length vs → v ≡ get_or vs i 0
       → Copied vs size (overwritten out (2 * i) (bytes_of 2 (digits 16 v))) (i + 1)
   copied_more fits {out} {i} {v} q h e =

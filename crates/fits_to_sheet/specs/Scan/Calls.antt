@@ -13,8 +13,7 @@ use Rattle.fits_format.specs.declared.ImageHeader.{ImageHeader}
 use Rattle.fits_format.specs.Header.{header_number, plain_table_record, no_image, image_of, header_read}
 use Rattle.fits_format.specs.Image.{row_record, image_row_number, image_row}
 use Rattle.fits_format.specs.Image.Call.{image_row-number, image_row-counted}
-use Rattle.fits_to_sheet.specs.declared.rows.RowTurn.{RowTurn}
-use Rattle.fits_to_sheet.specs.Scan.{HeaderHeld, row_span, ImageStands, FirstRecord, RowsBefore, NextRecord, RowMade, Ended}
+use Rattle.fits_to_sheet.specs.Scan.{HeaderHeld, row_span, ImageStands, FirstRecord, RowsBefore, NextRecord, RowWritten, RowRefused, Ended}
 use Rattle.fits_format.specs.Image.Room.{image_row_number-room}
 use Rattle.fits_to_sheet.specs.Scan.Laws.{header_read-refused, header-granted, ended-header, image_width-most, row_span-cut, row_span-whole, first-record, rows_taken-none, ended-rows, rows_taken-more, next-record}
 
@@ -64,21 +63,28 @@ module _ (w r : ℕ) (held m : List ℕ) {a : Answer} {m' : List ℕ} (room : 71
   row_number : a.number ≡ image_row_number w r held (length m)
   row_number = ap (λ (o : Outcome Answer). o.answer.number) read ∙ image_row-number w r held m
 
-  pub row_made : {x : RowTurn} → x.number ≡ a.number → x.count ≡ a.count → RowMade w r held x m'
-  row_made number count = record {
-    number = number ∙ row_number ∙ image_row_number-room w r held (length m) room;
-    bytes = λ e.
-        let none = sym row_number ∙ sym number ∙ e in
-        rw count (ap (λ (o : Outcome Answer). take o.answer.count o.memory) read ∙ image_row-counted w r held m none);
-  }
+  row_number-room : a.number ≡ image_row_number w r held 7178
+  row_number-room = row_number ∙ image_row_number-room w r held (length m) room
 
-  pub row_within : a.count ≤ length m'
+  row_within : a.count ≤ length m'
   unfolding image_row
   row_within =
       let b = row_record w r held in
       let within = unless-in (λ (o : Outcome Answer). o.answer.count ≤ length o.memory) (image_row_number w r held (length m))
       (λ e. refused e m) (wrote (length b) b m) (λ k e. omega arith) (λ e. omega (arith, length-append b (drop (length b) m))) in
       rw (← read) at within
+
+  pub row-written : a.number ≡ 0 → RowWritten w r held a.count m'
+  row-written none = record {
+    number = sym row_number-room ∙ none;
+    bytes =
+        ap (λ (o : Outcome Answer). take o.answer.count o.memory) read
+        ∙ image_row-counted w r held m (sym row_number ∙ none);
+    within = row_within;
+  }
+
+  pub row-refused : (a.number ≡ 0 → ⊥) → RowRefused w r held a.number
+  row-refused some = record { is = row_number-room; some = some }
 
 -- ---- a header that is accepted, and its rows
 module _ {header : List ℕ} {x : ImageHeader} (stands : ImageStands header x) where
@@ -110,30 +116,27 @@ module _ {header : List ℕ} {x : ImageHeader} (stands : ImageStands header x) w
         ended-rows header stands.held stands.accepted before.image r before.taken [] (omega arith) 0
         (λ less. absurd (omega (arith, less, last))) (λ less. absurd (omega (arith, less, last))) (λ e. refl)
 
-    module _ (less : r < x.rows) {held m' : List ℕ} {turn : RowTurn} (few : length held ≤ row_span header)
-        (made : RowMade x.width r held turn m') where
+    module _ (less : r < x.rows) where
       less-here : r < (image_of header).rows
       less-here = rw rows_is at less
 
-      number-here : turn.number ≡ image_row_number (image_of header).width r held 7178
-      number-here = rw width_is at made.number
+      module _ {held : List ℕ} (few : length held ≤ row_span header) where
+        pub row-ended : {number : ℕ} → RowRefused x.width r held number → Ended header held 0 number r
+        row-ended {number} refused =
+            ended-rows header stands.held stands.accepted before.image r before.taken held few number
+            (λ h. rw width_is at refused.is) (λ h. refused.some) (λ e. absurd (omega (arith, e, less-here)))
 
-      pub row-ended : (turn.number ≡ 0 → ⊥) → Ended header held 0 turn.number r
-      row-ended some =
-          ended-rows header stands.held stands.accepted before.image r before.taken held few turn.number
-          (λ h. number-here) (λ h. some) (λ e. absurd (omega (arith, e, less-here)))
+        module _ {count : ℕ} {out : List ℕ} (written : RowWritten x.width r held count out) where
+          right : image_row_number (image_of header).width r held 7178 ≡ 0
+          right = rw width_is at written.number
 
-      module _ (none : turn.number ≡ 0) where
-        right : image_row_number (image_of header).width r held 7178 ≡ 0
-        right = sym number-here ∙ none
+          pub before_more : RowsBefore header (r + 1)
+          before_more = record {
+            image = before.image ++ held;
+            taken = rows_taken-more header stands.held stands.accepted before.image r before.taken held few less-here right;
+          }
 
-        pub before_more : RowsBefore header (r + 1)
-        before_more = record {
-          image = before.image ++ held;
-          taken = rows_taken-more header stands.held stands.accepted before.image r before.taken held few less-here right;
-        }
-
-        pub row_next : NextRecord header held r (take turn.count m')
-        row_next =
-            rw (made.bytes none, width_is)
-            (next-record header stands.held stands.accepted before.image r before.taken held few less-here right)
+          pub row_next : NextRecord header held r (take count out)
+          row_next =
+              rw (written.bytes, width_is)
+              (next-record header stands.held stands.accepted before.image r before.taken held few less-here right)

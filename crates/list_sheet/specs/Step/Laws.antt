@@ -20,8 +20,8 @@ use Rattle.sheet_listing.specs.Turns.{Turned, last_turn, turn_for, turn_of, Next
 use Rattle.sheet_listing.specs.Turns.Laws.{turn_of-refused, turn_of-accepted, turn_of-goes-on}
 use Rattle.sheet_listing.specs.Turns.Taken.{end_line}
 use Rattle.sheet_stream.specs.declared.progress.SheetProgress.{SheetProgress}
-use Rattle.sheet_stream.specs.Progress.{carried_by, table_after, Underway}
-use Rattle.sheet_stream.specs.Progress.Laws.{carried-next}
+use Rattle.sheet_stream.specs.Progress.{carried_by, table_after, carried_after, Underway}
+use Rattle.sheet_stream.specs.Progress.Laws.{carried-after}
 use Rattle.list_sheet.specs.declared.turn.Turn.{Turn}
 use Rattle.list_sheet.specs.Step.{end_turn, TurnMade}
 
@@ -77,15 +77,19 @@ module _ (p : Carried) (r m : List ℕ) (room : 128 ≤ length m) {x : ListedRec
     pub line-within : x.count ≤ length y
     line-within = omega (arith, count-is, ap length memory-is, length-append line (drop (length line) m))
 
-    -- it is accepted: what is carried on is what comes after it
+    -- it is accepted, and this is carried on: the turn that comes after it
+    pub turn-after : {next : Carried} → next ≡ carried_after p x.read r
+        → record { line = take x.count y; last = false; next = next } ≡ turn_of p r
+    turn-after is-next = rw (line-is, is-next, carried-after p r read_is fine) (sym (turn_of-accepted p r fine))
+
+    -- the same, of the parts: its table is kept and its row counted
     pub turn-accepted : {table : List ℕ} {rows : ℕ}
         → table ≡ table_after x.read p.table r
         → rows ≡ p.rows + rows_of (holds_of x.read)
         → (let next : Carried = record { table = table; state = x.read.state; index = p.index + 1; rows = rows } in
         record { line = take x.count y; last = false; next = next })
         ≡ turn_of p r
-    turn-accepted is-table is-rows =
-        rw (line-is, carried-next p r read_is fine is-table is-rows) (sym (turn_of-accepted p r fine))
+    turn-accepted is-table is-rows = turn-after (rw (is-table, is-rows) refl)
 
 -- nothing is left to read: the last line follows
 pub turn-ended : (p : Carried) → turn_of p [] ≡ last_turn p 0 (end_number p.index)

@@ -1,12 +1,10 @@
 -- The laws of counts from text: byte by byte, part by part, and that all are below 65536. Assumes nothing.
-use Rattle.std.specs.Prelude.{ℕ, ◌+◌, ◌<◌, ◌≡◌, refl, true, false, List, [], ◌∷◌, ◌++◌, length, take, get_or, eqb}
+use Rattle.std.specs.Prelude.{ℕ, Option, Some, None, ◌+◌, ◌<◌, ◌≡◌, refl, true, false, List, [], ◌∷◌, ◌++◌, length, take, get_or, eqb}
 use Rattle.std.proofs.Common.{add-one, arith, sym, ap, subst, ◌∙◌, append_assoc, append-nil}
 use Rattle.std.proofs.Math.Seq.{take-suc}
 use Rattle.bitstream.specs.Bits.{Below}
 use Rattle.bitstream.specs.Bits.Laws.{below-nil, below-cons, below-append}
 use Rattle.row_format.specs.Lists.Laws.{by-test}
-use Rattle.text.specs.declared.read.Decimal.{Decimal}
-use Rattle.text.specs.declared.read.Decimal.TheVariants.{Number, NoNumber}
 use Rattle.text.specs.Number.{is_digit, with_digit, AtMost}
 use Rattle.text.specs.Number.Laws.{with_digit-most}
 use Rattle.map_text.specs.declared.scan.Scan.{Scan}
@@ -60,9 +58,9 @@ Small Don = Unit {0}
 Small Ended = Unit {0}
 Small Fault = Unit {0}
 
-small_of : (d : Decimal) → AtMost 65535 d → Small (scan_of d)
-small_of (Number v) h = omega arith
-small_of NoNumber h = tt
+small_of : (d : Option ℕ) → AtMost 65535 d → Small (scan_of d)
+small_of (Some v) h = omega arith
+small_of None h = tt
 
 small-byte : (v b : ℕ) → Small (with_byte v b)
 unfolding with_byte

@@ -8,9 +8,8 @@ use Rattle.bitstream.specs.Bits.Laws.{below-take, below-drop}
 use Rattle.bitstream.specs.Msb.{msb_num, msb_bits_of}
 use Rattle.bitstream.specs.Msb.Laws.{msb_num-append, msb_num-lt, length-msb_bits_of, below-msb_bits_of}
 use Rattle.map_format.specs.Reading.{read_field, read_pixel}
-use Rattle.mat_map.specs.Step.{StepReads}
+use Rattle.mat_map.specs.Step.{Stepped, StepReads}
 use Rattle.mat_map.specs.Step.Laws.{field-got, farther, pixel-two, pixel-more, four_low, four-more, wide-got, wide-bad}
-use Rattle.mat_map.specs.declared.field.Step.{Step}
 
 -- the number of some bits over that of all: the first j, then m, then d
 number-of : (b : List ℕ) → Below 2 b → (c : ℕ) → length b ≡ c → msb_num b < 2 ^ c
@@ -38,7 +37,7 @@ msb_num-field x bits n j m d there e =
 module _ (s : List ℕ) (at n v : ℕ) (there : at + n ≤ 8 * length s) (is : v ≡ msb_num (take n (drop at (msb_bits_of s)))) where
   -- m of the bits, after the first j and before the last d, as a field that is read at its own place
   pub ahead : (j m d place next far : ℕ) → n ≡ j + m + d → place ≡ at + j → next ≡ at + j + m → next ≤ far
-      → let x : Step = record { number = 0; value = v / 2 ^ d % 2 ^ m; next = next } in
+      → let x : Stepped = record { number = 0; value = v / 2 ^ d % 2 ^ m; next = next } in
       StepReads (msb_bits_of s) far (2 ^ m) (read_field m (drop place (msb_bits_of s))) (v / 2 ^ d % 2 ^ m) x
   ahead j m d place next far e p q few =
       let bits : List ℕ = drop at (msb_bits_of s) in
@@ -54,7 +53,7 @@ module _ (s : List ℕ) (at n v : ℕ) (there : at + n ≤ 8 * length s) (is : v
 
 -- ---- a pixel
 module _ (s : List ℕ) (at v : ℕ) (there : at + 22 ≤ 8 * length s) (is : v ≡ msb_num (take 22 (drop at (msb_bits_of s)))) where
-  abbrev two : Step
+  abbrev two : Stepped
   two = record { number = 0; value = v / 1048576 % 4; next = at + 2 }
 
   two_is : StepReads (msb_bits_of s) (at + 2) 4 (read_field 2 (drop at (msb_bits_of s))) two.value two
@@ -64,19 +63,19 @@ module _ (s : List ℕ) (at v : ℕ) (there : at + 22 ≤ 8 * length s) (is : v 
   pixel-ahead-two l = pixel-two (msb_bits_of s) at two two_is refl l
 
   module _ (more : 3 ≤ v / 1048576 % 4) where
-    abbrev four : Step
+    abbrev four : Stepped
     four = record { number = 0; value = v / 65536 % 16; next = at + 6 }
 
     four_is : StepReads (msb_bits_of s) (at + 2 + 4) 16 (read_field 4 (drop (at + 2) (msb_bits_of s))) four.value four
     four_is = ahead s at 22 v there is 2 4 16 (at + 2) (at + 6) (at + 2 + 4) refl (omega arith) (omega arith) (omega arith)
 
-    pub pixel-ahead-four : v / 65536 % 16 < 15 → let y : Step = record { number = 0; value = 3 + v / 65536 % 16; next = at + 6 } in
+    pub pixel-ahead-four : v / 65536 % 16 < 15 → let y : Stepped = record { number = 0; value = 3 + v / 65536 % 16; next = at + 6 } in
         StepReads (msb_bits_of s) (at + 22) 65536 (read_pixel (drop at (msb_bits_of s))) y.value y
     pixel-ahead-four l =
         pixel-more (msb_bits_of s) at two two_is refl more _ (four_low (msb_bits_of s) (at + 2) four four_is refl l)
 
     module _ (still : 15 ≤ v / 65536 % 16) where
-      abbrev wide : Step
+      abbrev wide : Stepped
       wide = record { number = 0; value = v % 65536; next = at + 22 }
 
       wide_is : StepReads (msb_bits_of s) (at + 6 + 16) 65536 (read_field 16 (drop (at + 6) (msb_bits_of s))) wide.value wide
@@ -90,7 +89,7 @@ module _ (s : List ℕ) (at v : ℕ) (there : at + 22 ≤ 8 * length s) (is : v 
           pixel-more (msb_bits_of s) at two two_is refl more wide
           (four-more (msb_bits_of s) (at + 2) four four_is refl still wide (wide-got (msb_bits_of s) (at + 6) wide wide_is refl l))
 
-      pub pixel-ahead-bad : v % 65536 ≤ 17 → (y : Step) → y.number ≡ 20
+      pub pixel-ahead-bad : v % 65536 ≤ 17 → (y : Stepped) → y.number ≡ 20
           → StepReads (msb_bits_of s) (at + 22) 65536 (read_pixel (drop at (msb_bits_of s))) y.value y
       pixel-ahead-bad l y e =
           pixel-more (msb_bits_of s) at two two_is refl more y

@@ -28,13 +28,12 @@ use Rattle.map_format.specs.Reading.{
 }
 use Rattle.map_format.specs.Reading.Laws.{sum_zeros, sum-append, length-photon, sum-photon}
 use Rattle.map_format.specs.Calls.{map_groups}
-use Rattle.mat_map.specs.Step.{prefixed, StepReads, part, code_of, Around, Stored, Pixels, GroupReady, Dark, Groups}
+use Rattle.mat_map.specs.Step.{Stepped, prefixed, StepReads, part, code_of, Around, Stored, Pixels, GroupReady, Dark, Groups}
 use Rattle.mat_map.specs.Step.Laws.{refuses, gets, passes, follows, farther}
 use Rattle.mat_map.specs.Step.Prefixed.{prefixed-none, prefixed-twice}
 use Rattle.mat_map.specs.Step.Prefixed.{read_pixels-more, read_pixels-stop, read_groups-more, read_groups-stop}
 use Rattle.mat_map.specs.Step.Memory.{photon-most, around-none, around-both, around-set, get_d_part, part-photon, take-zeros}
 use Rattle.mat_map.specs.Step.Memory.{drop-zeros}
-use Rattle.mat_map.specs.declared.field.Step.{Step}
 
 -- ---- photons at positions
 module _ (b : List ℕ) (k at place : ℕ) (l : List ℕ) (ready : GroupReady k at place l) where
@@ -49,7 +48,7 @@ module _ (b : List ℕ) (k at place : ℕ) (l : List ℕ) (ready : GroupReady k 
   dark-long : length (dark k) ≡ 2 ^ k
   dark-long = length-replicate (2 ^ k) 0
 
-  module _ (x : Step) (h : StepReads b (at + k) (2 ^ k) (read_field k (drop at b)) x.value x) where
+  module _ (x : Stepped) (h : StepReads b (at + k) (2 ^ k) (read_field k (drop at b)) x.value x) where
     pub one-stop : (x.number ≡ 0 → ⊥) → Stored b (at + 22 * 2 ^ k) (read_body k one (drop at b)) place (2 ^ k) l l x
     unfolding read_body
     one-stop n = record { reads = passes _ _ h n; photons = λ z. absurd (n z); around = around-none place (2 ^ k) l }
@@ -70,7 +69,7 @@ module _ (b : List ℕ) (k at place : ℕ) (l : List ℕ) (ready : GroupReady k 
       first-around =
           subst (Around place (2 ^ k) l) (sym is) (around-set place (2 ^ k) l x.value (h.goes z).low (get_or l (place + x.value) 0 + 1))
 
-      pub one-put : let y : Step = record { number = 0; value = 1; next = x.next } in
+      pub one-put : let y : Stepped = record { number = 0; value = 1; next = x.next } in
           Stored b (at + 22 * 2 ^ k) (read_body k one (drop at b)) place (2 ^ k) l l' y
       unfolding read_body
       one-put = record {
@@ -92,7 +91,7 @@ module _ (b : List ℕ) (k at place : ℕ) (l : List ℕ) (ready : GroupReady k 
           let d : get_or (dark k) q 0 ≡ 0 = get_or-replicate (2 ^ k) q 0 0 small in
           omega (arith, photon-most x.value (dark k) q)
 
-      module _ (w : Step) (g : StepReads b (x.next + k) (2 ^ k) (read_field k (drop x.next b)) w.value w) (y : w.number ≡ 0)
+      module _ (w : Stepped) (g : StepReads b (x.next + k) (2 ^ k) (read_field k (drop x.next b)) w.value w) (y : w.number ≡ 0)
           (l'' : List ℕ) (put : l'' ≡ set l' (place + w.value) (get_or l' (place + w.value) 0 + 1)) where
         second_is : part place (2 ^ k) l'' ≡ photon w.value (photon x.value (dark k))
         second_is =
@@ -105,7 +104,7 @@ module _ (b : List ℕ) (k at place : ℕ) (l : List ℕ) (ready : GroupReady k 
             (omega (arith, dark-long, length-photon x.value (dark k), (g.goes y).low))
             ∙ ap suc first-sum
 
-        pub two-put : let r : Step = record { number = 0; value = 2; next = w.next } in
+        pub two-put : let r : Stepped = record { number = 0; value = 2; next = w.next } in
             Stored b (at + 22 * 2 ^ k) (read_body k two (drop at b)) place (2 ^ k) l l'' r
         unfolding read_body
         two-put = record {
@@ -122,7 +121,7 @@ module _ (b : List ℕ) (k at place : ℕ) (l : List ℕ) (ready : GroupReady k 
         }
 
     -- the second position is refused
-    pub second-stop : x.number ≡ 0 → (w : Step) → StepReads b (x.next + k) (2 ^ k) (read_field k (drop x.next b)) w.value w
+    pub second-stop : x.number ≡ 0 → (w : Stepped) → StepReads b (x.next + k) (2 ^ k) (read_field k (drop x.next b)) w.value w
         → (w.number ≡ 0 → ⊥) → Stored b (at + 22 * 2 ^ k) (read_body k two (drop at b)) place (2 ^ k) l l w
     unfolding read_body
     second-stop z w g n = record {
@@ -153,7 +152,7 @@ module _ (b : List ℕ) (at n place : ℕ) (l : List ℕ) where
   no_more xs next = ap (λ (ys : List ℕ). got ys (drop next b)) (append-nil xs)
 
   module _ (l' : List ℕ) (next photons i : ℕ) (q : Pixels b at n place l l' next photons i) where
-    pub pixels-all : 0 < n → n ≤ i → let y : Step = record { number = 0; value = photons; next = next } in
+    pub pixels-all : 0 < n → n ≤ i → let y : Stepped = record { number = 0; value = photons; next = next } in
         Stored b (at + 22 * n) (read_pixels n (drop at b)) place n l l' y
     pixels-all some h =
         let all : i ≡ n = omega (arith, q.within) in
@@ -173,7 +172,7 @@ module _ (b : List ℕ) (at n place : ℕ) (l : List ℕ) where
           around = q.around;
         }
 
-    module _ (h : i < n) (x : Step) (r : StepReads b (next + 22) 65536 (read_pixel (drop next b)) x.value x) where
+    module _ (h : i < n) (x : Stepped) (r : StepReads b (next + 22) 65536 (read_pixel (drop next b)) x.value x) where
       left : n - i ≡ suc (n - (i + 1))
       left = omega arith
 
@@ -226,7 +225,7 @@ module _ (b : List ℕ) (at n place : ℕ) (l : List ℕ) where
           (put_next fits z l'' (put ∙ ap (λ (k : ℕ). set l' k x.value) here))
 
 -- ---- after 000
-module _ (b : List ℕ) (k at place n : ℕ) (l l' : List ℕ) (x : Step) (e : n ≡ 2 ^ k)
+module _ (b : List ℕ) (k at place n : ℕ) (l l' : List ℕ) (x : Stepped) (e : n ≡ 2 ^ k)
     (h : Stored b (at + 22 * n) (read_pixels n (drop at b)) place n l l' x) where
   each : Stored b (at + 22 * 2 ^ k) (read_pixels (2 ^ k) (drop at b)) place (2 ^ k) l l' x
   each = subst (λ (m : ℕ). Stored b (at + 22 * m) (read_pixels m (drop at b)) place m l l' x) e h
@@ -236,7 +235,7 @@ module _ (b : List ℕ) (k at place n : ℕ) (l l' : List ℕ) (x : Step) (e : n
   each-stop s = record { reads = passes _ _ each.reads s; photons = λ z. absurd (s z); around = each.around }
 
   module _ (z : x.number ≡ 0) where
-    pub each-few : x.value < 3 → (y : Step) → y.number ≡ 20
+    pub each-few : x.value < 3 → (y : Stepped) → y.number ≡ 20
         → Stored b (at + 22 * 2 ^ k) (read_body k direct (drop at b)) place (2 ^ k) l l' y
     unfolding read_body
     each-few few y is =
@@ -268,7 +267,7 @@ module _ (b : List ℕ) (k at place n : ℕ) (l l' : List ℕ) (x : Step) (e : n
 pub ready-later : {k at place next : ℕ} {l : List ℕ} → GroupReady k at place l → next ≤ at → GroupReady k next place l
 ready-later r h = record { some = r.some; few = r.few; near = omega (arith, r.near); room = r.room; none = r.none }
 
-module _ (b : List ℕ) (k at place : ℕ) (l : List ℕ) (x : Step)
+module _ (b : List ℕ) (k at place : ℕ) (l : List ℕ) (x : Stepped)
     (h : StepReads b (at + 3) 4 (read_code (drop at b)) (code_of x.value) x) where
   pub group-stop : (x.number ≡ 0 → ⊥) → Stored b (at + 3 + 22 * 2 ^ k) (read_group k (drop at b)) place (2 ^ k) l l x
   unfolding read_group
@@ -291,7 +290,7 @@ module _ (b : List ℕ) (k at place : ℕ) (l : List ℕ) (x : Step)
       around = around-none place (2 ^ k) l;
     }
 
-    pub group-body : (c : Code) → code_of x.value ≡ c → (l' : List ℕ) (y : Step)
+    pub group-body : (c : Code) → code_of x.value ≡ c → (l' : List ℕ) (y : Stepped)
         → Stored b (x.next + 22 * 2 ^ k) (read_body k c (drop x.next b)) place (2 ^ k) l l' y
         → Stored b (at + 3 + 22 * 2 ^ k) (read_group k (drop at b)) place (2 ^ k) l l' y
     unfolding read_group
@@ -329,7 +328,7 @@ module _ (b : List ℕ) (k : ℕ) (few : k ≤ 4) where
     unfolding read_groups
     no-group = refl
 
-    pub groups-all : left ≡ 0 → (l₀ : List ℕ) → Dark l₀ → let y : Step = record { number = 0; value = photons; next = at } in
+    pub groups-all : left ≡ 0 → (l₀ : List ℕ) → Dark l₀ → let y : Stepped = record { number = 0; value = photons; next = at } in
         Stored b 409600 (read_groups k (map_groups k) b) 0 16384 l₀ l y
     groups-all e l₀ none =
         let all : place ≡ 16384 = sym (add-zero place) ∙ ap (place +◌) (sym (ap (◌* 2 ^ k) e ∙ zero-mul (2 ^ k))) ∙ q.room in
@@ -372,7 +371,7 @@ module _ (b : List ℕ) (k : ℕ) (few : k ≤ 4) where
             ap (take (2 ^ k)) q.none ∙ take-zeros (2 ^ k) (length l - place) (omega (arith, q.size, groups-room));
       }
 
-      module _ (l' : List ℕ) (x : Step)
+      module _ (l' : List ℕ) (x : Stepped)
           (g : Stored b (at + 3 + 22 * 2 ^ k) (read_group k (drop at b)) place (2 ^ k) l l' x) where
         by-group : read_groups k (map_groups k) b ≡ prefixed (take place l) (read_groups k (suc (left - 1)) (drop at b))
         by-group =

@@ -23,9 +23,8 @@ use Rattle.map_format.specs.Reading.{stops, sum, read_groups}
 use Rattle.map_format.specs.Calls.{map_groups, read_map, map_left, map_read}
 use Rattle.mat_map.specs.Size.{bits_or_none}
 use Rattle.mat_map.specs.Size.Laws.{size-refused, size-passes, size-bits, size-most}
-use Rattle.mat_map.specs.Step.{Stored, Dark, part, judged_number}
+use Rattle.mat_map.specs.Step.{Stepped, Stored, Dark, part, judged_number}
 use Rattle.mat_map.specs.Step.Memory.{drop-zeros}
-use Rattle.mat_map.specs.declared.field.Step.{Step}
 
 -- ---- bytes that are 0 hold counts that are 0
 bits-zeros : (m : ℕ) → bits_of (replicate m 0) ≡ replicate (8 * m) 0
@@ -57,7 +56,7 @@ dark-map m e =
     }
 
 -- ---- the groups were read, to bytes `own` of this call, and r is their number
-module _ (k total : ℕ) (s m l own : List ℕ) (x : Step)
+module _ (k total : ℕ) (s m l own : List ℕ) (x : Stepped)
     (h : Stored (msb_bits_of s) 409600 (read_groups k (map_groups k) (msb_bits_of s)) 0 16384 l (halves_of own) x)
     (r : ℕ) (is : r ≡ judged_number total x) where
   counted : x.number ≡ 0 → sum (part 0 16384 (halves_of own)) ≡ x.value

@@ -8,9 +8,8 @@ use Rattle.answer.specs.Outcome.Laws.{refuse_if-zero, less_number-zero, or_else-
 use Rattle.row_format.specs.Lists.Laws.{by-test, true-false}
 use Rattle.text.specs.Text.{ascii}
 use Rattle.text.specs.Same.{same_bytes}
-use Rattle.pgm_format.specs.declared.PgmHeader.{PgmHeader}
 use Rattle.pgm_format.specs.Header.{is_blank, field_at, rows_place, largest_place, blank_place, fields_number, front_number, no_pgm, pgm_of}
-use Rattle.pgm_format.specs.Header.{front_read, pgm_header, PgmAccepted}
+use Rattle.pgm_format.specs.Header.{PgmRead, front_read, pgm_header, PgmAccepted}
 
 -- a blank that is there has a place
 blank-inside : (s : List ℕ) (at : ℕ) → is_blank (get_or s at 0) ≡ true → at < length s
@@ -46,7 +45,7 @@ fields_fit w r largest blank e =
 -- ---- of the bytes that it ends in
 front-number : (s : List ℕ) → (front_read s).number ≡ front_number s
 unfolding front_read
-front-number s = unless-number (λ (h : PgmHeader). h.number) no_pgm (pgm_of s) (λ k. refl) (front_number s) refl
+front-number s = unless-number (λ (h : PgmRead). h.number) no_pgm (pgm_of s) (λ k. refl) (front_number s) refl
 
 module _ (s : List ℕ) (ok : (front_read s).number ≡ 0) where
   number : front_number s ≡ 0

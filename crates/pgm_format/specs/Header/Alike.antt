@@ -6,9 +6,8 @@ use Rattle.std.proofs.Math.Bool.{false}
 use Rattle.std.proofs.Math.Seq.{take-take}
 use Rattle.row_format.specs.Lists.Laws.{by-test, drop-take}
 use Rattle.text.specs.Number.{is_digit}
-use Rattle.pgm_format.specs.declared.PgmHeader.{PgmHeader}
 use Rattle.pgm_format.specs.Header.{separates, comments, gap_from, gap_bytes, digit_bytes, field_value, field_bytes, field_at, after_field}
-use Rattle.pgm_format.specs.Header.{rows_place, largest_place, blank_place, front_number, front_read, pgm_header}
+use Rattle.pgm_format.specs.Header.{PgmRead, rows_place, largest_place, blank_place, front_number, front_read, pgm_header}
 use Rattle.pgm_format.specs.Header.Accepted.{front-is, front_ends}
 
 -- ---- bytes alike as far as m
@@ -120,7 +119,7 @@ unfolding pgm_header
 pgm-alike s t ok alike =
     let u = take 65536 s in
     let k = blank_place u + 1 in
-    let start : (front_read u).start ≡ k = ap (λ (h : PgmHeader). h.start) (front-is u ok) in
+    let start : (front_read u).start ≡ k = ap (λ (h : PgmRead). h.start) (front-is u ok) in
     let most : k ≤ 65536 = omega (arith, front_ends u ok, length-take 65536 s) in
     let same : take k u ≡ take k (take 65536 t) =
     take-take k 65536 s most ∙ sym (rw start at alike) ∙ sym (take-take k 65536 t most) in

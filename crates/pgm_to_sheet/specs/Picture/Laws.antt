@@ -15,8 +15,7 @@ use Rattle.fits_format.specs.Heights.{table_bytes, heights_records}
 use Rattle.fits_format.specs.Image.{big_endian}
 use Rattle.fits_format.specs.Conversion.{header_refused, after_header, row_at}
 use Rattle.text.specs.Same.{same_bytes}
-use Rattle.pgm_format.specs.declared.PgmHeader.{PgmHeader}
-use Rattle.pgm_format.specs.Header.{front_number, front_read, pgm_header, PgmAccepted}
+use Rattle.pgm_format.specs.Header.{PgmRead, front_number, front_read, pgm_header, PgmAccepted}
 use Rattle.pgm_format.specs.Header.Accepted.{pgm-accepted, pgm-refused}
 use Rattle.pgm_format.specs.Header.Alike.{pgm-alike}
 use Rattle.pgm_format.specs.Samples.{lines_in}
@@ -35,7 +34,7 @@ module _ (front : List ℕ) (bad : (pgm_header front).number ≡ 0 → ⊥) wher
   header-whole = unless-refused (pgm_header front).number (λ e. front) (take (pgm_header front).start front) bad
 
   pub no_rows : (pgm_header front).rows ≡ 0
-  no_rows = ap (λ (h : PgmHeader). h.rows) (pgm-refused front bad)
+  no_rows = ap (λ (h : PgmRead). h.rows) (pgm-refused front bad)
 
   pub ended-refused : (tb : List ℕ) {number : ℕ} → number ≡ table_number tb or_else (pgm_header front).number → (number ≡ 0 → ⊥)
       → PictureEnded tb front [] number 0 0

@@ -9,8 +9,7 @@ use Rattle.row_format.specs.Lists.Laws.{by-test}
 use Rattle.row_format.specs.Table.{table_number}
 use Rattle.fits_format.specs.Heights.{table_bytes}
 use Rattle.fits_format.specs.Conversion.{RowsWritten, Conversion, header_refused, after_header, row_at, FirstFault}
-use Rattle.pgm_format.specs.declared.PgmHeader.{PgmHeader}
-use Rattle.pgm_format.specs.Header.{pgm_header}
+use Rattle.pgm_format.specs.Header.{PgmRead, pgm_header}
 use Rattle.pgm_format.specs.Conversion.{line_refusal, line_records, pgm_conversion}
 use Rattle.pgm_to_sheet.specs.Picture.{header_bytes, PictureEnded}
 use Rattle.pgm_to_sheet.specs.Picture.Laws.{header-whole, no_rows, header-same, converted, up_to}
@@ -46,7 +45,7 @@ module _ {tb front held : List ℕ} {number fault rows : ℕ} (ended : PictureEn
   ended-number =
       sym (ap (λ (c : Conversion). c.header) ended.ends)
       ∙ conversion-header tb (header_bytes front ++ behind)
-      ∙ ap (λ (h : PgmHeader). table_number tb or_else h.number) header_read_lem
+      ∙ ap (λ (h : PgmRead). table_number tb or_else h.number) header_read_lem
 
   module _ (none : number ≡ 0) where
     table : table_number tb ≡ 0

@@ -1,10 +1,10 @@
 -- What a turn of split does to the words that it parts, and its end. Assumes nothing.
 use Prim.Native.Nat.{ℕ, ◌+◌, ◌-◌, ◌≤◌, ◌<◌}
-use native.Mathlib.Nat.{not-suc-le-zero, le_refl}
+use native.Mathlib.Nat.{le_refl}
 use native.Mathlib.Decide.{dec_lt}
 use native.Mathlib.Numerals.{add-one}
 use native.Mathlib.Omega.{arith}
-use mathlib.Core.Path.{◌≡◌, refl, sym, ap, ◌∙◌}
+use mathlib.Core.Path.{◌≡◌, sym, ap, ◌∙◌}
 use mathlib.Core.Bool.{false, ◌||◌}
 use mathlib.Core.List.{List, [], ◌∷◌, ◌++◌, map, map-append}
 use lib.ListN.{length, take, drop, get_or, length-drop, length-map, take-append-drop}
@@ -85,9 +85,6 @@ exchanged-codewords {a} {b} {l} {p} x =
       from = λ {k} {k'} m. get_d-codewords p k ∙ ap codeword (x.from m) ∙ sym (get_d-codewords l k');
     }
 
-pub reordered-none : (d : ℕ) (s : List ℕ) → Agree d s → Longer d s → Reordered d s s
-reordered-none d s a g = record { long = refl; agree = a; longer = g; clashing = refl }
-
 pub reordered-more : {d : ℕ} {s t : List ℕ} (i r : ℕ) → Reordered d s t → i < length t → r < length t → Reordered d s (swapped t i r 0)
 reordered-more {d} {s} {t} i r x hi hr =
     let e = swapped-exchanged i r 0 t hi hr in
@@ -98,9 +95,6 @@ reordered-more {d} {s} {t} i r x hi hr =
       longer = longer-among x.longer m;
       clashing = clash-exchanged (rw (length-map t codeword) hi) (rw (length-map t codeword) hr) (exchanged-codewords e) ∙ x.clashing;
     }
-
-pub parted-none : (d : ℕ) (l : List ℕ) → Parted d l 0 0
-parted-none d l = record { most = le_refl 0; zeros = λ k h. absurd (not-suc-le-zero h); ones = λ k b h. absurd (not-suc-le-zero h) }
 
 -- the word at i goes to r, where the part of the ones begins, and what stood there to i: if the word's bit is 0, the part
 -- begins one place further up

@@ -12,15 +12,13 @@ use Rattle.row_format.specs.Lists.Laws.{by-test, or-false-left, or-false-right}
 use Rattle.row_format.specs.Row as row
 use Rattle.row_format.specs.Reading.{Reading, item, fault}
 use Rattle.row_format.proofs.Theorems.Numbers.{FaultIn, read_item-in}
-use Rattle.row_item.specs.declared.Item.{Item}
 use Rattle.row_item.specs.declared.Progress.{Progress}
 use Rattle.row_item.specs.Coded.{coded, progress, Followed, row_state}
-use Rattle.row_unpacker.specs.declared.item.Read.{Read}
-use Rattle.row_unpacker.specs.declared.item.Read.TheVariants.{Got, Refused}
-use Rattle.row_unpacker.specs.Item.{answered, item_at}
+use Rattle.std.specs.Prelude.{Result, Ok, Err}
+use Rattle.row_unpacker.specs.declared.item.Got.{Got}
+use Rattle.row_unpacker.specs.Item.{Stopped, stopped, answered, item_at}
 use Rattle.row_reader.specs.declared.step.Place.{Place}
-use Rattle.row_reader.specs.declared.step.ItemRead.{ItemRead}
-use Rattle.row_reader.specs.Step.{impossible, opening_number, place_number, refused_at, given, reading_at, item_read}
+use Rattle.row_reader.specs.Step.{ItemRead, impossible, opening_number, place_number, refused_at, given, reading_at, item_read}
 
 -- ---- a place that a reading can have
 pub record Possible (pl : Place) : Type 0 where
@@ -150,17 +148,17 @@ module _ (tb wb : List ℕ) (pl : Place) where
   abbrev moved : Progress → ℕ → Place
   moved q next = record { at = next; count = pl.count + 1; progress = q; opening = pl.opening }
 
-  got : (rd : Reading) (q : Progress) (i : Item) (pixel next : ℕ) → Got pixel i next ≡ answered state pl.at rd
-      → pl.progress ≡ progress state → Followed pl.progress i pixel q
-      → ◌≡◌ {A = ItemRead} (record { number = 0; item = i; pixel = pixel; place = moved q next }) (given pl state rd)
-  got (item j u) q i pixel next e s f =
-      let one : i ≡ coded j = cc in
-      let two : pixel ≡ row.pixel_of state j = cc in
-      let three : next ≡ pl.at + u = cc in
+  got : (rd : Reading) (q : Progress) (x : Got) → Ok x ≡ answered state pl.at rd
+      → pl.progress ≡ progress state → Followed pl.progress x.item x.pixel q
+      → ◌≡◌ {A = ItemRead} (record { number = 0; item = x.item; pixel = x.pixel; place = moved q x.next }) (given pl state rd)
+  got (item j u) q x e s f =
+      let one : x.item ≡ coded j = cc in
+      let two : x.pixel ≡ row.pixel_of state j = cc in
+      let three : x.next ≡ pl.at + u = cc in
       rw (one, two, three, f.next state j s one two)
-  got (fault x u) q i pixel next e s f = absurd (let z : ◌≡◌ {A = ℕ} 0 1 = cc in omega arith)
+  got (fault k u) q x e s f = absurd (let z : ◌≡◌ {A = ℕ} 0 1 = cc in omega arith)
 
-  refuses : (rd : Reading) (number place : ℕ) → Refused number place ≡ answered state pl.at rd
+  refuses : (rd : Reading) (number place : ℕ) → Err (stopped number place) ≡ answered state pl.at rd
       → refused_at number pl ≡ given pl state rd
   refuses (item j u) number place e = absurd (let z : ◌≡◌ {A = ℕ} 0 1 = cc in omega arith)
   refuses (fault x u) number place e =
@@ -173,15 +171,15 @@ module _ (tb wb : List ℕ) (pl : Place) where
     step-read = rw none
 
     -- r is the item reader's answer at this place
-    module _ (r : Read) (is : r ≡ item_at tb wb pl.at pl.progress) where
-      pub step-got : (q : Progress) (i : Item) (pixel next : ℕ) → r ≡ Got pixel i next → Followed pl.progress i pixel q
-          → ◌≡◌ {A = ItemRead} (record { number = 0; item = i; pixel = pixel; place = moved q next }) (item_read tb wb pl)
+    module _ (r : Result Got Stopped) (is : r ≡ item_at tb wb pl.at pl.progress) where
+      pub step-got : (q : Progress) (x : Got) → r ≡ Ok x → Followed pl.progress x.item x.pixel q
+          → ◌≡◌ {A = ItemRead} (record { number = 0; item = x.item; pixel = x.pixel; place = moved q x.next }) (item_read tb wb pl)
       unfolding item_at
-      step-got q i pixel next e f =
+      step-got q x e f =
           let settled = (place_number-stands pl none).possible.settled in
-          got (reading_at tb wb pl) q i pixel next (sym e ∙ is) settled f ∙ step-read
+          got (reading_at tb wb pl) q x (sym e ∙ is) settled f ∙ step-read
 
-      pub step-faulty : (number place : ℕ) → r ≡ Refused number place → refused_at number pl ≡ item_read tb wb pl
+      pub step-faulty : (number place : ℕ) → r ≡ Err (stopped number place) → refused_at number pl ≡ item_read tb wb pl
       unfolding item_at
       step-faulty number place e = refuses (reading_at tb wb pl) number place (sym e ∙ is) ∙ step-read
 

@@ -6,8 +6,7 @@ use Rattle.std.proofs.Math.Path.{ap}
 use Rattle.std.proofs.lemmas.Bool.{eqb-false}
 use Rattle.row_format.specs.Lists.Laws.{by-test}
 use Rattle.row_reader.specs.declared.step.Place.{Place}
-use Rattle.row_reader.specs.declared.step.ItemRead.{ItemRead}
-use Rattle.row_reader.specs.Step.{refused_at, item_read}
+use Rattle.row_reader.specs.Step.{ItemRead, refused_at, item_read}
 use Rattle.row_reader.specs.Walk.{Walk, gave, ended, onto, walk}
 use Rattle.row_reader.specs.Walk.Laws.{stays}
 

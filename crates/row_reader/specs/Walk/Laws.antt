@@ -23,8 +23,7 @@ use Rattle.row_item.specs.declared.Progress.{Progress}
 use Rattle.row_item.specs.Coded.{progress, row_state}
 use Rattle.row_item.specs.Coded.Laws.{row_state-progress}
 use Rattle.row_reader.specs.declared.step.Place.{Place}
-use Rattle.row_reader.specs.declared.step.ItemRead.{ItemRead}
-use Rattle.row_reader.specs.Step.{start_place, impossible, place_number, refused_at, place_after, given, reading_at, item_read}
+use Rattle.row_reader.specs.Step.{ItemRead, start_place, impossible, place_number, refused_at, place_after, given, reading_at, item_read}
 use Rattle.row_reader.specs.Step.Laws.{impossible-false, place_number-none, ItemPlace, place_number-stands, step-read}
 use Rattle.row_reader.specs.Walk.{Walk, gave, ended, onto, walk}
 

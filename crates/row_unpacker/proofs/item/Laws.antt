@@ -25,12 +25,10 @@ use Rattle.row_item.specs.Coded.{row_state}
 use Rattle.row_unpacker.specs.View.{Seen}
 use Rattle.row_unpacker.proofs.view.Laws.{low-window}
 use Rattle.row_unpacker.specs.Search.{hit, Finds, CutShort}
-use Rattle.row_unpacker.specs.Item.{answered, item_at, found_at, entry_at, HeightAt}
+use Rattle.row_unpacker.specs.Item.{Stopped, stopped, answered, item_at, found_at, entry_at, HeightAt}
 use Rattle.row_unpacker.specs.declared.view.View.{View}
-use Rattle.row_unpacker.specs.declared.search.Hit.{Hit}
-use Rattle.row_unpacker.specs.declared.search.Hit.TheVariants.{At, Nowhere}
-use Rattle.row_unpacker.specs.declared.item.Read.{Read}
-use Rattle.row_unpacker.specs.declared.item.Read.TheVariants.{Got, Refused}
+use Rattle.std.specs.Prelude.{Option, Some, None, Result, Ok, Err}
+use Rattle.row_unpacker.specs.declared.item.Got.{Got}
 
 -- ---- an escape codeword of n bits at a place of the stream l: what is seen after it is the rest's bits from n on
 module _ (l : List ℕ) (at n : ℕ) (v : View) (seen : Seen (drop (at + n) l) v) where
@@ -43,7 +41,7 @@ module _ (l : List ℕ) (at n : ℕ) (v : View) (seen : Seen (drop (at + n) l) v
   enough : 12 ≤ v.left → n + 12 ≤ length (drop at l)
   enough h = omega (arith, after-codeword.left, length-drop n (drop at l))
 
-  pub height-short : v.left < 12 → HeightAt (drop at l) at n (Refused 6 at)
+  pub height-short : v.left < 12 → HeightAt (drop at l) at n (Err (stopped 6 at))
   unfolding raw_height
   height-short h = record {
     is = λ s.
@@ -51,7 +49,7 @@ module _ (l : List ℕ) (at n : ℕ) (v : View) (seen : Seen (drop (at + n) l) v
   }
 
   pub height-got : 12 ≤ v.left → v.window % 4096 < 4094
-      → HeightAt (drop at l) at n (Got (v.window % 4096) (Escape (v.window % 4096)) (at + n + 12))
+      → HeightAt (drop at l) at n (Ok (record { pixel = v.window % 4096; item = Escape (v.window % 4096); next = at + n + 12 }))
   unfolding raw_height
   height-got h small = record {
     is = λ s.
@@ -59,7 +57,7 @@ module _ (l : List ℕ) (at n : ℕ) (v : View) (seen : Seen (drop (at + n) l) v
         rw (le-ltb (length (drop at l)) (n + 12) (enough h), height-is, lt-ltb (v.window % 4096) 4094 small, next);
   }
 
-  pub height-bad : 12 ≤ v.left → 4094 ≤ v.window % 4096 → HeightAt (drop at l) at n (Refused 9 at)
+  pub height-bad : 12 ≤ v.left → 4094 ≤ v.window % 4096 → HeightAt (drop at l) at n (Err (stopped 9 at))
   unfolding raw_height
   height-bad h large = record {
     is = λ s.
@@ -68,7 +66,7 @@ module _ (l : List ℕ) (at n : ℕ) (v : View) (seen : Seen (drop (at + n) l) v
 
 -- ---- an entry's difference
 module _ (t : List ℕ) (s : State) (at i n low prev : ℕ) (low-is : low ≡ low_limit t) (prev-is : prev ≡ previous s) where
-  pub entry-below : prev + (i + low) < 4093 → Refused 8 at ≡ entry_at t s at i n
+  pub entry-below : prev + (i + low) < 4093 → Err (stopped 8 at) ≡ entry_at t s at i n
   unfolding entry_at
   entry-below h = rw (lt-leb 4093 (previous s + (i + low_limit t)) (rw (← prev-is, ← low-is) h))
 
@@ -76,14 +74,14 @@ module _ (t : List ℕ) (s : State) (at i n low prev : ℕ) (low-is : low ≡ lo
     above : 4093 ≤ previous s + (i + low_limit t)
     above = rw (← prev-is, ← low-is) least
 
-    pub entry-above : 8186 < prev + (i + low) → Refused 8 at ≡ entry_at t s at i n
+    pub entry-above : 8186 < prev + (i + low) → Err (stopped 8 at) ≡ entry_at t s at i n
     unfolding entry_at
     entry-above h =
         rw (le-leb 4093 (previous s + (i + low_limit t)) above, lt-leb (previous s + (i + low_limit t)) 8186 (rw (← prev-is, ← low-is) h))
 
     -- the code holds the signed difference z
     pub entry-got : prev + (i + low) ≤ 8186 → (z : ℤ) → z ≡ signed_difference (i + low)
-        → Got (prev + (i + low) - 4093) (Difference (to_z w32 (of_z w32 z))) (at + n) ≡ entry_at t s at i n
+        → Ok (record { pixel = prev + (i + low) - 4093; item = Difference (to_z w32 (of_z w32 z)); next = at + n }) ≡ entry_at t s at i n
     unfolding entry_at
     entry-got h z e =
         let kept : to_z w32 (of_z w32 z) ≡ signed_difference (i + low) = to_z-of_z {w = w32} (rw e (signed-fits (i + low) (omega arith))) ∙ e in
@@ -103,15 +101,15 @@ module _ (t : List ℕ) (s : State) (r : List ℕ) (at j w : ℕ) (is : w ≡ ge
       ap (λ (n : ℕ). answered s at (matched t s r k n)) bits_is
       ∙ ap (λ (i : ℕ). answered s at (matched t s r i (length (codeword_at t j)))) (sym e)
 
-  pub found-escape : j ≡ 0 → (x : Read) → HeightAt r at (w % 32) x → x ≡ found_at t s r at j
+  pub found-escape : j ≡ 0 → (x : Result Got Stopped) → HeightAt r at (w % 32) x → x ≡ found_at t s r at j
   unfolding matched
   found-escape e x h = h.is s ∙ by_place 0 e
 
-  pub found-bad-pixel : j ≡ 1 → Got 4095 BadPixel (at + w % 32) ≡ found_at t s r at j
+  pub found-bad-pixel : j ≡ 1 → Ok (record { pixel = 4095; item = BadPixel; next = at + w % 32 }) ≡ found_at t s r at j
   unfolding matched
   found-bad-pixel e = by_place 1 e
 
-  pub found-bad-bias : j ≡ 2 → Got 4094 BadBias (at + w % 32) ≡ found_at t s r at j
+  pub found-bad-bias : j ≡ 2 → Ok (record { pixel = 4094; item = BadBias; next = at + w % 32 }) ≡ found_at t s r at j
   unfolding matched
   found-bad-bias e = by_place 2 e
 
@@ -120,18 +118,18 @@ module _ (t : List ℕ) (s : State) (r : List ℕ) (at j w : ℕ) (is : w ≡ ge
   found-entry h = by_place (suc (suc (suc (j - 3)))) (omega arith)
 
 -- ---- the whole item, from what was found
-hit-found : (j : ℕ) (m : Match) → At j ≡ hit m → m ≡ found j
+hit-found : (j : ℕ) (m : Match) → Some j ≡ hit m → m ≡ found j
 hit-found j none e = cc
 hit-found j (found i) e = cc
 
-hit-none : (m : Match) → Nowhere ≡ hit m → m ≡ none
+hit-none : (m : Match) → None ≡ hit m → m ≡ none
 hit-none none e = refl
 hit-none (found i) e = cc
 
 module _
     (tb wb : List ℕ) (at : ℕ) (p : Progress) (v : View) (seen : Seen (drop at (stream wb)) v)
-    (h : Hit) (finds : Finds (words_of tb) v h) where
-  module _ (j : ℕ) (e : h ≡ At j) where
+    (h : Option ℕ) (finds : Finds (words_of tb) v h) where
+  module _ (j : ℕ) (e : h ≡ Some j) where
     found-is : find (codewords (words_of tb)) (drop at (stream wb)) ≡ found j
     found-is = hit-found j _ (sym e ∙ finds.is (drop at (stream wb)) seen)
 
@@ -141,19 +139,19 @@ module _
         subst (Found (codewords (words_of tb)) (drop at (stream wb))) found-is (find-found (codewords (words_of tb)) (drop at (stream wb))) in
         omega (arith, q.0, length-codewords (words_of tb), length-words tb)
 
-    pub read_found : (x : Read) → x ≡ found_at (words_of tb) (row_state p) (drop at (stream wb)) at j → x ≡ item_at tb wb at p
+    pub read_found : (x : Result Got Stopped) → x ≡ found_at (words_of tb) (row_state p) (drop at (stream wb)) at j → x ≡ item_at tb wb at p
     unfolding item_at found_at read_item
     read_found x q = q ∙ rw found-is
 
-  module _ (e : h ≡ Nowhere) (b : Bool) (cut : CutShort (words_of tb) v b) where
+  module _ (e : h ≡ None) (b : Bool) (cut : CutShort (words_of tb) v b) where
     none_is : find (codewords (words_of tb)) (drop at (stream wb)) ≡ none
     none_is = hit-none _ (sym e ∙ finds.is (drop at (stream wb)) seen)
 
-    pub read_short : b ≡ true → Refused 6 at ≡ item_at tb wb at p
+    pub read_short : b ≡ true → Err (stopped 6 at) ≡ item_at tb wb at p
     unfolding item_at read_item unmatched
     read_short d = rw (none_is, sym (cut.is (drop at (stream wb)) seen) ∙ d)
 
-    pub read-unknown : b ≡ false → Refused 7 at ≡ item_at tb wb at p
+    pub read-unknown : b ≡ false → Err (stopped 7 at) ≡ item_at tb wb at p
     unfolding item_at read_item unmatched
     read-unknown d = rw (none_is, sym (cut.is (drop at (stream wb)) seen) ∙ d)
 

@@ -17,15 +17,14 @@ use Rattle.row_format.specs.Row as row
 use Rattle.row_format.specs.Reading.{bits_of_reading, Reading, item, fault, Run, done, stop, prepend, follow, read_by, read_item}
 use Rattle.row_format.proofs.Theorems.Bounds.{read_item-uses}
 use Rattle.row_pixels.specs.Laws.{bytes-cons}
-use Rattle.row_item.specs.declared.Item.{Item}
 use Rattle.row_item.specs.declared.Progress.{Progress}
 use Rattle.row_item.specs.Coded.{coded, progress, Followed, row_state}
 use Rattle.row_item.specs.Coded.Laws.{row_state-progress}
-use Rattle.row_unpacker.specs.Item.{answered}
+use Rattle.row_unpacker.specs.Item.{stopped, numbered, answered}
 use Rattle.row_unpacker.specs.Row.{RowReached, whole, halted, row_reached, RowIs}
-use Rattle.row_unpacker.specs.declared.item.Read.{Read}
-use Rattle.row_unpacker.specs.declared.item.Read.TheVariants.{Got, Refused}
-use Rattle.row_unpacker.specs.declared.row.RowRead.TheVariants as row_read
+use Rattle.std.specs.Prelude.{Result, Ok, Err}
+use Rattle.row_unpacker.specs.declared.item.Got.{Got}
+use Rattle.row_unpacker.specs.declared.item.Fault.{Fault}
 
 -- what a reading reaches after bytes and bits that came before
 abbrev pub on : List ℕ → ℕ → RowReached → RowReached
@@ -93,7 +92,7 @@ module _
     from k y = on (take (2 * i) out) at (row_reached k (row_state p) y)
 
     -- all items were read
-    pub partly-all : n ≤ i → RowIs n out (row_read.Done at) (row_reached n fresh (read_by g fresh n r))
+    pub partly-all : n ≤ i → RowIs n out (Ok at) (row_reached n fresh (read_by g fresh n r))
     unfolding from
     partly-all h =
         let none : n - i ≡ 0 = omega arith in
@@ -103,9 +102,9 @@ module _
         ∙ ap (λ (k : ℕ). from k (read_by g (row_state p) k (drop at r))) none
         ∙ ended (take (2 * i) out) at (row_state p) (drop at r)
         ∙ ap (λ (k : ℕ). whole (take (2 * k) out) at) same in
-        subst⁻¹ (RowIs n out (row_read.Done at)) e (refl, refl)
+        subst⁻¹ (RowIs n out (Ok at)) e (refl, refl)
 
-    module _ (h : i < n) (x : Read) (is : x ≡ answered (row_state p) at (g (row_state p) (drop at r))) where
+    module _ (h : i < n) (x : Result Got Fault) (is : numbered x ≡ answered (row_state p) at (g (row_state p) (drop at r))) where
       rest_of : row.Item → ℕ → Run
       rest_of j u = read_by g (after (row_state p) j) (n - (i + 1)) (drop u (drop at r))
 
@@ -120,50 +119,50 @@ module _
           ∙ ap (λ (z : Reading). from (suc (n - (i + 1))) (follow z rest_of)) e
 
       -- the next item is refused
-      pub partly-stop : (number place : ℕ) (out' : List ℕ) → x ≡ Refused number place
-          → RowIs n out' (row_read.Refused number place) (row_reached n fresh (read_by g fresh n r))
+      pub partly-stop : {f : Fault} {y : Result ℕ Fault} (out' : List ℕ) → x ≡ Err f → y ≡ Err f
+          → RowIs n out' y (row_reached n fresh (read_by g fresh n r))
       unfolding from
-      partly-stop number place out' d = go (g (row_state p) (drop at r)) refl
+      partly-stop {f} out' d same_fault = rw same_fault (go (g (row_state p) (drop at r)) refl)
         where
           go : (y : Reading) → g (row_state p) (drop at r) ≡ y
-              → RowIs n out' (row_read.Refused number place) (row_reached n fresh (read_by g fresh n r))
+              → RowIs n out' (Err f) (row_reached n fresh (read_by g fresh n r))
           go (item j u) e =
-              let other : Refused number place ≡ answered (row_state p) at (item j u) = sym d ∙ is ∙ ap (answered (row_state p) at) e in
+              let other : numbered {A = Got} (Err f) ≡ answered (row_state p) at (item j u) =
+              ap numbered (sym d) ∙ is ∙ ap (answered (row_state p) at) e in
               absurd (let z : ◌≡◌ {A = ℕ} 0 1 = cc in omega arith)
           go (fault k u) e =
-              let same : Refused number place ≡ Refused k at = sym d ∙ is ∙ ap (answered (row_state p) at) e in
-              subst⁻¹ (RowIs n out' (row_read.Refused number place)) (by_next (fault k u) e) (cc (add-zero at))
+              let same : numbered {A = Got} (Err f) ≡ Err (stopped k at) = ap numbered (sym d) ∙ is ∙ ap (answered (row_state p) at) e in
+              subst⁻¹ (RowIs n out' (Err f)) (by_next (fault k u) e) (cc (add-zero at))
 
       -- the next item is there
-      pub partly_more : (what : Item) (pixel next : ℕ) (p' : Progress) (out' : List ℕ) → x ≡ Got pixel what next → Followed p what pixel p'
-          → out' ≡ overwritten out (2 * i) (bytes_of 2 (digits 16 pixel)) → Partly g n r size out' next p' (i + 1)
+      pub partly_more : (x' : Got) (p' : Progress) (out' : List ℕ) → x ≡ Ok x' → Followed p x'.item x'.pixel p'
+          → out' ≡ overwritten out (2 * i) (bytes_of 2 (digits 16 x'.pixel)) → Partly g n r size out' x'.next p' (i + 1)
       unfolding from rest_of
-      partly_more what pixel next p' out' d f written =
-          subst⁻¹ (λ (l : List ℕ). Partly g n r size l next p' (i + 1)) written
+      partly_more x' p' out' d f written =
+          subst⁻¹ (λ (l : List ℕ). Partly g n r size l x'.next p' (i + 1)) written
           (go (g (row_state p) (drop at r)) refl (most (row_state p) (drop at r)))
         where
-          two : length (bytes_of 2 (digits 16 pixel)) ≡ 2
-          two = length_cut 8 2 (digits 16 pixel)
+          two : length (bytes_of 2 (digits 16 x'.pixel)) ≡ 2
+          two = length_cut 8 2 (digits 16 x'.pixel)
 
-          front : take (2 * (i + 1)) (overwritten out (2 * i) (bytes_of 2 (digits 16 pixel)))
-              ≡ take (2 * i) out ++ bytes_of 2 (digits 16 pixel)
+          front : take (2 * (i + 1)) (overwritten out (2 * i) (bytes_of 2 (digits 16 x'.pixel)))
+              ≡ take (2 * i) out ++ bytes_of 2 (digits 16 x'.pixel)
           front =
-              let e : 2 * (i + 1) ≡ 2 * i + length (bytes_of 2 (digits 16 pixel)) = omega (arith, two) in
-              rw e (take-overwritten out (2 * i) (bytes_of 2 (digits 16 pixel)) (omega (arith, q.kept)))
+              let e : 2 * (i + 1) ≡ 2 * i + length (bytes_of 2 (digits 16 x'.pixel)) = omega (arith, two) in
+              rw e (take-overwritten out (2 * i) (bytes_of 2 (digits 16 x'.pixel)) (omega (arith, q.kept)))
 
           go : (y : Reading) → g (row_state p) (drop at r) ≡ y → bits_of_reading y ≤ 43
-              → Partly g n r size (overwritten out (2 * i) (bytes_of 2 (digits 16 pixel))) next p' (i + 1)
+              → Partly g n r size (overwritten out (2 * i) (bytes_of 2 (digits 16 x'.pixel))) x'.next p' (i + 1)
           go (item j u) e few =
-              let same : Got pixel what next ≡ Got (pixel_of (row_state p) j) (coded j) (at + u) =
-              sym d ∙ is ∙ ap (answered (row_state p) at) e in
-              let what-is : what ≡ coded j = cc in
-              let pixel-is : pixel ≡ pixel_of (row_state p) j = cc in
-              let next-is : next ≡ at + u = cc in
+              let same : numbered (Ok x') ≡ answered (row_state p) at (item j u) = ap numbered (sym d) ∙ is ∙ ap (answered (row_state p) at) e in
+              let what-is : x'.item ≡ coded j = cc in
+              let pixel-is : x'.pixel ≡ pixel_of (row_state p) j = cc in
+              let next-is : x'.next ≡ at + u = cc in
               let p-is : p' ≡ progress (after (row_state p) j) = f.next (row_state p) j q.state what-is pixel-is in
               let s-is : row_state p' ≡ after (row_state p) j = ap row_state p-is ∙ row_state-progress (after (row_state p) j) in
               record {
                 within = omega arith;
-                kept = length-overwritten out (2 * i) (bytes_of 2 (digits 16 pixel)) (omega (arith, two, q.kept)) ∙ q.kept;
+                kept = length-overwritten out (2 * i) (bytes_of 2 (digits 16 x'.pixel)) (omega (arith, two, q.kept)) ∙ q.kept;
                 place = omega (arith, q.place);
                 state = p-is ∙ ap progress (sym s-is);
                 so_far_lem =
@@ -174,5 +173,5 @@ module _
                     ∙ rw (front, ← pixel-is, drop-drop u at r, s-is, next-is);
               }
           go (fault k u) e few =
-              let other : Got pixel what next ≡ Refused k at = sym d ∙ is ∙ ap (answered (row_state p) at) e in
+              let other : numbered (Ok x') ≡ answered (row_state p) at (fault k u) = ap numbered (sym d) ∙ is ∙ ap (answered (row_state p) at) e in
               absurd (let z : ◌≡◌ {A = ℕ} 0 1 = cc in omega arith)

@@ -22,7 +22,7 @@ use Rattle.row_unpacker.specs.View.{Seen}
 use Rattle.row_unpacker.proofs.view.Laws.{low-window}
 use Rattle.row_unpacker.specs.Search.{hit, Finds, CutShort, begun_by, Tested}
 use Rattle.row_unpacker.specs.declared.view.View.{View}
-use Rattle.row_unpacker.specs.declared.search.Hit.TheVariants.{At, Nowhere}
+use Rattle.std.specs.Prelude.{Some, None}
 
 -- no codeword in the words of t from word 3 to word i passes the test
 pub record Passed (f : List ℕ → List ℕ → Bool) (t : List ℕ) (v : View) (i : ℕ) : Type 0 where
@@ -144,7 +144,7 @@ module _ (t : List ℕ) (v : View) where
   place i h = let e : 3 + (i - 3) ≡ i = omega arith in get_d-codewords t (i - 3) ∙ ap (λ (k : ℕ). codeword (get_or t k 0)) e
 
   module _ (i w : ℕ) (h : i < length t) (is : w ≡ get_or t i 0) where
-    pub finds-here : Passed begun_by t v i → {b : Bool} → Tested begun_by w v b → b ≡ true → Finds t v (At (i - 3))
+    pub finds-here : Passed begun_by t v i → {b : Bool} → Tested begun_by w v b → b ≡ true → Finds t v (Some (i - 3))
     finds-here p b yes' = record {
       is = λ r seen.
           let least : 3 ≤ i = p.least in
@@ -163,7 +163,7 @@ module _ (t : List ℕ) (v : View) where
           (rw (place i least, ← is) (sym (b.is r seen) ∙ yes')));
     }
 
-  pub finds-nowhere : (i : ℕ) → Passed begun_by t v i → length t ≤ i → Finds t v Nowhere
+  pub finds-nowhere : (i : ℕ) → Passed begun_by t v i → length t ≤ i → Finds t v None
   finds-nowhere i p h = record { is = λ r seen. sym (ap hit (find_none (codewords t) r (all-passed begun_by t v i p h r seen))) }
 
   pub short-nowhere : (i : ℕ) → Passed begins t v i → length t ≤ i → CutShort t v false
@@ -178,7 +178,7 @@ module _ (t : List ℕ) (v : View) where
 
 -- ---- under an accepted table the codeword that begins the rest is the only one, however it was come by
 pub finds-only : (tb : List ℕ) (v : View) → table_number tb ≡ 0 → (i w : ℕ) → 3 ≤ i → i < length tb / 4 → w ≡ get_or (words_of tb) i 0
-    → {b : Bool} → Tested begun_by w v b → b ≡ true → Finds (words_of tb) v (At (i - 3))
+    → {b : Bool} → Tested begun_by w v b → b ≡ true → Finds (words_of tb) v (Some (i - 3))
 finds-only tb v ok i w least h is b yes' = record {
   is = λ r seen.
       let t = words_of tb in

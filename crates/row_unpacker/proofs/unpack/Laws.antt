@@ -8,19 +8,18 @@ use mathlib.Core.List.{List, [], ◌∷◌, ◌++◌}
 use lib.ListN.{length, take, drop}
 use lib.Dec.{eqb}
 use borrow.Author.Tests.{ne_eqb, lt-ltb, le-ltb}
-use Rattle.answer.specs.declared.Answer.{Answer}
-use Rattle.answer.specs.Outcome.{Outcome, outcome, lent}
-use Rattle.answer.specs.Outcome.Laws.{unless-first}
+use Rattle.answer.specs.Outcome.{Outcome, outcome, lent, answer_of}
+use Rattle.answer.specs.Outcome.Laws.{or_else-zero-left, or_else-zero-right, less_number-zero, given-first, unless-refused}
 use Rattle.bitstream.specs.Bits.{num_of, flat, words_of, stream, words_for, Below}
 use Rattle.bitstream.specs.Bits.Laws.{below-head, below-tail, below-take, length_cut}
 use Rattle.row_format.specs.declared.RowUnpacked.{RowUnpacked}
 use Rattle.row_format.specs.Lists.{any}
 use Rattle.row_format.specs.Place.Laws.{place_shown-zero}
 use Rattle.row_format.specs.Table.{table_number}
-use Rattle.row_format.specs.Row.{fresh, pixels_of}
-use Rattle.row_format.specs.Row.Laws.{length-pixels_of}
-use Rattle.row_format.specs.Reading.{Run, done, stop, bits_of_run, read_item, read_items, stray, without_stray, first_number, row_reading}
-use Rattle.row_format.proofs.Reading.Laws.{Counted, read_by-counted, first_number-readable, lent-room}
+use Rattle.row_format.specs.Row.{fresh, pixels_of, too_many}
+use Rattle.row_format.specs.Row.Laws.{too_many-zero, length-pixels_of}
+use Rattle.row_format.specs.Reading.{Run, done, stop, bits_of_run, read_item, read_items, stray, without_stray, first_number, row_reading, Readable}
+use Rattle.row_format.proofs.Reading.Laws.{Counted, read_by-counted}
 use Rattle.row_format.specs.Calls.{checked, row_outcome, unpacked}
 use Rattle.row_format.proofs.Calls.Laws.{answer-number}
 use Rattle.row_format.proofs.Theorems.Bounds.{read_items-uses}
@@ -30,8 +29,9 @@ use Rattle.row_unpacker.proofs.view.Laws.{low-window}
 use Rattle.row_unpacker.specs.Row.{row_reached, RowIs}
 use Rattle.row_unpacker.proofs.row.Laws.{max_item_bits-any}
 use Rattle.row_unpacker.specs.declared.view.View.{View}
-use Rattle.row_unpacker.specs.declared.row.RowRead.{RowRead}
-use Rattle.row_unpacker.specs.declared.row.RowRead.TheVariants.{Done, Refused}
+use Rattle.std.specs.Prelude.{Result, Ok, Err}
+use Rattle.row_unpacker.specs.declared.item.Fault.{Fault}
+use Rattle.row_unpacker.specs.Item.{stopped, numbered}
 
 -- ---- unused bits of the last used word
 -- some bit is set exactly where the number of the bits is not 0
@@ -70,8 +70,8 @@ pub answers : {a b : RowUnpacked} (m : List ℕ) → a ≡ b → outcome a m ≡
 answers m is = ap (λ (x : RowUnpacked). outcome x m) is
 
 -- ---- the ways out after a row was read: x is the code's answer, out the row's memory
-module _ (r : List ℕ) (n : ℕ) (m out : List ℕ) (x : RowRead) where
-  module _ (used : ℕ) (e : x ≡ Done used) where
+module _ (r : List ℕ) (n : ℕ) (m out : List ℕ) (x : Result ℕ Fault) where
+  module _ (used : ℕ) (e : x ≡ Ok used) where
     pub row-stray : (run : Run) → RowIs n out x (row_reached n fresh run) → true ≡ stray used r
         → outcome (row_stopped 10 used) m ≡ row_outcome m (without_stray r run)
     row-stray (done is u) h b = let same : u ≡ used = cc h.0 in rw (same, ← b)
@@ -98,17 +98,18 @@ module _ (r : List ℕ) (n : ℕ) (m out : List ℕ) (x : RowRead) where
     row-used t h = omega (arith, used-by (read_items t n r) h, read_items-uses t n r, mul-le-mul_left n (max_item_bits-any t))
 
   -- refused: the run has stopped by this number, at this place
-  module _ (number place : ℕ) (e : x ≡ Refused number place) where
-    stopped : (run : Run) → RowIs n out x (row_reached n fresh run) → run ≡ stop number place (bits_of_run run)
-    stopped (done is u) h = absurd (let z : ◌≡◌ {A = ℕ} 0 1 = cc h.0 in omega arith)
-    stopped (stop k at u) h =
+  module _ (number place : ℕ) (e : numbered x ≡ Err (stopped number place)) where
+    stopped_by : (run : Run) → RowIs n out x (row_reached n fresh run) → run ≡ stop number place (bits_of_run run)
+    stopped_by (done is u) h = absurd (let z : ◌≡◌ {A = ℕ} 0 1 = cc h.0 in omega arith)
+    stopped_by (stop k at u) h =
+        let same = sym e ∙ h in
         let number_same : k ≡ number = cc in
         let place_same : at ≡ place = cc in
         rw (number_same, place_same)
 
     module _ (t : List ℕ) (h : RowIs n out x (row_reached n fresh (read_items t n r))) where
       stops : read_items t n r ≡ stop number place (bits_of_run (read_items t n r))
-      stops = stopped (read_items t n r) h
+      stops = stopped_by (read_items t n r) h
 
       pub row-refused : outcome (row_stopped number place) m ≡ row_outcome m (without_stray r (read_items t n r))
       row-refused =
@@ -120,30 +121,52 @@ module _ (r : List ℕ) (n : ℕ) (m out : List ℕ) (x : RowRead) where
           let before = read_items-place t n r number place (bits_of_run (read_items t n r)) stops in
           omega (arith, before, read_items-uses t n r, mul-le-mul_left n (max_item_bits-any t))
 
-module _ (tb wb : List ℕ) (n : ℕ) (m : List ℕ) (a : Answer) (is : a ≡ checked tb) where
-  pub unpacked-table : (a.number ≡ 0 → ⊥) → outcome (row_stopped a.number 0) m ≡ unpacked tb wb n m
-  unfolding unpacked row_reading first_number
-  unpacked-table bad =
-      let e : a.number ≡ table_number tb = answer-number tb is in
-      ap (λ (k : ℕ). outcome (row_stopped k 0) m) e
-      ∙ ap (λ (p : ℕ). outcome (row_stopped (table_number tb) p) m) (sym (place_shown-zero (table_number tb)))
-      ∙ sym (ap (row_outcome m) (unless-first (table_number tb) _ (λ k. stop k 0 0) _ (λ z. bad (e ∙ z))))
+-- ---- what refuses before the first item, with so much room
+pub accepted : (tb : List ℕ) {most : ℕ} → answer_of 0 most ≡ checked tb → table_number tb ≡ 0
+accepted tb is = sym (answer-number tb is)
 
-  module _ (ok : a.number ≡ 0) where
-    pub accepted-table : table_number tb ≡ 0
-    accepted-table = sym (answer-number tb is) ∙ ok
+module _ (tb : List ℕ) (n room : ℕ) (table : table_number tb ≡ 0) where
+  pub judged-many : 4096 < n → 11 ≡ first_number (lent room) tb n
+  unfolding first_number
+  judged-many h = rw (table, lt-ltb 4096 n h)
 
-    pub unpacked-many : 4096 < n → outcome (row_stopped 11 0) m ≡ unpacked tb wb n m
-    unfolding unpacked row_reading first_number
-    unpacked-many h = rw (accepted-table, lt-ltb 4096 n h)
+  module _ (few : n ≤ 4096) where
+    pub judged-full : room / 2 < n → 5 ≡ first_number (lent room) tb n
+    unfolding first_number
+    judged-full h = rw (table, le-ltb 4096 n few, lt-ltb room (2 * n) (omega arith))
 
-    pub unpacked-full : n ≤ 4096 → length m / 2 < n → outcome (row_stopped 5 0) m ≡ unpacked tb wb n m
-    unfolding unpacked row_reading first_number
-    unpacked-full h g = rw (accepted-table, le-ltb 4096 n h, lt-ltb (length m) (2 * n) (omega arith))
+    pub judged-none : n ≤ room / 2 → 0 ≡ first_number (lent room) tb n
+    unfolding first_number
+    judged-none h = rw (table, le-ltb 4096 n few, le-ltb room (2 * n) (omega arith))
 
-    pub unpacked-row : n ≤ 4096 → n ≤ length m / 2 → (o : Outcome RowUnpacked)
+pub judged-table : (tb : List ℕ) (n room : ℕ) {k : ℕ} → k ≡ table_number tb → (k ≡ 0 → ⊥) → k ≡ first_number (lent room) tb n
+unfolding first_number
+judged-table tb n room e some = given-first (table_number tb) _ e some
+
+-- ---- the whole call
+module _ (tb wb : List ℕ) (n : ℕ) (m : List ℕ) {k : ℕ} (is : k ≡ first_number (lent (length m)) tb n) where
+  pub unpacked-refused : (k ≡ 0 → ⊥) → outcome (row_stopped k 0) m ≡ unpacked tb wb n m
+  unfolding unpacked row_reading
+  unpacked-refused some =
+      let run : row_reading (lent (length m)) tb n wb ≡ stop k 0 0 = rw (← is) (unless-refused k (λ e. stop e 0 0) _ some) in
+      ap (λ (p : ℕ). outcome (row_stopped k p) m) (sym (place_shown-zero k)) ∙ sym (ap (row_outcome m) run)
+
+  module _ (none : k ≡ 0) where
+    pub readable : Readable (lent (length m)) tb n
+    unfolding first_number
+    readable =
+        let all = sym is ∙ none in
+        let rest = or_else-zero-right (table_number tb) _ all in
+        record {
+          table = or_else-zero-left (table_number tb) _ all;
+          few = too_many-zero n (or_else-zero-left (too_many n) _ rest);
+          room = or_else-zero-right (too_many n) _ rest;
+        }
+
+    pub room-enough : 2 * n ≤ length m
+    room-enough = less_number-zero (length m) (2 * n) 4 readable.room
+
+    pub unpacked-row : (o : Outcome RowUnpacked)
         → o ≡ row_outcome m (without_stray (stream wb) (read_items (words_of tb) n (stream wb))) → o ≡ unpacked tb wb n m
     unfolding unpacked row_reading
-    unpacked-row h g o e =
-        let room = lent-room (length m) n (omega arith) in
-        e ∙ rw (first_number-readable (lent (length m)) tb n (record { table = accepted-table; few = h; room = room }))
+    unpacked-row o e = e ∙ rw (← is, none)

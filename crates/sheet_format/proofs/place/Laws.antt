@@ -1,12 +1,10 @@
 -- The places by the state that a caller keeps. Assumes nothing.
-use Prim.Native.Nat.{ℕ, ◌+◌, ◌≤◌, ◌<◌}
+use Prim.Native.Nat.{◌≤◌, ◌<◌}
 use mathlib.Core.Path.{◌≡◌, sym, ap, ◌∙◌}
-use mathlib.Core.List.{List, [], ◌∷◌, ◌++◌}
-use lib.ListN.{length, length-append}
+use lib.ListN.{length}
 use borrow.Author.Tests.{lt-ltb, le-ltb, eq-eqb, ne_eqb}
 use Rattle.sheet_format.specs.declared.SheetState.{SheetState}
 use Rattle.sheet_format.specs.Context.{Heading, Context, state_of}
-use Rattle.sheet_format.specs.Kind.{a_table, a_row, after_record}
 use Rattle.sheet_format.specs.Kind.Table.{table_place}
 use Rattle.sheet_format.specs.Kind.Row.{no_table, row_place}
 use Rattle.sheet_format.specs.Kind.ContourLine.{line_place}
@@ -58,12 +56,3 @@ module _ (st : SheetState) (c : Context) (is : state_of c ≡ st) where
         pub row-risen : h.row ≤ 65535 → 0 ≡ row_place c h
         unfolding row_place
         row-risen most = rw (some table, least-is, le-ltb h.row st.least_row risen, le-ltb 65535 h.row most)
-
-    pub after_table : (b : List ℕ) → length c.tables ≡ 0
-        → record { has_table = 1; least_row = st.least_row } ≡ state_of (after_record a_table h b c)
-    after_table b empty =
-        let one : length (c.tables ++ (b ∷ [])) ≡ 1 = length-append c.tables (b ∷ []) ∙ ap (◌+ 1) empty in
-        rw (one, least-is)
-
-    pub after-row : (b : List ℕ) → record { has_table = st.has_table; least_row = h.row + 1 } ≡ state_of (after_record a_row h b c)
-    after-row b = rw tables-is

@@ -18,4 +18,4 @@ give-requires c = omega (
 )
 
 pub returns : goal.returns
-returns c = record { given = rw (put_front c.put_last_line-n.ensures.put) at c.give.ensures; most = omega (arith, c.put_last_line-n.ensures.put.next, c.put_last_line-n.ensures.most) }
+returns c = record { given = rw c.into.ensures (rw (put_front c.put_last_line-n.ensures.put) at c.give.ensures); most = omega (arith, c.put_last_line-n.ensures.put.next, c.put_last_line-n.ensures.most) }

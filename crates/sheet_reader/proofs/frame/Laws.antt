@@ -12,16 +12,14 @@ use Rattle.row_format.specs.Place.{has_place}
 use Rattle.sheet_format.specs.declared.RecordRead.{RecordRead}
 use Rattle.sheet_format.specs.Context.{Context}
 use Rattle.sheet_format.specs.Kind.Table.{table_own, table_kind}
-use Rattle.sheet_format.specs.Kind.PackedRow.{packed_kind}
-use Rattle.sheet_format.specs.Kind.PlainRow.{plain_kind}
-use Rattle.sheet_format.specs.Kind.ContourLine.{line_kind}
-use Rattle.sheet_format.specs.Kinds.Laws.{kind_of-other}
+use Rattle.sheet_format.specs.Kind.{unknown}
+use Rattle.sheet_format.specs.Kinds.{kind_of}
 use Rattle.sheet_format.specs.Record.{length_field, kind_field, length_number, content_number, record_number}
 use Rattle.sheet_format.specs.Record.Laws.{RightLength, length_number-right, right-length}
 use Rattle.sheet_format.specs.Reading.{refused_record, record_stop, body_held, record_held, record_content}
 use Rattle.sheet_format.specs.Reading.Laws.{refused-anywhere}
 use Rattle.sheet_format.proofs.Theorems.Numbers.{length_number-in}
-use Rattle.sheet_reader.specs.Leaves.{ContentLeaves, BodyLeaves, RecordLeaves, table_judged}
+use Rattle.sheet_reader.specs.Leaves.{BodyLeaves, RecordLeaves, table_judged}
 use Rattle.sheet_reader.specs.Leaves.Laws.{leaves_nothing, refuses}
 
 -- ---- the length
@@ -82,18 +80,5 @@ module _ {room : ℕ} {c : Context} {b m : List ℕ} {x : RecordRead} {code whol
         leaves = rw is (record { answer = judged; memory = λ enough. rw judged (leaves_nothing number 0 m a) });
       }
 
-  pub packed-leaves : {m' : List ℕ} → code ≡ 2 → ContentLeaves packed_kind room 2 whole c b m x m'
-      → BodyLeaves room code whole c b m x m'
-  packed-leaves is l = record { leaves = rw is l.leaves }
-
-  pub plain-leaves : {m' : List ℕ} → code ≡ 3 → ContentLeaves plain_kind room 3 whole c b m x m'
-      → BodyLeaves room code whole c b m x m'
-  plain-leaves is l = record { leaves = rw is l.leaves }
-
-  pub line-leaves : {m' : List ℕ} → code ≡ 4 → ContentLeaves line_kind room 4 whole c b m x m'
-      → BodyLeaves room code whole c b m x m'
-  line-leaves is l = record { leaves = rw is l.leaves }
-
-  pub unknown-leaves : (code ≡ 1 → ⊥) → (code ≡ 2 → ⊥) → (code ≡ 3 → ⊥) → (code ≡ 4 → ⊥) → x ≡ refused_record 0 15
-      → BodyLeaves room code whole c b m x m
-  unknown-leaves p q s t is = record { leaves = rw (kind_of-other code p q s t) (refuses is refl (λ e. omega arith)) }
+  pub unknown-leaves : kind_of code ≡ unknown → x ≡ refused_record 0 15 → BodyLeaves room code whole c b m x m
+  unknown-leaves none is = record { leaves = rw none (refuses is refl (λ e. omega arith)) }

@@ -15,4 +15,4 @@ unfolding record_judged
 answer-judged {c} {r} l = l.leaves.answer ∙ rw (record_number-enough 16384 (omega arith) c r)
 
 pub returns : goal.returns
-returns c = answer-judged c.read.ensures
+returns c = c.read_answer.ensures ∙ answer-judged c.read.ensures

@@ -20,10 +20,8 @@ use Rattle.sheet_format.specs.Record.{content_number}
 use Rattle.sheet_format.specs.Record.Laws.{content-passed}
 use Rattle.sheet_format.specs.Reading.{refused_record}
 use Rattle.sheet_format.proofs.Theorems.Room.{own-content}
-use Rattle.sheet_reader.specs.declared.numbers.LineJudged.{LineJudged}
 use Rattle.sheet_reader.specs.Leaves.{accepted_record, ContentLeaves}
 use Rattle.sheet_reader.specs.Leaves.Laws.{refuses, holds}
-use Rattle.sheet_reader.specs.Line.{line_judged}
 
 -- ---- the number of the numbers, in any sheet
 module _ (b : List ℕ) (room : ℕ) {count : ℕ} (is : count ≡ number_count b) (c : Context) where
@@ -31,15 +29,9 @@ module _ (b : List ℕ) (room : ℕ) {count : ℕ} (is : count ≡ number_count 
   unfolding line_own line_number
   numbers-many h = rw (← is, lt-ltb 4096 count h)
 
-  module _ (few : count ≤ 4096) {j : LineJudged} (judged : j ≡ line_judged (read_line count (part_from 2 b))) where
-    judged-is : j ≡ line_judged (line_of b)
-    judged-is = judged ∙ rw (part-is 2 b, is)
-
-    fault-is : j.number ≡ fault_number (line_of b)
-    fault-is = ap (λ (x : LineJudged). x.number) judged-is
-
-    used-is : bytes_of_line (line_of b) ≡ j.used
-    used-is = sym (ap (λ (x : LineJudged). x.used) judged-is)
+  module _ (few : count ≤ 4096) where
+    line_is : read_line count (part_from 2 b) ≡ line_of b
+    line_is = rw (part-is 2 b, is)
 
     -- the count is in order
     past-count : {n : ℕ}
@@ -52,22 +44,27 @@ module _ (b : List ℕ) (room : ℕ) {count : ℕ} (is : count ≡ number_count 
         none : too_many (number_count b) ≡ 0
         none = rw (← is, le-ltb 4096 count few)
 
-    pub numbers-fault : (j.number ≡ 0 → ⊥) → j.number ≡ line_own (lent room) c b
-    numbers-fault some = past-count (given-first _ _ (given-first (fault_number (line_of b)) _ fault-is some) some)
+    pub numbers-fault : {e : ℕ} → e ≡ fault_number (read_line count (part_from 2 b)) → (e ≡ 0 → ⊥) → e ≡ line_own (lent room) c b
+    numbers-fault fault some =
+        past-count (given-first _ _ (given-first (fault_number (line_of b)) _ (fault ∙ ap fault_number line_is) some) some)
 
-    module _ (none : j.number ≡ 0) where
-      past-fault : {n : ℕ} → n ≡ refuse_if (ltb j.used (length (part_from 2 b))) 14 or_else room_number (lent room) (4 * count)
+    module _ (none : 0 ≡ fault_number (read_line count (part_from 2 b))) {used : ℕ}
+        (used_is : used ≡ bytes_of_line (read_line count (part_from 2 b))) where
+      past-fault : {n : ℕ} → n ≡ refuse_if (ltb used (length (part_from 2 b))) 14 or_else room_number (lent room) (4 * count)
           → n ≡ line_own (lent room) c b
-      past-fault h = past-count (rw (sym fault-is ∙ none, used-is, ← part-is 2 b, ← is) h)
+      past-fault h =
+          let faultless : fault_number (line_of b) ≡ 0 = sym (none ∙ ap fault_number line_is) in
+          let bytes : bytes_of_line (line_of b) ≡ used = sym (used_is ∙ ap bytes_of_line line_is) in
+          past-count (rw (faultless, bytes, ← part-is 2 b, ← is) h)
 
-      pub numbers-leftover : j.used < length (part_from 2 b) → 14 ≡ line_own (lent room) c b
-      numbers-leftover more = past-fault (rw (lt-ltb j.used (length (part_from 2 b)) more))
+      pub numbers-leftover : used < length (part_from 2 b) → 14 ≡ line_own (lent room) c b
+      numbers-leftover more = past-fault (rw (lt-ltb used (length (part_from 2 b)) more))
 
-      pub numbers-full : length (part_from 2 b) ≤ j.used → room < 4 * count → 5 ≡ line_own (lent room) c b
-      numbers-full all less = past-fault (rw (le-ltb j.used (length (part_from 2 b)) all, lt-ltb room (4 * count) less))
+      pub numbers-full : length (part_from 2 b) ≤ used → room < 4 * count → 5 ≡ line_own (lent room) c b
+      numbers-full all less = past-fault (rw (le-ltb used (length (part_from 2 b)) all, lt-ltb room (4 * count) less))
 
-      pub numbers-right : length (part_from 2 b) ≤ j.used → 4 * count ≤ room → 0 ≡ line_own (lent room) c b
-      numbers-right all enough = past-fault (rw (le-ltb j.used (length (part_from 2 b)) all, le-ltb room (4 * count) enough))
+      pub numbers-right : length (part_from 2 b) ≤ used → 4 * count ≤ room → 0 ≡ line_own (lent room) c b
+      numbers-right all enough = past-fault (rw (le-ltb used (length (part_from 2 b)) all, le-ltb room (4 * count) enough))
 
 -- ---- the record, in a sheet that holds c
 line-chain : (b : List ℕ) (c : Context) (room : ℕ) → 2 ≤ length b → {place : ℕ} → place ≡ line_place c no_heading

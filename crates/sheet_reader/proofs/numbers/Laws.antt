@@ -19,8 +19,7 @@ use Rattle.adaptive.specs.Calls.{signed_read}
 use Rattle.adaptive.specs.Calls.Laws.{signed_read-used}
 use Rattle.sheet_format.specs.Line.{numbers, word_of, read_line}
 use Rattle.sheet_format.specs.Line.Steps.{LineSoFar, line-start, line-more, line-fault, line-all, bytes_of-more}
-use Rattle.sheet_format.specs.Kind.ContourLine.{fault_number, number_bytes}
-use Rattle.sheet_reader.specs.Line.{line_judged}
+use Rattle.sheet_format.specs.Kind.ContourLine.{fault_number, bytes_of_line, number_bytes}
 
 -- i of n numbers of the bytes s are read, and the next is at a place
 pub record Walked (n : ℕ) (s : List ℕ) (at i : ℕ) : Type 0 where
@@ -64,7 +63,7 @@ module _ {n : ℕ} {s : List ℕ} {at i : ℕ} (w : Walked n s at i) where
           so_far_lem = rw is (line-more (next more) (rw (← is) none));
         }
 
-    pub walk-fault : i < n → (r.number ≡ 0 → ⊥) → record { number = r.number; used = 0 } ≡ line_judged (read_line n s)
+    pub walk-fault : i < n → (r.number ≡ 0 → ⊥) → r.number ≡ fault_number (read_line n s)
     walk-fault more some = let is = read-rest s at read in rw (line-fault (next more) (rw (← is) some), ← is)
 
     -- where no number of the line is faulty, this one isn't
@@ -78,8 +77,11 @@ module _ {n : ℕ} {s : List ℕ} {at i : ℕ} (w : Walked n s at i) where
   walk-all : n ≤ i → read_line n s ≡ numbers w.values at
   walk-all end = let left : n - i ≡ 0 = omega arith in line-all (rw left at w.so_far_lem)
 
-  pub walk-judged : n ≤ i → record { number = 0; used = at } ≡ line_judged (read_line n s)
-  walk-judged end = rw (walk-all end)
+  pub walk-faultless : n ≤ i → 0 ≡ fault_number (read_line n s)
+  walk-faultless end = rw (walk-all end)
+
+  pub walk-used : n ≤ i → at ≡ bytes_of_line (read_line n s)
+  walk-used end = rw (walk-all end)
 
 -- ---- the numbers kept as 4 bytes each
 put_next : (f x m : List ℕ) (k : ℕ) → length f ≡ k → overwritten (f ++ drop k m) k x ≡ f ++ x ++ drop (k + length x) m

@@ -42,6 +42,11 @@ use Rattle.sheet_format.specs.Record.Laws.{content-passed}
 use Rattle.sheet_format.specs.Reading.{refused_record}
 use Rattle.sheet_format.specs.Reading.Laws.{refused-shown, refused-anywhere}
 use Rattle.sheet_format.proofs.Theorems.Room.{own-content}
+use Rattle.std.specs.Prelude.{Result, Ok, Err}
+use Rattle.answer.specs.declared.refusal.Refusal.{Refusal}
+use Rattle.answer.specs.Refusal.{result_number}
+use Rattle.sheet_reader.specs.declared.answers.Refused.{Refused}
+use Rattle.sheet_reader.specs.Answers.{read_number, read_place}
 use Rattle.sheet_reader.specs.declared.row.RowFields.{RowFields}
 use Rattle.sheet_reader.specs.Leaves.{accepted_record, ContentLeaves}
 use Rattle.sheet_reader.specs.Leaves.Laws.{refuses, holds}
@@ -108,11 +113,12 @@ module _ {room : ℕ} {tb b : List ℕ} {a : RowUnpacked} {out : List ℕ} (u : 
       rw (number_is, at-is, place_shown-twice (run_number x) (run_place x))
       (row_reading-shown (lent room) nothing tb (pixel_count b) (row_content b) refl)
 
-  pub row-refused : (a.number ≡ 0 → ⊥) → {out' : List ℕ} → RowRead room tb b a out'
-  row-refused some = record {
-    number = given-first (run_number (body_reading (lent room) tb b)) _ number_is some;
-    at = place_is;
-    row = λ e. absurd (some e);
+  pub row-refused : {e : Refused} → a.number ≡ e.number → a.at ≡ e.at → 0 < e.number → {out' : List ℕ} → RowRead room tb b (Err e) out'
+  row-refused {e} number place some = record {
+    number = given-first (run_number (body_reading (lent room) tb b)) _ (sym number ∙ number_is) (λ z. omega arith);
+    at = rw (← number, ← place) place_is;
+    row = tt;
+    some = some;
   }
 
   module _ (none : a.number ≡ 0) where
@@ -136,13 +142,14 @@ module _ {room : ℕ} {tb b : List ℕ} {a : RowUnpacked} {out : List ℕ} (u : 
     bits_is = ap (λ (o : Outcome RowUnpacked). o.answer.count) wrote-is ∙ sym (ap bits_of_run whole_is)
 
     pub row-leftover : 4 * ((a.count + 31) / 32) < length (part_from 4 b) → {out' : List ℕ}
-        → RowRead room tb b (record { number = 14; count = 0; at = 0 }) out'
+        → RowRead room tb b (Err (record { number = 14; at = 0 })) out'
     row-leftover more = record {
       number =
           given-next accepted
           (rw (← bits_is, ← part-is 4 b, lt-ltb (4 * words_for a.count) (length (part_from 4 b)) more));
       at = refl;
-      row = λ e. absurd (omega arith);
+      row = tt;
+      some = omega arith;
     }
 
     pixels-size : length (pixel_bytes (pixels_of fresh whole.items)) ≡ 2 * pixel_count b
@@ -152,24 +159,24 @@ module _ {room : ℕ} {tb b : List ℕ} {a : RowUnpacked} {out : List ℕ} (u : 
         subst (GivesRow (lent room) (pixel_count b)) whole.is (row_reading-gives (lent room) tb (pixel_count b) (row_content b)) in
         length_cut 8 (2 * length ps) (flat 16 ps) ∙ ap (2 *◌) (length-pixels_of fresh whole.items ∙ given.count)
 
-    pub row_done_lem : length (part_from 4 b) ≤ 4 * ((a.count + 31) / 32) → (rest : List ℕ)
-        → RowRead room tb b a (out ++ rest)
-    row_done_lem all rest =
+    pub row_done_lem : {bits : ℕ} → a.count ≡ bits → length (part_from 4 b) ≤ 4 * ((a.count + 31) / 32) → (rest : List ℕ)
+        → RowRead room tb b (Ok bits) (out ++ rest)
+    row_done_lem count all rest =
         let p = pixel_bytes (pixels_of fresh whole.items) in
         let left = drop (length p) u.m ++ rest in
         let out-is : out ++ rest ≡ p ++ left =
         ap (λ (o : Outcome RowUnpacked). o.memory ++ rest) wrote-is ∙ append_assoc p (drop (length p) u.m) rest in
         let reads = row_reading-reads (lent room) tb (pixel_count b) (row_content b) whole.items whole.used whole.is in
         record {
-          number = none
-              ∙ given-next accepted
+          number = given-next accepted
               (rw (← bits_is, ← part-is 4 b, le-ltb (4 * words_for a.count) (length (part_from 4 b)) all));
-          at = place_is;
-          row = λ e. record {
+          at = refl;
+          row = record {
             few = reads.given.few;
-            bits_are = bits_is;
+            bits_are = sym count ∙ bits_is;
             front = rw (out-is, whole_is) (take_at p left (2 * pixel_count b) pixels-size);
           };
+          some = tt;
         }
 
 -- ---- the record
@@ -199,9 +206,9 @@ packed-not-words {b = b} odd is = record {
 }
 
 -- the number after that of the fields and of the place
-module _ (tb : List ℕ) {b : List ℕ} {st : SheetState} {f : RowFields} (words : length b % 4 ≡ 0) (fields : RowFieldsOf b st f) where
+module _ (tb : List ℕ) {b : List ℕ} {st : SheetState} {f : Result RowFields Refusal} (words : length b % 4 ≡ 0) (fields : RowFieldsOf b st f) where
   packed-chain : (room : ℕ)
-      → content_number packed_kind (lent room) (context_of tb st) b ≡ f.number or_else packed_own (lent room) (context_of tb st) b
+      → content_number packed_kind (lent room) (context_of tb st) b ≡ result_number f or_else packed_own (lent room) (context_of tb st) b
   unfolding content_number
   packed-chain room =
       let c = context_of tb st in
@@ -209,7 +216,7 @@ module _ (tb : List ℕ) {b : List ℕ} {st : SheetState} {f : RowFields} (words
       (sym (or_else-assoc (shorter_than 4 b) (row_place c (row_heading b)) _))
 
   -- 14 and 16 show no place
-  placeless : has_place f.number ≡ false
+  placeless : has_place (result_number f) ≡ false
   placeless =
       let None : ℕ → Type 0 = λ e. has_place e ≡ false in
       let c = context_of tb st in
@@ -218,7 +225,7 @@ module _ (tb : List ℕ) {b : List ℕ} {st : SheetState} {f : RowFields} (words
       (packed-lawful.place_in None (record { p0 = refl; p16 = refl }) c (row_heading b)))
 
   -- a row that is placed comes after a table, which is the one that is lent
-  table_is : f.number ≡ 0 → table_for (context_of tb st) (row_heading b) ≡ tb
+  table_is : result_number f ≡ 0 → table_for (context_of tb st) (row_heading b) ≡ tb
   table_is placed =
       let c = context_of tb st in
       let both = sym (fields.number c (state_of-context_of tb st)) ∙ placed in
@@ -226,42 +233,43 @@ module _ (tb : List ℕ) {b : List ℕ} {st : SheetState} {f : RowFields} (words
       (λ none. row_place-table c (row_heading b) (or_else-zero-right (shorter_than 4 b) _ both) (tables-context_of tb st ∙ none))
 
   module _ {room whole : ℕ} {m : List ℕ} {x : RecordRead} where
-    pub packed-misplaced : x ≡ refused_record 0 f.number → (f.number ≡ 0 → ⊥)
+    pub packed-misplaced : x ≡ refused_record 0 (result_number f) → (result_number f ≡ 0 → ⊥)
         → ContentLeaves packed_kind room 2 whole (context_of tb st) b m x m
     packed-misplaced is some =
-        let anywhere = refused-anywhere f.number (packed_stop (context_of tb st) b) placeless in
-        record { leaves = refuses (is ∙ anywhere) (given-first f.number _ refl some ∙ sym (packed-chain room)) some }
+        let anywhere = refused-anywhere (result_number f) (packed_stop (context_of tb st) b) placeless in
+        record { leaves = refuses (is ∙ anywhere) (given-first (result_number f) _ refl some ∙ sym (packed-chain room)) some }
 
-    pub packed-refused : f.number ≡ 0 → {a : RowUnpacked} {out : List ℕ} → RowRead room tb b a out → x ≡ refused_record a.at a.number
-        → (a.number ≡ 0 → ⊥) → ContentLeaves packed_kind room 2 whole (context_of tb st) b m x m
+    pub packed-refused : result_number f ≡ 0 → {a : Result ℕ Refused} {out : List ℕ} → RowRead room tb b a out
+        → x ≡ refused_record (read_place a) (read_number a) → (read_number a ≡ 0 → ⊥)
+        → ContentLeaves packed_kind room 2 whole (context_of tb st) b m x m
     packed-refused placed {a = a} row is some =
         let c = context_of tb st in
         let own = row.number ∙ sym (own-number c room tb b (table_is placed)) in
         let shown =
-        refused-shown a.number a.at (packed_stop c b) (row.at ∙ rw (stop_is c tb b (table_is placed))) in
+        refused-shown (read_number a) (read_place a) (packed_stop c b) (row.at ∙ rw (stop_is c tb b (table_is placed))) in
         record { leaves = refuses (is ∙ shown) (given-next placed own ∙ sym (packed-chain room)) some }
 
 -- what is known of an accepted record with the body b, whose fields are f
-pub record PackedAccepted (tb b : List ℕ) (st : SheetState) (room : ℕ) (f : RowFields) (a : RowUnpacked) (out : List ℕ) : Type 0 where
+pub record PackedAccepted (tb b : List ℕ) (st : SheetState) (room : ℕ) (f : RowFields) (bits : ℕ) (out : List ℕ) : Type 0 where
   pub fields : HasRowFields b f
-  pub row : RowHeld tb b a.count out
+  pub row : RowHeld tb b bits out
   pub table : table_for (context_of tb st) (row_heading b) ≡ tb
   pub zero : content_number packed_kind (lent room) (context_of tb st) b ≡ 0
 
-module _ {tb b : List ℕ} {st : SheetState} {room : ℕ} {f : RowFields} {a : RowUnpacked} {out : List ℕ} where
-  pub packed-accepted : length b % 4 ≡ 0 → RowFieldsOf b st f → f.number ≡ 0 → RowRead room tb b a out → a.number ≡ 0
-      → PackedAccepted tb b st room f a out
-  packed-accepted words fields placed row right =
-      let table = table_is tb words fields placed in
+module _ {tb b : List ℕ} {st : SheetState} {room : ℕ} {f : RowFields} {bits : ℕ} {out : List ℕ} where
+  pub packed-accepted : length b % 4 ≡ 0 → RowFieldsOf b st (Ok f) → RowRead room tb b (Ok bits) out
+      → PackedAccepted tb b st room f bits out
+  packed-accepted words fields row =
+      let table = table_is tb words fields refl in
       let own = row.number ∙ sym (own-number (context_of tb st) room tb b table) in
       record {
-        fields = fields.fields placed;
-        row = row.row right;
+        fields = fields.fields;
+        row = row.row;
         table = table;
-        zero = packed-chain tb words fields room ∙ sym (given-next placed own) ∙ right;
+        zero = packed-chain tb words fields room ∙ sym own;
       }
 
-  module _ (ok : PackedAccepted tb b st room f a out) where
+  module _ (ok : PackedAccepted tb b st room f bits out) where
     content : (length (packed_content (context_of tb st) b) ≡ 2 * pixel_count b) × (room_number (lent room) (2 * pixel_count b) ≡ 0)
     content =
         let c = context_of tb st in
@@ -275,7 +283,7 @@ module _ {tb b : List ℕ} {st : SheetState} {room : ℕ} {f : RowFields} {a : R
 
     pub packed-held : {whole : ℕ} {m : List ℕ} {x : RecordRead} {m' : List ℕ} {after : SheetState}
         → ((c : Context) (d : List ℕ) → state_of c ≡ st → after ≡ state_of (after_record a_row (record { row = f.row }) d c))
-        → x ≡ accepted_record 2 f.row f.count a.count whole after
+        → x ≡ accepted_record 2 f.row f.count bits whole after
         → (room ≤ length m → m' ≡ take (2 * f.count) out ++ drop (2 * f.count) m)
         → ContentLeaves packed_kind room 2 whole (context_of tb st) b m x m'
     unfolding packed_bits packed_content packed_reading

@@ -11,7 +11,7 @@ use borrow.Author.Tests.{lt-ltb, le-ltb}
 use Rattle.bitstream.specs.Bits.{halves_of}
 use Rattle.bitstream.specs.Memory.Part.{part_from, part-is}
 use Rattle.answer.specs.Outcome.{◌or_else◌, lent, room_number}
-use Rattle.answer.specs.Outcome.Laws.{less_number-zero, unequal_number-none, unequal_number-given, or_else-assoc, given-first, given-next}
+use Rattle.answer.specs.Outcome.Laws.{less_number-zero, unequal_number-none, unequal_number-given, or_else-assoc, given-first}
 use Rattle.row_format.specs.Lists.{any}
 use Rattle.row_format.specs.Row.{too_high}
 use Rattle.sheet_format.specs.declared.SheetState.{SheetState}
@@ -26,6 +26,10 @@ use Rattle.sheet_format.specs.Record.{content_number}
 use Rattle.sheet_format.specs.Record.Laws.{content-passed}
 use Rattle.sheet_format.specs.Reading.{refused_record}
 use Rattle.sheet_format.proofs.Theorems.Room.{own-content}
+use Rattle.std.specs.Prelude.{Result, Ok, Err}
+use Rattle.answer.specs.declared.refusal.Refusal.{Refusal}
+use Rattle.answer.specs.Refusal.{refusal_number, result_number}
+use Rattle.answer.specs.Refusal.Laws.{refusal_not_done}
 use Rattle.sheet_reader.specs.declared.row.RowFields.{RowFields}
 use Rattle.sheet_reader.specs.Leaves.{accepted_record, ContentLeaves}
 use Rattle.sheet_reader.specs.Leaves.Laws.{refuses, holds}
@@ -60,23 +64,24 @@ module _ (b : List ℕ) (room : ℕ) {count : ℕ} (is : count ≡ pixel_count b
       pixels-right none h = past-size (rw (← none, le-ltb room (2 * count) h))
 
 -- ---- the record, in a sheet that holds c
-module _ {b : List ℕ} {st : SheetState} (room : ℕ) {f : RowFields} (fields : RowFieldsOf b st f) (c : Context)
+module _ {b : List ℕ} {st : SheetState} (room : ℕ) {f : Result RowFields Refusal} (fields : RowFieldsOf b st f) (c : Context)
     (shows : state_of c ≡ st) where
-  plain-chain : content_number plain_kind (lent room) c b ≡ f.number or_else plain_own (lent room) c b
+  plain-chain : content_number plain_kind (lent room) c b ≡ result_number f or_else plain_own (lent room) c b
   unfolding content_number
   plain-chain =
       rw (fields.number c shows) (sym (or_else-assoc (shorter_than 4 b) (row_place c (row_heading b)) _))
 
-module _ {b : List ℕ} {st : SheetState} {room whole : ℕ} {m : List ℕ} {x : RecordRead} {f : RowFields} {c : Context}
-    (fields : RowFieldsOf b st f) (shows : state_of c ≡ st) where
-  pub plain-misplaced : x ≡ refused_record 0 f.number → (f.number ≡ 0 → ⊥) → ContentLeaves plain_kind room 3 whole c b m x m
-  plain-misplaced is some =
-      record { leaves = refuses is (given-first f.number _ refl some ∙ sym (plain-chain room fields c shows)) some }
-
-  pub plain-refused : f.number ≡ 0 → {n : ℕ} → n ≡ plain_own (lent room) c b → x ≡ refused_record 0 n → (n ≡ 0 → ⊥)
+module _ {b : List ℕ} {st : SheetState} {room whole : ℕ} {m : List ℕ} {x : RecordRead} {c : Context} where
+  pub plain-misplaced : {e : Refusal} → RowFieldsOf b st (Err e) → state_of c ≡ st → x ≡ refused_record 0 (refusal_number e)
       → ContentLeaves plain_kind room 3 whole c b m x m
-  plain-refused placed judged is some =
-      record { leaves = refuses is (given-next placed judged ∙ sym (plain-chain room fields c shows)) some }
+  plain-misplaced {e} fields shows is =
+      let some : refusal_number e ≡ 0 → ⊥ = λ z. omega (arith, refusal_not_done e) in
+      record { leaves = refuses is (given-first (refusal_number e) _ refl some ∙ sym (plain-chain room fields c shows)) some }
+
+  pub plain-refused : {f : RowFields} → RowFieldsOf b st (Ok f) → state_of c ≡ st → {n : ℕ} → n ≡ plain_own (lent room) c b
+      → x ≡ refused_record 0 n → (n ≡ 0 → ⊥) → ContentLeaves plain_kind room 3 whole c b m x m
+  plain-refused fields shows judged is some =
+      record { leaves = refuses is (judged ∙ sym (plain-chain room fields c shows)) some }
 
 -- what is known of an accepted record with the body b, whose fields are f
 pub record PlainAccepted (b : List ℕ) (c : Context) (room : ℕ) (f : RowFields) : Type 0 where
@@ -84,13 +89,12 @@ pub record PlainAccepted (b : List ℕ) (c : Context) (room : ℕ) (f : RowField
   pub zero : content_number plain_kind (lent room) c b ≡ 0
 
 module _ {b : List ℕ} {room : ℕ} {f : RowFields} {c : Context} where
-  pub plain-accepted : {st : SheetState} → RowFieldsOf b st f → state_of c ≡ st → f.number ≡ 0
-      → {n : ℕ} → n ≡ plain_own (lent room) c b → n ≡ 0
+  pub plain-accepted : {st : SheetState} → RowFieldsOf b st (Ok f) → state_of c ≡ st → 0 ≡ plain_own (lent room) c b
       → PlainAccepted b c room f
-  plain-accepted fields shows placed judged right =
+  plain-accepted fields shows judged =
       record {
-        fields = fields.fields placed;
-        zero = plain-chain room fields c shows ∙ sym (given-next placed judged) ∙ right;
+        fields = fields.fields;
+        zero = plain-chain room fields c shows ∙ sym judged;
       }
 
   module _ (ok : PlainAccepted b c room f) where

@@ -17,4 +17,4 @@ unfolding record_read
 answer-read l = l.leaves.memory (omega arith)
 
 pub returns : goal.returns
-returns c = answer-read c.read.ensures
+returns c = rw c.read_answer.ensures (answer-read c.read.ensures)

@@ -1,16 +1,20 @@
 -- The ways out of reading a table in a record. Assumes nothing.
 use Prim.Native.Nat.{ℕ, ◌%◌}
-use mathlib.Core.Path.{◌≡◌, sym, ◌∙◌}
+use mathlib.Core.Path.{◌≡◌, refl, sym, ◌∙◌}
+use mathlib.Core.Bool.{false}
 use mathlib.Core.List.{List}
 use lib.ListN.{length}
 use Rattle.answer.specs.Outcome.{nothing}
 use Rattle.answer.specs.Outcome.Laws.{unequal_number-zero, unequal_number-none, unequal_number-given, given-first}
+use Rattle.row_format.specs.Place.{has_place}
 use Rattle.row_format.specs.Table.{table_number}
+use Rattle.row_format.proofs.Theorems.Numbers.{table_number-in}
 use Rattle.sheet_format.specs.declared.RecordRead.{RecordRead}
 use Rattle.sheet_format.specs.Context.{Context, no_heading}
 use Rattle.sheet_format.specs.Kind.Table.{table_place, table_own, table_kind}
 use Rattle.sheet_format.specs.Record.{content_number}
 use Rattle.sheet_format.specs.Reading.{refused_record, body_held}
+use Rattle.sheet_format.specs.Reading.Laws.{refused-anywhere}
 use Rattle.sheet_reader.specs.Leaves.{table_judged}
 use Rattle.sheet_reader.specs.Leaves.Laws.{answer-refused}
 
@@ -33,8 +37,12 @@ module _ (b : List ℕ) (whole : ℕ) (c : Context) where
       unfolding content_number table_own
       own = rw (unequal_number-none (length b % 4) 0 14 words, sym place_is ∙ first) told
 
-      pub table-refused : {x : RecordRead} → (n ≡ 0 → ⊥) → x ≡ refused_record 0 n → x ≡ table_judged whole c b
-      table-refused some is = answer-refused 0 _ is own some
+      -- 1 to 3 show no place
+      placeless : has_place n ≡ false
+      placeless = rw told (table_number-in (λ e. has_place e ≡ false) b refl refl refl refl)
+
+      pub table-refused : {x : RecordRead} (at : ℕ) → (n ≡ 0 → ⊥) → x ≡ refused_record at n → x ≡ table_judged whole c b
+      table-refused at some is = answer-refused 0 _ (is ∙ sym (refused-anywhere n at placeless)) own some
 
       pub no-tables : length c.tables ≡ 0
       unfolding table_place

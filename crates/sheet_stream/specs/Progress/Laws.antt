@@ -1,5 +1,5 @@
 -- The laws of what is carried: at the start, and behind an accepted record. Assumes nothing.
-use Rattle.std.specs.Prelude.{ℕ, ◌+◌, ◌≡◌, List, []}
+use Rattle.std.specs.Prelude.{ℕ, ◌+◌, ◌≡◌, refl, List, []}
 use Rattle.std.proofs.Common.{arith}
 use Rattle.sheet_format.specs.declared.RecordRead.{RecordRead}
 use Rattle.sheet_format.specs.Context.{new_sheet, state_of}
@@ -8,7 +8,7 @@ use Rattle.sheet_format.specs.Reading.Laws.{judged-body}
 use Rattle.sheet_format.specs.Stream.{rows_of, holds_of, Carried, context_by, carried_next}
 use Rattle.sheet_format.proofs.Stream.Taken.{carries-none}
 use Rattle.sheet_stream.specs.declared.progress.SheetProgress.{SheetProgress}
-use Rattle.sheet_stream.specs.Progress.{carried_by, table_after, CarriedFits, Underway}
+use Rattle.sheet_stream.specs.Progress.{carried_by, table_after, carried_after, CarriedFits, Underway}
 
 -- ---- at the start
 abbrev pub progress_first : SheetProgress
@@ -28,3 +28,9 @@ pub carried-next : (p : Carried) (r : List ℕ) {a : RecordRead} {table : List �
     → (let next : Carried = record { table = table; state = a.state; index = p.index + 1; rows = rows } in next)
     ≡ carried_next p r (record_judged (context_by p) r)
 carried-next p r is ok is-table is-rows = rw (is-table, is-rows, is, judged-body (context_by p) r ok)
+
+-- the same, from what it is said to be
+pub carried-after : (p : Carried) (r : List ℕ) {a : RecordRead} → a ≡ record_judged (context_by p) r
+    → (record_judged (context_by p) r).number ≡ 0
+    → carried_after p a r ≡ carried_next p r (record_judged (context_by p) r)
+carried-after p r is ok = carried-next p r is ok refl refl

@@ -31,8 +31,8 @@ use Rattle.sheet_format.proofs.Theorems.{record-length, read-judged}
 use Rattle.sheet_format.proofs.Theorems.Room.{record_number-enough, content-bytes}
 use Rattle.sheet_stream.specs.declared.progress.SheetProgress.{SheetProgress}
 use Rattle.sheet_stream.specs.declared.step.SheetStep.{SheetStep}
-use Rattle.sheet_stream.specs.Progress.{carried_by, table_after, Underway}
-use Rattle.sheet_stream.specs.Progress.Laws.{carried-next}
+use Rattle.sheet_stream.specs.Progress.{carried_by, table_after, carried_after, Underway}
+use Rattle.sheet_stream.specs.Progress.Laws.{carried-after}
 use Rattle.sheet_stream.specs.Step.{record_by, end_step, StepMade}
 
 -- ---- an accepted record, read with room for every content
@@ -72,10 +72,9 @@ module _ (p : Carried) (r m : List ℕ) (room : 16384 ≤ length m) {a : RecordR
         let memory = ap (λ (o : Outcome RecordRead). o.memory) (read ∙ content-there (context_by p) r m room fine) in
         rw (memory, read_is) (take_at (record_content (context_by p) r) _ _ (content-size (context_by p) r m room fine))
 
-    next-accepted : {table : List ℕ} {rows : ℕ} → table ≡ table_after a p.table r → rows ≡ p.rows + rows_of (holds_of a)
-        → more (record_by a r y) (record { table = table; state = a.state; index = p.index + 1; rows = rows }) ≡ next_of p r
-    next-accepted is-table is-rows =
-        rw (content-is, carried-next p r read_is fine is-table is-rows, read_is) (sym (next_of-accepted p r fine))
+    next-accepted : {q : Carried} → q ≡ carried_after p a r → more (record_by a r y) q ≡ next_of p r
+    next-accepted is-next =
+        rw (is-next, content-is, carried-after p r read_is fine, read_is) (sym (next_of-accepted p r fine))
 
 -- ---- the step that is made
 -- nothing is left to read
@@ -100,19 +99,25 @@ module _ (at : SheetProgress) (table r m : List ℕ) (held : r ≡ held_of r) (r
         still = λ e. (refl, refl);
       })
 
-  -- it is accepted: its table is kept and its row counted
+  -- it is accepted, and this is carried on
+  pub after-made : {table' : List ℕ} {next : SheetProgress} {n : ℕ} (ok : a.number ≡ 0)
+      → carried_by next table' ≡ carried_after (carried_by at table) a r
+      → StepMade r at table (record { last = false; taken = n; read = a; next = next }) table' y
+  after-made ok is-next =
+      record {
+        held = held;
+        made = next-accepted (carried_by at table) r m room read ok is-next;
+        still = λ e. true-false e refl;
+      }
+
+  -- the same, of the parts: its table is kept and its row counted
   pub accepted-made : {table' : List ℕ} {kept rows n : ℕ} (ok : a.number ≡ 0)
       → take kept table' ≡ table_after a (take at.kept table) r
       → rows ≡ at.rows + rows_of (holds_of a)
       → (let next : SheetProgress = record { state = a.state; kept = kept; index = at.index + 1; rows = rows } in
-      let s : SheetStep = record { failed = false; last = false; taken = n; read = a; next = next } in
+      let s : SheetStep = record { last = false; taken = n; read = a; next = next } in
       StepMade r at table s table' y)
-  accepted-made ok is-table is-rows =
-      record {
-        held = held;
-        made = next-accepted (carried_by at table) r m room read ok is-table is-rows;
-        still = λ e. true-false e refl;
-      }
+  accepted-made ok is-table is-rows = after-made ok (rw (is-table, is-rows) refl)
 
 -- ---- how a loop goes on
 abbrev record_in : Next → SheetRecord → SheetRecord

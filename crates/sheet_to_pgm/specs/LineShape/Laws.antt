@@ -2,7 +2,8 @@
 use Prim.Native.Nat.{ℕ, zero, suc, ◌+◌, ◌-◌, ◌≤◌, ◌<◌}
 use Rattle.std.proofs.Common.{zero-add, sym, ◌∙◌}
 use native.Mathlib.Omega.{arith}
-use Rattle.std.specs.Prelude.{◌≡◌, List, [], ◌∷◌, ◌++◌, length, ltb, eqb}
+use Rattle.std.specs.Prelude.{◌≡◌, List, [], ◌∷◌, ◌++◌, length, ltb, eqb, Option, Some, None}
+use Rattle.std.specs.Option.{option_or}
 use Rattle.std.proofs.Math.Path.{refl, ap}
 use borrow.Author.Tests.{eq-eqb, ne_eqb, ltb-true, ltb-false, eqb-true, eqb-false}
 use Rattle.row_format.specs.Lists.Laws.{by-test}
@@ -13,9 +14,9 @@ use Rattle.sheet_format.specs.Size.Laws.{width-more, height-more}
 use Rattle.pgm_format.specs.Shape.{LineFault, no_fault, row_missing, row_unequal}
 use Rattle.pgm_format.specs.Shape.{fault_of, or_fault, fault_from, heights_in, sheet_fault}
 use Rattle.sheet_to_pgm.specs.declared.shape.RowFault.{RowFault}
-use Rattle.sheet_to_pgm.specs.declared.shape.RowFault.TheVariants.{Whole, Missing, Unequal}
+use Rattle.sheet_to_pgm.specs.declared.shape.RowFault.TheVariants.{Missing, Unequal}
 use Rattle.sheet_to_pgm.specs.declared.shape.LineShape.{LineShape}
-use Rattle.sheet_to_pgm.specs.LineShape.{fault_said, ShapeOf, shape_none, or_first, fault_with, first_with, shape_with}
+use Rattle.sheet_to_pgm.specs.LineShape.{fault_said, ShapeOf, shape_none, fault_with, first_with, shape_with}
 
 -- ---- no rows
 pub shape-none : ShapeOf shape_none []
@@ -33,10 +34,10 @@ or_fault-none no_fault = refl
 or_fault-none (row_missing n) = refl
 or_fault-none (row_unequal n k w) = refl
 
-said_or : (a b : RowFault) → fault_said (or_first a b) ≡ or_fault (fault_said a) (fault_said b)
-said_or Whole b = refl
-said_or (Missing n) b = refl
-said_or (Unequal n k w) b = refl
+said_or : (a b : Option RowFault) → fault_said (option_or a b) ≡ or_fault (fault_said a) (fault_said b)
+said_or None b = refl
+said_or (Some (Missing n)) b = refl
+said_or (Some (Unequal n k w)) b = refl
 
 module _ (w : ℕ) where
   fault-add : (n a b : ℕ) (ys : List StoredRow) → fault_from w n (a + b) ys ≡ or_fault (fault_from w n a ys) (fault_from w (n + a) b ys)
@@ -155,10 +156,7 @@ module _ (ys : List StoredRow) (y : StoredRow) (behind : rows_height ys ≤ y.nu
       let first : first_with s.first y.number k ≡ heights_in (heights_of 0 all) =
       rw h.first (sym first-is) in
       record {
-        width =
-            by-test (ltb s.width k)
-            (λ t. rw (t, width-more ys y) (omega (arith, ltb-true s.width k t, h.width)))
-            (λ t. rw (t, width-more ys y) (omega (arith, ltb-false s.width k t, h.width)));
+        width = omega (arith, width-more ys y, h.width);
         count = sym count-behind;
         first = first;
         fault =

@@ -1,5 +1,5 @@
 -- The laws of what is written. Assumes nothing.
-use Rattle.std.specs.Prelude.{ℕ, zero, suc, ◌+◌, ◌-◌, ◌/◌, ◌%◌, ◌≤◌, ◌≡◌, refl, false, length, take, replicate}
+use Rattle.std.specs.Prelude.{ℕ, zero, suc, ◌+◌, ◌-◌, ◌/◌, ◌%◌, ◌≤◌, ◌≡◌, refl, false, length, take, replicate, Option, Some, None}
 use Rattle.std.proofs.Common.{add-one, arith, sym, ap, ◌∙◌, eq-eqb, ne_eqb}
 use mathlib.Core.List.{List, [], ◌∷◌, ◌++◌, Memᴰ}
 use Rattle.std.proofs.Math.Seq.{take-append-add}
@@ -24,10 +24,8 @@ use Rattle.pgm_format.specs.Samples.{samples_of, lines_bytes, pgm_bytes}
 use Rattle.pgm_format.specs.Samples.Laws.{samples_of-append}
 use Rattle.pgm_format.specs.Shape.{LineFault, row_missing, row_unequal, padded_line, padded_lines}
 use Rattle.pgm_format.specs.Shape.{no_padding, pad_with, unless_fault, SheetPgm, no_heights, at_fault, pgm_picture, sheet_pgm}
-use Rattle.sheet_to_pgm.specs.declared.shape.RowFault.TheVariants.{Whole, Missing, Unequal}
+use Rattle.sheet_to_pgm.specs.declared.shape.RowFault.TheVariants.{Missing, Unequal}
 use Rattle.sheet_to_pgm.specs.declared.shape.LineShape.{LineShape}
-use Rattle.sheet_to_pgm.specs.declared.pads.Pads.{Pads}
-use Rattle.sheet_to_pgm.specs.declared.pads.Pads.TheVariants.{Refused, Height}
 use Rattle.sheet_to_pgm.specs.LineShape.{fault_said, ShapeOf, ShapeFound}
 use Rattle.sheet_to_pgm.specs.Written.{padding, pad_height, fault_text, reason_text, Reason, FaultFound, PictureFound}
 use Rattle.sheet_to_pgm.specs.Written.{RowSettled, LineWritten, RowBrought, lines_after}
@@ -81,7 +79,7 @@ module _ (ys : List StoredRow) {s : LineShape} (shape : ShapeOf s ys) where
   unfolding pgm_bytes
   bytes-are h = rw (shape.width, shape.count, length-lines h (rows_width ys) 0 (rows_height ys) ys)
 
-  pub pgm-none : (p : Pads) → s.width ≡ 0 → sheet_pgm (padding p) ys ≡ no_heights
+  pub pgm-none : (p : Option ℕ) → s.width ≡ 0 → sheet_pgm (padding p) ys ≡ no_heights
   unfolding sheet_pgm
   pgm-none p none = rw (eq-eqb (rows_width ys) 0 (sym shape.width ∙ none))
 
@@ -98,13 +96,13 @@ module _ (ys : List StoredRow) {s : LineShape} (shape : ShapeOf s ys) where
     unfolding sheet_pgm
     by-fault = rw (ne_eqb (rows_width ys) 0 there, shape.fault)
 
-    pub pgm-whole : s.fault ≡ Whole → sheet_pgm no_padding ys ≡ picture_with 0
+    pub pgm-whole : s.fault ≡ None → sheet_pgm no_padding ys ≡ picture_with 0
     pgm-whole e = by-fault ∙ rw e (bytes-are 0)
 
-    pub pgm-missing : (n : ℕ) → s.fault ≡ Missing n → sheet_pgm no_padding ys ≡ at_fault (row_missing n)
+    pub pgm-missing : (n : ℕ) → s.fault ≡ Some (Missing n) → sheet_pgm no_padding ys ≡ at_fault (row_missing n)
     pgm-missing n e = by-fault ∙ rw e
 
-    pub pgm-unequal : (n k w : ℕ) → s.fault ≡ Unequal n k w → sheet_pgm no_padding ys ≡ at_fault (row_unequal n k w)
+    pub pgm-unequal : (n k w : ℕ) → s.fault ≡ Some (Unequal n k w) → sheet_pgm no_padding ys ≡ at_fault (row_unequal n k w)
     pgm-unequal n k w e = by-fault ∙ rw e
 
 -- ---- what is found of a sheet
@@ -112,7 +110,7 @@ module _ {s : LineShape} (found : ShapeFound s) where
   abbrev rows : List StoredRow
   rows = stored_rows (sheet_read found.sheet).records
 
-  pub reason-none : (p : Pads) → s.width ≡ 0 → Reason p (ascii "there are no heights")
+  pub reason-none : (p : Option ℕ) → s.width ≡ 0 → Reason p (ascii "there are no heights")
   unfolding reason_text
   reason-none p none =
       record { sheet = found.sheet; accepted = found.accepted; says = rw (pgm-none rows found.shape p none) }
@@ -120,26 +118,26 @@ module _ {s : LineShape} (found : ShapeFound s) where
   wide : s.width ≤ 4096
   wide = rw found.shape.width (width-most rows (λ y m. (stored-within found.sheet y m).few))
 
-  picture-found : (p : Pads) → sheet_pgm (padding p) rows ≡ picture_with rows found.shape (pad_height p)
+  picture-found : (p : Option ℕ) → sheet_pgm (padding p) rows ≡ picture_with rows found.shape (pad_height p)
       → PictureFound p s.width s.count
   picture-found p is = record { sheet = found.sheet; accepted = found.accepted; wide = wide; picture = is }
 
   module _ (some : s.width ≡ 0 → ⊥) where
-    pub found-padded : (p : Pads) (h : ℕ) → p ≡ Height h → PictureFound p s.width s.count
-    found-padded p h e = rw e (picture-found (Height h) (pgm-padded rows found.shape some h))
+    pub found-padded : (p : Option ℕ) (h : ℕ) → p ≡ Some h → PictureFound p s.width s.count
+    found-padded p h e = rw e (picture-found (Some h) (pgm-padded rows found.shape some h))
 
-    pub found-whole : s.fault ≡ Whole → PictureFound Refused s.width s.count
-    found-whole e = picture-found Refused (pgm-whole rows found.shape some e)
+    pub found-whole : s.fault ≡ None → PictureFound None s.width s.count
+    found-whole e = picture-found None (pgm-whole rows found.shape some e)
 
-    pub fault-missing : (n : ℕ) → s.fault ≡ Missing n → FaultFound (row_missing n)
+    pub fault-missing : (n : ℕ) → s.fault ≡ Some (Missing n) → FaultFound (row_missing n)
     fault-missing n e =
         record { sheet = found.sheet; accepted = found.accepted; fault = pgm-missing rows found.shape some n e }
 
-    pub fault-unequal : (n k w : ℕ) → s.fault ≡ Unequal n k w → FaultFound (row_unequal n k w)
+    pub fault-unequal : (n k w : ℕ) → s.fault ≡ Some (Unequal n k w) → FaultFound (row_unequal n k w)
     fault-unequal n k w e =
         record { sheet = found.sheet; accepted = found.accepted; fault = pgm-unequal rows found.shape some n k w e }
 
-pub reason-fault : {f : LineFault} {text : List ℕ} → FaultFound f → text ≡ fault_text f → Reason Refused text
+pub reason-fault : {f : LineFault} {text : List ℕ} → FaultFound f → text ≡ fault_text f → Reason None text
 unfolding reason_text
 reason-fault found is = record { sheet = found.sheet; accepted = found.accepted; says = rw found.fault is }
 

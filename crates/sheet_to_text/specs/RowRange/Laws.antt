@@ -1,17 +1,14 @@
 -- The laws of the rows that are asked for. Assumes nothing.
-use Rattle.std.specs.Prelude.{ℕ, zero, suc, ◌+◌, ◌-◌, ◌/◌, ◌%◌, ◌≤◌, ◌<◌, ◌≡◌, refl, true, false, List, [], ◌∷◌, ◌++◌, length, take, drop, get_or, ltb, eqb}
+use Rattle.std.specs.Prelude.{ℕ, zero, suc, ◌+◌, ◌-◌, ◌/◌, ◌%◌, ◌≤◌, ◌<◌, ◌≡◌, refl, true, false, List, [], ◌∷◌, ◌++◌, length, take, drop, get_or, ltb, eqb, Option, Some, None}
 use Rattle.std.proofs.Math.Numerals.{add-one}
 use Rattle.std.proofs.Common.{arith, ◌∙◌, length-append, length-drop, take_at, take_all, drop-cons}
 use Rattle.std.proofs.Math.Seq.{drop-append-add, drop-length}
 use borrow.Author.Tests.{lt-ltb, le-ltb, eq-eqb, ne_eqb, ltb-true, ltb-false}
 use Rattle.row_format.specs.Lists.Laws.{by-test}
-use Rattle.text.specs.declared.read.Decimal.{Decimal}
-use Rattle.text.specs.declared.read.Decimal.TheVariants.{Number, NoNumber}
 use Rattle.text.specs.Text.{ascii, digit, decimal}
 use Rattle.text.specs.Text.Laws.{decimal_digit, decimal-more}
 use Rattle.text.specs.Number.{number_in}
 use Rattle.text.specs.Number.Laws.{number-none, number_in-decimal}
-use Rattle.sheet_to_text.specs.declared.range.RangeRead.TheVariants.{Range, NoRange}
 use Rattle.sheet_to_text.specs.declared.range.RowRange.{RowRange}
 use Rattle.sheet_to_text.specs.RowRange.{between, range_between, before_dash, range_in, is_asked}
 
@@ -30,18 +27,18 @@ unfolding before_dash
 dash-end s i h g = let e : i ≡ length s = omega arith in rw (e, drop-length s)
 
 -- ---- where there is no dash there is no range
-range_between-none : (d : Decimal) → range_between d NoNumber ≡ NoRange
-range_between-none (Number a) = refl
-range_between-none NoNumber = refl
+range_between-none : (d : Option ℕ) → range_between d None ≡ None
+range_between-none (Some a) = refl
+range_between-none None = refl
 
-pub range_none : (s : List ℕ) → before_dash s ≡ length s → range_in s ≡ NoRange
+pub range_none : (s : List ℕ) → before_dash s ≡ length s → range_in s ≡ None
 unfolding range_in
 range_none s e =
     let none = number-none 65535 (drop (suc (before_dash s)) s) (omega (arith, length-drop (suc (before_dash s)) s)) in
     rw none (range_between-none (number_in 65535 (take (before_dash s) s)))
 
 -- by what stands before the dash and behind it
-pub range-is : (s : List ℕ) {k : ℕ} {a b : Decimal} → k ≡ before_dash s → a ≡ number_in 65535 (take k s)
+pub range-is : (s : List ℕ) {k : ℕ} {a b : Option ℕ} → k ≡ before_dash s → a ≡ number_in 65535 (take k s)
     → b ≡ number_in 65535 (take (length s - (k + 1)) (drop (k + 1) s)) → range_between a b ≡ range_in s
 unfolding range_in
 range-is s {k} dash first last =
@@ -76,7 +73,7 @@ decimal-dash (suc f) n h =
     (before-append (decimal (n / 10)) (digit (n % 10) ∷ []) front
     ∙ omega (arith, digit-dash (n % 10), length-append (decimal (n / 10)) (digit (n % 10) ∷ []))))
 
-pub range_back : (a b : ℕ) → a ≤ b → b ≤ 65535 → range_in (decimal a ++ (ascii "-" ++ decimal b)) ≡ Range (between a b)
+pub range_back : (a b : ℕ) → a ≤ b → b ≤ 65535 → range_in (decimal a ++ (ascii "-" ++ decimal b)) ≡ Some (between a b)
 unfolding range_in before_dash
 range_back a b order most =
     let dash : before_dash (decimal a ++ (ascii "-" ++ decimal b)) ≡ length (decimal a) =

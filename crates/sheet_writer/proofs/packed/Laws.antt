@@ -21,9 +21,7 @@ use Rattle.row_format.specs.Row.{row_bits, row_bytes}
 use Rattle.row_format.specs.Calls.{pack_number, packed, Packable}
 use Rattle.row_format.proofs.Calls.Laws.{packable, packed-done, packed-number}
 use Rattle.row_format.proofs.Theorems.Memory.{packed-kept, packed-within}
-use Rattle.row_format.specs.Table.Laws.{accepted-table}
 use Rattle.row_pixels.specs.Laws.{length-halves}
-use Rattle.row_packer.specs.Write.Laws.{row_bits-most}
 use Rattle.sheet_format.specs.declared.SheetState.{SheetState}
 use Rattle.sheet_format.specs.declared.RecordWritten.{RecordWritten}
 use Rattle.sheet_format.specs.Context.{Heading, Context, table_for, state_of, context_of}
@@ -125,9 +123,6 @@ module _ {h : Heading} {c : Context} {x m : List ℕ} {start : ℕ} {r : Answer}
 
     pub pack-few : length x / 2 ≤ 4096
     pack-few = omega (arith, fine.few, length-halves x)
-
-    pub pack-most : r.count ≤ 110592
-    pack-most = rw bits_are (row_bits-most (accepted-table (table_for c h) fine.table) x refl pack-few)
 
     -- no room for the fields: nothing was packed, nor had it room
     pub pack-short : start < 10

@@ -3,6 +3,9 @@ use Rattle.std.specs.Prelude.{ℕ, zero, suc, ◌+◌, ◌*◌, ◌≤◌, ◌<�
 use Rattle.std.proofs.Common.{arith, sym, ap, ◌∙◌, append_assoc, length-append, take_at, ltb-true, ltb-false, le-ltb}
 use Rattle.std.proofs.Math.Seq.{drop-append-add}
 use Rattle.std.proofs.lemmas.Bool.{not-false, eqb-false}
+use Rattle.answer.specs.declared.refusal.Refusal.{Refusal}
+use Rattle.answer.specs.Refusal.{refusal_number}
+use Rattle.answer.specs.Refusal.Laws.{refusal_not_done}
 use Rattle.answer.specs.Outcome.{Outcome, outcome, ◌or_else◌, refuse_if, unless}
 use Rattle.answer.specs.Outcome.Laws.{refuse_if-zero, less_number-zero, less_number-none, or_else-zero-left, or_else-zero-right, unless-part}
 use Rattle.row_format.specs.Lists.{any, least}
@@ -14,6 +17,10 @@ use Rattle.shelf_format.proofs.Shelf.Laws.{Own, own, length-filled, table-bytes,
 use Rattle.shelf_format.specs.Calls.{short_number, tables_number, shelved, not_changed, changed, first_free, put_place, offer_number, put_refusal, shelf_put, held_number, remove_refusal, shelf_removed, use_refusal}
 
 -- ---- any call: refused by a number, or done
+-- a refusal's number is no 0
+pub refusal_some : (e : Refusal) → refusal_number e ≡ 0 → ⊥
+refusal_some e none = omega (arith, refusal_not_done e, none)
+
 module _ {A : Type 0} {n : ℕ} (refusal : ℕ → A) (done : A) where
   pub refuses : {e : ℕ} → e ≡ n → (e ≡ 0 → ⊥) → refusal e ≡ unless n refusal done
   refuses {e = zero} is some = absurd (some refl)

@@ -4,7 +4,6 @@ use Rattle.std.proofs.Common.{arith, sym, ap, ◌∙◌, subst}
 use borrow.Author.Tests.{lt-ltb, eqb-true, eq-eqb, ne_eqb}
 use Rattle.answer.specs.Outcome.{refuse_if}
 use Rattle.answer.specs.Outcome.Laws.{refuse_if-given}
-use Rattle.row_format.specs.Lists.{least}
 use Rattle.row_format.specs.Lists.Laws.{by-test, true-false, least-most}
 use Rattle.row_format.specs.Table.{table_number}
 use Rattle.shelf_format.specs.declared.PlaceChanged.{PlaceChanged}

@@ -10,7 +10,6 @@ use Rattle.std.proofs.lemmas.List.{get_or-replicate}
 use borrow.Author.Tests.{lt-ltb}
 use Rattle.answer.specs.Outcome.{◌or_else◌}
 use Rattle.answer.specs.Outcome.Laws.{less_number-zero, or_else-zero-left, or_else-zero-right}
-use Rattle.row_format.specs.Calls.{room}
 use Rattle.row_format.specs.Table.{table_number}
 use Rattle.shelf_format.specs.Shelf.{place, filled, is_free, table_in, is_party, is_common, is_own, may_use, view}
 use Rattle.shelf_format.proofs.Shelf.Laws.{own, view-usable, table_filled, taken-filled, free-filled}

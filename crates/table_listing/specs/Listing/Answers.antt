@@ -23,7 +23,7 @@ use Rattle.answer.specs.Outcome.Laws.{
 use Rattle.row_format.specs.Lists.Laws.{by-test}
 use Rattle.row_format.specs.Table.{table_number}
 use Rattle.row_format.proofs.Theorems.Numbers.{table_number-in}
-use Rattle.table_listing.specs.declared.ListedLines.{ListedLines}
+use Rattle.table_listing.specs.Listed.{ListedLines}
 use Rattle.table_listing.specs.Listing.{
   string_lines,
   lines,

@@ -3,7 +3,7 @@ use Rattle.std.specs.Prelude.{ℕ, ◌+◌, ◌≤◌, ◌≡◌, List, length, 
 use Rattle.std.proofs.Common.{sym, ap, ◌∙◌}
 use Rattle.answer.specs.Outcome.{Outcome, outcome}
 use Rattle.row_format.specs.Table.{table_number}
-use Rattle.table_listing.specs.declared.ListedLines.{ListedLines}
+use Rattle.table_listing.specs.Listed.{ListedLines}
 use Rattle.table_listing.specs.Listing.{lines, joined, block}
 use Rattle.table_listing.specs.Listing.Answers.{block-bytes, block-text, block_room, accepted-within, accepted-ended}
 

@@ -1,5 +1,5 @@
 -- The twelve places of an opened shelf, written one after another. Assumes nothing.
-use Prim.Native.Nat.{ℕ, zero, suc, ◌+◌, ◌-◌, ◌*◌, ◌≤◌, ◌<◌}
+use Prim.Native.Nat.{ℕ, zero, suc, ◌+◌, ◌*◌, ◌≤◌, ◌<◌}
 use native.Mathlib.Nat.{zero-add, suc-add}
 use native.Mathlib.Omega.{arith}
 use mathlib.Core.Path.{◌≡◌, refl, sym, ap, ◌∙◌}
@@ -46,10 +46,10 @@ pub tables-first : (tb : List ℕ) (tbs : List (List ℕ)) {e : ℕ} → e ≡ t
 unfolding tables_number
 tables-first tb tbs is some = given-first (table_number tb) _ is some
 
-pub tables-next : (tb : List ℕ) (tbs : List (List ℕ)) {d e : ℕ} → d ≡ table_number tb → d ≡ 0 → e ≡ tables_number tbs
+pub tables-next : (tb : List ℕ) (tbs : List (List ℕ)) {e : ℕ} → 0 ≡ table_number tb → e ≡ tables_number tbs
     → e ≡ tables_number (tb ∷ tbs)
 unfolding tables_number
-tables-next tb tbs d none is = given-next (sym d ∙ none) is
+tables-next tb tbs none is = given-next (sym none) is
 
 pub tables-last : (tb : List ℕ) {e : ℕ} → e ≡ table_number tb → e ≡ tables_number (tb ∷ [])
 unfolding tables_number
@@ -99,10 +99,8 @@ regroup : (a b c d z r : List ℕ) → (a ++ b ++ c ++ d) ++ (z ++ r) ≡ (a ++ 
 regroup a b c d z r = simp append_assoc
 
 -- all of a part is cleared
-pub cleared-part : (m : List ℕ) (n : ℕ) {z : List ℕ} → length m ≡ n → z ≡ take 0 m ++ replicate (length m - 0) 0 → z ≡ replicate n 0
-cleared-part m n size is =
-    let all : length m - 0 ≡ n = omega (arith, size) in
-    is ∙ ap (λ (k : ℕ). replicate {A = ℕ} k 0) all
+pub cleared-part : (m : List ℕ) (n : ℕ) {z : List ℕ} → length m ≡ n → z ≡ replicate (length m) 0 → z ≡ replicate n 0
+cleared-part m n size is = is ∙ ap (λ (k : ℕ). replicate {A = ℕ} k 0) size
 
 -- ---- the whole shelf
 pub shelf-filled : (t0 t1 t2 t3 : List ℕ) {s x z : List ℕ} → Filled 4 (filled t0 ++ filled t1 ++ filled t2 ++ filled t3) s x

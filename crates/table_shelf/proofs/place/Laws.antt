@@ -1,6 +1,7 @@
 -- A place of the shelf as a part of it, its table, and the refusals of a call that names it. Assumes nothing.
-use Prim.Native.Nat.{ℕ, ◌+◌, ◌-◌, ◌*◌, ◌≤◌, ◌<◌}
+use Prim.Native.Nat.{ℕ, min, ◌+◌, ◌-◌, ◌*◌, ◌≤◌, ◌<◌}
 use native.Mathlib.Omega.{arith}
+use native.Mathlib.Decide.{dec_lt}
 use mathlib.Core.Path.{◌≡◌, sym, ap, ◌∙◌}
 use mathlib.Core.Bool.{Bool, true, false}
 use mathlib.Core.List.{List}
@@ -24,7 +25,7 @@ module _ (s : List ℕ) (i : ℕ) (inside : 32772 * i + 32772 ≤ length s) wher
   unfolding place
   size = length-take-le 32772 (drop (32772 * i) s) (omega (arith, inside, length-drop (32772 * i) s))
 
-  pub ends-place : 8187 < table_size (words_of (place s i)) → TableEnds s i (32772 * i + 32772)
+  ends-place : 8187 < table_size (words_of (place s i)) → TableEnds s i (32772 * i + 32772)
   unfolding table_in
   ends-place long = record {
     least = omega arith;
@@ -34,7 +35,7 @@ module _ (s : List ℕ) (i : ℕ) (inside : 32772 * i + 32772 ≤ length s) wher
         ∙ sym (take_all (24 + 4 * table_size (words_of (place s i))) (place s i) (omega (arith, size, long)));
   }
 
-  pub ends-table : (n : ℕ) → n ≡ table_size (words_of (place s i)) → n ≤ 8187 → TableEnds s i (32772 * i + 24 + 4 * n)
+  ends-table : (n : ℕ) → n ≡ table_size (words_of (place s i)) → n ≤ 8187 → TableEnds s i (32772 * i + 24 + 4 * n)
   unfolding table_in place
   ends-table n is few =
       let bytes : 32772 * i + 24 + 4 * n - 32772 * i ≡ 24 + 4 * n = omega arith in
@@ -47,11 +48,25 @@ module _ (s : List ℕ) (i : ℕ) (inside : 32772 * i + 32772 ≤ length s) wher
             ∙ ap (λ (k : ℕ). take (24 + 4 * k) (take 32772 (drop (32772 * i) s))) is;
       }
 
+  -- the lesser of the two
+  pub ends : {n bytes : ℕ} → n ≡ table_size (words_of (place s i)) → bytes ≡ min (24 + 4 * n) 32772
+      → TableEnds s i (32772 * i + bytes)
+  ends {n} {bytes} is least = by-split (dec_lt 8187 n)
+    where
+      by-split : Dec (8187 < n) → TableEnds s i (32772 * i + bytes)
+      by-split (yes long) =
+          let all : bytes ≡ 32772 = omega (arith, least, long) in
+          rw all (ends-place (omega (arith, is, long)))
+      by-split (no few) =
+          let some : 32772 * i + bytes ≡ 32772 * i + 24 + 4 * n = omega (arith, least, few) in
+          rw some (ends-table n is (omega (arith, few)))
+
 -- ---- refusals
 module _ (s b : List ℕ) (long : 393264 ≤ length s) where
-  pub held-allowed : (may : Bool) → may ≡ true → refuse_if (is_free b) 23 ≡ (short_number s or_else held_number may b)
+  pub held-allowed : (may : Bool) → may ≡ true → {free : Bool} → is_free b ≡ free
+      → refuse_if free 23 ≡ (short_number s or_else held_number may b)
   unfolding held_number
-  held-allowed may yes' = rw (short_none s long, yes')
+  held-allowed may yes' is = rw (short_none s long, yes', is)
 
   pub held-refused : (may : Bool) → may ≡ false → 24 ≡ (short_number s or_else held_number may b)
   unfolding held_number

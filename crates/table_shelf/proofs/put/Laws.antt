@@ -11,11 +11,10 @@ use borrow.Author.Tests.{lt-ltb, le-ltb, eq-eqb, ne_eqb}
 use Rattle.answer.specs.Outcome.{outcome, ◌or_else◌, refuse_if}
 use Rattle.answer.specs.Outcome.Laws.{or_else-assoc, or_else-zero-left, or_else-zero-right, less_number-zero, given-first, given-next}
 use Rattle.row_format.specs.Table.{table_number}
-use Rattle.shelf_format.specs.declared.PlaceChanged.{PlaceChanged}
 use Rattle.shelf_format.specs.Shelf.{place, placed, filled, is_free, is_party, first_own, view}
 use Rattle.shelf_format.proofs.Shelf.Laws.{table-bytes}
 use Rattle.shelf_format.specs.Calls.{short_number, not_changed, first_free, put_place, offer_number, put_refusal, shelf_put, changed}
-use Rattle.shelf_format.proofs.Calls.Laws.{short_none, refuses, passes, least_at, first_free-places, first_free-most, Offered, offered}
+use Rattle.shelf_format.proofs.Calls.Laws.{short_none, refuses, passes, least_at, first_free-places, Offered, offered}
 
 -- ---- before the shelf is looked through
 module _ (s : List ℕ) (p : ℕ) (tb : List ℕ) where
@@ -36,12 +35,11 @@ module _ (s : List ℕ) (p : ℕ) (tb : List ℕ) where
   whole = sym (or_else-assoc (short_number s) (offer_number p tb) (refuse_if (eqb (first_free (view p s) p) 4) 22))
 
   -- refused before
-  pub put-before : {e : ℕ} {r : PlaceChanged} → e ≡ (short_number s or_else offer_number p tb) → (e ≡ 0 → ⊥) → r ≡ not_changed e
-      → outcome r s ≡ shelf_put s p tb
+  pub put-before : {e : ℕ} → e ≡ (short_number s or_else offer_number p tb) → (e ≡ 0 → ⊥)
+      → outcome (not_changed e) s ≡ shelf_put s p tb
   unfolding shelf_put
-  put-before {e} is some answer =
-      ap (λ a. outcome a s) answer
-      ∙ refuses (λ k. outcome (not_changed k) s) (changed s (put_place (view p s) p) (filled tb))
+  put-before {e} is some =
+      refuses (λ k. outcome (not_changed k) s) (changed s (put_place (view p s) p) (filled tb))
       (given-first _ _ is some ∙ sym whole) some
 
   module _ (none : (short_number s or_else offer_number p tb) ≡ 0) where
@@ -59,25 +57,20 @@ module _ (s : List ℕ) (p : ℕ) (tb : List ℕ) where
     table = (table-bytes tb offer.table).most
 
     -- refused for a full shelf, or done
-    module _ {k : ℕ} (is : k ≡ first_free (view p s) p) where
-      pub put_full : {r : PlaceChanged} → k ≡ 4 → r ≡ not_changed 22 → outcome r s ≡ shelf_put s p tb
-      unfolding shelf_put
-      put_full full answer =
-          ap (λ a. outcome a s) answer
-          ∙ refuses (λ e. outcome (not_changed e) s) (changed s (put_place (view p s) p) (filled tb))
-          (given-next none (rw (eq-eqb (first_free (view p s) p) 4 (sym is ∙ full))) ∙ sym whole) (λ e. omega (arith, e))
+    pub put_full : first_free (view p s) p ≡ 4 → outcome (not_changed 22) s ≡ shelf_put s p tb
+    unfolding shelf_put
+    put_full full =
+        refuses (λ e. outcome (not_changed e) s) (changed s (put_place (view p s) p) (filled tb))
+        (given-next none (rw (eq-eqb (first_free (view p s) p) 4 full)) ∙ sym whole) (λ e. omega (arith, e))
 
-      pub put-most : (k ≡ 4 → ⊥) → k < 4
-      put-most some = omega (arith, is, first_free-most (view p s) p, some)
-
-      pub put-done : {x : List ℕ} → (k ≡ 4 → ⊥) → x ≡ placed s (first_own p + k) (filled tb)
-          → outcome (record { number = 0; place = first_own p + k }) x ≡ shelf_put s p tb
-      unfolding shelf_put
-      put-done some left =
-          ap (λ m. outcome (record { number = 0; place = first_own p + k }) m) left
-          ∙ ap (λ (j : ℕ). changed s (first_own p + j) (filled tb)) is
-          ∙ passes (λ e. outcome (not_changed e) s) (changed s (put_place (view p s) p) (filled tb))
-          (whole ∙ rw (none, ne_eqb (first_free (view p s) p) 4 (λ e. some (is ∙ e))))
+    pub put-done : {k : ℕ} → k ≡ first_free (view p s) p → k < 4 → {x : List ℕ} → x ≡ placed s (first_own p + k) (filled tb)
+        → outcome (record { number = 0; place = first_own p + k }) x ≡ shelf_put s p tb
+    unfolding shelf_put
+    put-done {k} is few left =
+        ap (λ m. outcome (record { number = 0; place = first_own p + k }) m) left
+        ∙ ap (λ (j : ℕ). changed s (first_own p + j) (filled tb)) is
+        ∙ passes (λ e. outcome (not_changed e) s) (changed s (put_place (view p s) p) (filled tb))
+        (whole ∙ rw (none, ne_eqb (first_free (view p s) p) 4 (λ e. omega (arith, is, e, few))))
 
 -- ---- looking for a free place
 -- those before the k-th are taken

@@ -5,7 +5,6 @@ use mathlib.Core.Path.{◌≡◌, ap, ◌∙◌}
 use mathlib.Core.List.{List, []}
 use lib.ListN.{length}
 use Rattle.answer.specs.Outcome.{outcome}
-use Rattle.shelf_format.specs.declared.PlaceChanged.{PlaceChanged}
 use Rattle.shelf_format.specs.Shelf.{placed, filled, is_own, view}
 use Rattle.shelf_format.specs.Calls.{not_changed, changed, remove_refusal, shelf_removed}
 use Rattle.shelf_format.proofs.Calls.Laws.{refuses, passes, held, own-few}
@@ -14,10 +13,9 @@ module _ (s : List ℕ) (p i : ℕ) where
   abbrev number : ℕ
   number = remove_refusal s p i
 
-  pub remove-refused : {e : ℕ} {r : PlaceChanged} → e ≡ number → (e ≡ 0 → ⊥) → r ≡ not_changed e → outcome r s ≡ shelf_removed s p i
+  pub remove-refused : {e : ℕ} → e ≡ number → (e ≡ 0 → ⊥) → outcome (not_changed e) s ≡ shelf_removed s p i
   unfolding shelf_removed
-  remove-refused is some answer =
-      ap (λ a. outcome a s) answer ∙ refuses (λ k. outcome (not_changed k) s) (changed s i (filled [])) is some
+  remove-refused is some = refuses (λ k. outcome (not_changed k) s) (changed s i (filled [])) is some
 
   module _ (none : number ≡ 0) where
     pub inside : 32772 * i + 32772 ≤ length s

@@ -44,12 +44,10 @@ module _ (s : List ℕ) (p i : ℕ) where
         omega (arith, h.long, use-few p i h.allowed)
 
     module _ (r : ℕ) (ends : TableEnds s i r) where
-      abbrev table : List ℕ
-      table = take (r - 32772 * i) (drop (32772 * i) s)
-
-      seen : table ≡ table_in (view p s i)
+      pub seen : take (r - 32772 * i) (drop (32772 * i) s) ≡ table_in (view p s i)
       seen = ends.table ∙ ap table_in (sym (view-usable p i s (held (may_use p i) s (view p s i) none).allowed))
 
+    module _ {table : List ℕ} (seen : table ≡ table_in (view p s i)) where
       pub pack-done : (pb m : List ℕ) {o : Outcome Answer} → o ≡ packed table pb m → o ≡ shelf_packed s p i pb m
       unfolding shelf_packed
       pack-done pb m is = is ∙ ap (λ t. packed t pb m) seen ∙ passes (λ k. refused k m) (packed (table_in (view p s i)) pb m) none

@@ -8,8 +8,7 @@ use Rattle.row_format.specs.Lists.Laws.{by-test}
 use Rattle.row_format.specs.Table.{table_number}
 use Rattle.row_format.proofs.Theorems.Numbers.{table_number-in}
 use Rattle.row_reader.specs.declared.step.Place.{Place}
-use Rattle.row_reader.specs.declared.step.ItemRead.{ItemRead}
-use Rattle.row_reader.specs.Step.{impossible, item_read}
+use Rattle.row_reader.specs.Step.{ItemRead, impossible, item_read}
 use Rattle.row_reader.specs.Step.Laws.{possible, item_read-in}
 use Rattle.row_reader.specs.Theorems.{reader-impossible, reader-possible}
 use Rattle.tahliruz.specs.declared.item.ReaderPlace.{ReaderPlace}

@@ -1,5 +1,7 @@
--- The laws of the test on bytes: byte by byte, and that it tells whether two runs are the same. Assumes nothing.
-use Rattle.std.specs.Prelude.{ℕ, suc, ◌+◌, ◌≤◌, ◌<◌, ◌≡◌, refl, true, false, List, [], ◌∷◌, length, drop, get_or, eqb}
+-- The laws of the test on bytes: byte by byte, that it tells whether two runs are the same, and that it is what `==` of two slices
+-- says. Assumes nothing.
+use Rattle.std.specs.Prelude.{ℕ, suc, ◌+◌, ◌≤◌, ◌<◌, ◌≡◌, refl, true, false, List, [], ◌∷◌, length, drop, get_or, eqb, nat_eq}
+use Rattle.std.specs.Cmp.Lexicographic.{pointwise}
 use Rattle.std.proofs.Math.Numerals.{add-one}
 use Rattle.std.proofs.Common.{arith, ap, length-drop}
 use Rattle.std.proofs.Math.Seq.{drop-cons}
@@ -51,3 +53,14 @@ pub same_self : (a : List ℕ) → same_bytes a a ≡ true
 unfolding same_bytes
 same_self [] = refl
 same_self (x ∷ s) = rw (eq-eqb x x refl) (same_self s)
+
+-- ---- what `==` of two slices says
+pub same_pointwise : (a b : List ℕ) → pointwise nat_eq a b ≡ same_bytes a b
+unfolding same_bytes
+same_pointwise [] [] = refl
+same_pointwise [] (y ∷ t) = refl
+same_pointwise (x ∷ s) [] = refl
+same_pointwise (x ∷ s) (y ∷ t) =
+    by-test (eqb x y)
+    (λ e. rw e (same_pointwise s t))
+    (λ e. rw e)

@@ -1,10 +1,7 @@
 use native.Mathlib.Omega.{arith}
 use Rattle.adaptive.specs.Number.Laws.{pow-128-le}
-use Rattle.adaptive.proofs.write.LaterBytesTurn.{counted_none, counted-found, counted-more, counted-all}
+use Rattle.adaptive.proofs.write.LaterBytesTurn.{counted-found, counted-more, counted-all}
 use Rattle.adaptive.proofs.write.later_bytes.Goals as goal
-
-pub loop-k-init : goal.loop-k-init
-loop-k-init c = counted_none c.args.first c.args.m c.requires
 
 pub returns-then-m-top : goal.returns-then-m-top
 returns-then-m-top c = counted-found c.loop-k.invariant c.if-m-top.true

@@ -1,11 +1,8 @@
 use native.Mathlib.Omega.{arith}
-use mathlib.Core.Path.{refl, ◌∙◌}
+use mathlib.Core.Path.{◌∙◌}
 use lib.ListN.{length-set}
 use Rattle.adaptive.proofs.write.PutBytesTurn.{put_last, put-more, put_all}
 use Rattle.adaptive.proofs.write.put_bytes.Goals as goal
-
-pub loop-i-init : goal.loop-i-init
-loop-i-init c = (simp length-set (omega arith), refl, refl)
 
 pub loop-i-preserved : goal.loop-i-preserved
 loop-i-preserved c = (
@@ -13,9 +10,6 @@ loop-i-preserved c = (
   length-set c.loop-i.out _ _ ∙ c.loop-i.invariant.1,
   put-more c.loop-i.i c.loop-i.rest c.loop-i.out _ c.loop-i-test.true (omega arith) c.loop-i.invariant.2,
 )
-
-pub shape_of-out : goal.shape_of-out
-shape_of-out c = c.loop-i.invariant.1 ∙ simp length-set
 
 pub returns : goal.returns
 returns c = put_all c.loop-i.i c.loop-i.rest c.loop-i.out _ c.loop-i-test.false c.loop-i.invariant.2

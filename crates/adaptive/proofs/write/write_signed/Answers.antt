@@ -15,6 +15,6 @@ pub returns : goal.returns
 unfolding signed_written
 returns c = let few : c.later_bytes-k.result ≡ fewest signed_type c.args.value =
     c.later_bytes-k.ensures ∙ ap (later_bytes 4 64) (passed mag c.ranges.value c.magnitude.ensures) in
-    c.write_bytes.ensures
+    (rw c.into.ensures c.write_bytes.ensures)
     ∙ ap (λ b. written b c.args.out.now)
     (data_bytes-shortest signed_type c.args.value few (passed twos c.ranges.value c.data_bits.ensures))

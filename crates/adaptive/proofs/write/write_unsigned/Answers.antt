@@ -11,5 +11,5 @@ write_bytes-requires c = rw c.later_bytes-k.ensures (later_bytes-le 4 _ _)
 
 pub returns : goal.returns
 unfolding unsigned_written
-returns c = c.write_bytes.ensures
+returns c = (rw c.into.ensures c.write_bytes.ensures)
     ∙ ap (λ b. written b c.args.out.now) (data_bytes-shortest unsigned_type c.args.value c.later_bytes-k.ensures refl)

@@ -1,6 +1,5 @@
 -- `bitstream::msb_field::msb_field` meets its contract: four bytes from the byte of the place on hold the bits. Assumes nothing.
-use Prim.Native.Nat.{◌/◌, ◌%◌, ◌^◌}
-use native.Mathlib.Nat.{mod-lt}
+use Prim.Native.Nat.{◌/◌, ◌%◌}
 use native.Mathlib.Omega.{arith}
 use lib.ListN.{drop}
 use lib.Pow.{pow_pos}
@@ -17,9 +16,6 @@ above-ahead-requires c = let rest = drop (c.args.at / 8) c.args.s.now in
       low_bound = above-fits n 32 c.four_or_zero-four.result 0 (pow_pos n)
           (rw c.four_or_zero-four.ensures (four-lt (msb_bits_of rest) (below-msb_bits_of rest))) (omega arith) (omega arith);
     }
-
-pub above-requires : goal.above-requires
-above-requires c = record { n_bound = omega arith; low_bound = above-fits c.args.n 32 (c.above-ahead.result % 2 ^ 32) 0 (pow_pos c.args.n) (mod-lt c.above-ahead.result (pow_pos 32)) (omega arith) (omega arith) }
 
 pub returns : goal.returns
 returns c = rw (c.above.ensures, c.above-ahead.ensures)

@@ -1,11 +1,7 @@
 -- `bitstream::msb_writer::put` meets its contract: either the register has room, or its first word is stored. Assumes nothing.
 use native.Mathlib.Omega.{arith}
-use Rattle.bitstream.specs.Bits.Laws.{above-fits}
 use Rattle.bitstream.proofs.msb_writer.Laws.{put-kept, put-stored}
 use Rattle.bitstream.proofs.msb_writer.put.Goals as goal
-
-pub above-acc-requires : goal.above-acc-requires
-above-acc-requires c = record { n_bound = c.requires.msb_ready.most; low_bound = above-fits c.args.n c.args.w.count c.args.w.acc c.args.v c.requires.v_bound c.requires.msb_ready.good.low c.requires.msb_ready.most (omega arith) }
 
 pub returns-then-count-lt32 : goal.returns-then-count-lt32
 returns-then-count-lt32 c = rw c.above-acc.ensures

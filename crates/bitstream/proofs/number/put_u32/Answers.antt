@@ -1,17 +1,12 @@
--- `bitstream::number::put_u32` meets its contract: four stores are four bytes written over. Assumes nothing.
-use native.Mathlib.Omega.{arith}
-use lib.ListN.{length-set}
-use Rattle.bitstream.proofs.number.Laws.{put_four}
+-- `bitstream::number::put_u32` meets its contract: four bytes are written over. Assumes nothing.
+use Rattle.std.proofs.Common.{◌∙◌, sym}
+use Rattle.bitstream.specs.Bits.{digits, bytes_of}
+use Rattle.bitstream.specs.Bits.Laws.{length_cut}
+use Rattle.bitstream.specs.Memory.Part.{part-overwritten}
+use Rattle.bitstream.proofs.number.Laws.{four_bytes_lem}
 use Rattle.bitstream.proofs.number.put_u32.Goals as goal
 
-pub bounds-s-at-2 : goal.bounds-s-at-2
-bounds-s-at-2 c = simp length-set (omega arith)
-
-pub bounds-s-at-3 : goal.bounds-s-at-3
-bounds-s-at-3 c = simp length-set (omega arith)
-
-pub bounds-s-at-4 : goal.bounds-s-at-4
-bounds-s-at-4 c = simp length-set (omega arith)
-
 pub returns : goal.returns
-returns c = put_four c.args.s.now c.args.at c.args.v c.requires
+returns c =
+    rw (c.copy_from_slice.ensures.after ∙ c.to_le_bytes.ensures ∙ sym (four_bytes_lem c.args.v))
+    (part-overwritten c.args.at 4 c.args.s.now (bytes_of 4 (digits 32 c.args.v)) (length_cut 8 4 (digits 32 c.args.v)))

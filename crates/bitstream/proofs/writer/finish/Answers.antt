@@ -6,9 +6,6 @@ use Rattle.bitstream.proofs.writer.finish.Goals as goal
 pub returns-then-count-eq0 : goal.returns-then-count-eq0
 returns-then-count-eq0 c = finish-whole c.args.out.now c.args.w c.requires c.if-count-eq0.true
 
-pub put_u32-requires : goal.put_u32-requires
-put_u32-requires c = omega arith
-
 pub returns : goal.returns
 returns c = rw c.put_u32.ensures
     (finish-stored c.args.out.now c.args.w c.requires (λ e. omega arith))

@@ -1,11 +1,7 @@
 -- `bitstream::writer::put` meets its contract: either the register has room, or its low word is stored. Assumes nothing.
 use native.Mathlib.Omega.{arith}
-use Rattle.bitstream.specs.Bits.Laws.{above-fits}
 use Rattle.bitstream.proofs.writer.Laws.{put-kept, put-stored}
 use Rattle.bitstream.proofs.writer.put.Goals as goal
-
-pub above-acc-requires : goal.above-acc-requires
-above-acc-requires c = record { n_bound = c.requires.ready.good.few; low_bound = above-fits c.args.w.count c.args.n c.args.v c.args.w.acc c.requires.ready.good.low c.requires.v_bound c.requires.ready.good.few c.requires.ready.most }
 
 pub returns-then-count-lt32 : goal.returns-then-count-lt32
 returns-then-count-lt32 c = rw c.above-acc.ensures

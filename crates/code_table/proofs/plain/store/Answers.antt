@@ -1,4 +1,4 @@
-use Rattle.code_table.proofs.plain.StoreTurn.{storing-none, storing-more, storing-all}
+use Rattle.code_table.proofs.plain.StoreTurn.{storing-none, storing-more}
 use Rattle.code_table.proofs.plain.store.Goals as goal
 
 pub loop-i-init : goal.loop-i-init
@@ -8,10 +8,3 @@ pub loop-i-preserved : goal.loop-i-preserved
 loop-i-preserved c = rw c.put_u32.ensures
     (storing-more c.args.words.now c.args.out.now c.requires c.loop-i.out c.loop-i.i
     c.loop-i.invariant c.loop-i-test.true)
-
-pub shape_of-out : goal.shape_of-out
-shape_of-out c = c.loop-i.invariant.size
-
-pub returns : goal.returns
-returns c = storing-all c.args.words.now c.args.out.now c.requires c.loop-i.out
-    c.loop-i.i c.loop-i.invariant c.loop-i-test.false

@@ -5,4 +5,4 @@ use lib.Dec.{leb}
 use Rattle.delta_reader.proofs.data.data_ends.Goals as goal
 
 pub returns : goal.returns
-returns c = ap (λ (n : ℕ). leb n c.args.at.0) c.elements.ensures
+returns c = ap (λ (n : ℕ). leb n c.args.at.0) c.count.ensures

@@ -12,12 +12,6 @@ overflow_add-at c = record { fits = omega (arith, c.requires.marks, c.loop-i-tes
 pub put_element-requires : goal.put_element-requires
 put_element-requires c = record { at_in_bounds = omega (arith, c.requires.row, c.loop-i.invariant.long.row, c.loop-i-test.true); at_in_bounds_2 = omega (arith, c.requires.marks, c.loop-i.invariant.long.marks, c.loop-i-test.true) }
 
-pub overflow_add-i : goal.overflow_add-i
-overflow_add-i c = record { fits = omega (arith, c.loop-i-test.true) }
-
-pub loop-i-smaller : goal.loop-i-smaller
-loop-i-smaller c = omega (arith, c.loop-i-test.true)
-
 pub loop-i-preserved : goal.loop-i-preserved
 loop-i-preserved c = alike-again c.requires c.loop-i.invariant c.loop-i-test.true c.put_element.ensures
     (record { row = c.put_element.auto.row; marks = c.put_element.auto.marks })

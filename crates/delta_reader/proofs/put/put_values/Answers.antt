@@ -4,6 +4,7 @@ use Prim.Native.Nat.{zero-le}
 use native.Mathlib.Omega.{arith}
 use lib.ListN.{length-drop}
 use Rattle.delta_reader.specs.Puts.Laws.{as_long, puts_none, of-drop, values-again, values-all}
+use Rattle.delta_reader.specs.Offset.Laws.{width_of}
 use Rattle.delta_reader.proofs.put.put_values.Goals as goal
 
 pub loop-i-init : goal.loop-i-init
@@ -13,23 +14,17 @@ pub overflow_add-at : goal.overflow_add-at
 overflow_add-at c = record { fits = omega (arith, c.requires.room_for.marks, c.loop-i-test.true) }
 
 pub value_at-requires : goal.value_at-requires
-value_at-requires c = let all = elements_of c.args.bits c.args.value.now in
-    record { width = c.requires.width; i_in_bounds = omega (arith, c.requires.count_in_bounds, c.loop-i-test.true, length-drop c.args.from.0 all) }
+value_at-requires c = let all = elements_of c.args.value.bits c.args.value.bytes.now in
+    omega (arith, c.requires.count_in_bounds, c.loop-i-test.true, length-drop c.args.from.0 all)
 
 pub put_element-requires : goal.put_element-requires
 put_element-requires c = record { at_in_bounds = omega (arith, c.requires.room_for.row, c.loop-i.invariant.long.row, c.loop-i-test.true); at_in_bounds_2 = omega (arith, c.requires.room_for.marks, c.loop-i.invariant.long.marks, c.loop-i-test.true) }
 
-pub overflow_add-i : goal.overflow_add-i
-overflow_add-i c = record { fits = omega (arith, c.loop-i-test.true) }
-
-pub loop-i-smaller : goal.loop-i-smaller
-loop-i-smaller c = omega (arith, c.loop-i-test.true)
-
 pub loop-i-preserved : goal.loop-i-preserved
-loop-i-preserved c = let all = elements_of c.args.bits c.args.value.now in
+loop-i-preserved c = let all = elements_of c.args.value.bits c.args.value.bytes.now in
     let value = of-drop all c.args.from.0 c.loop-i.i c.value_at.ensures in
     values-again (drop c.args.from.0 all) c.requires.room_for c.loop-i.invariant
-    c.loop-i-test.true c.requires.count_in_bounds c.requires.width value c.put_element.ensures
+    c.loop-i-test.true c.requires.count_in_bounds (width_of c.args.value.bits c.args.value.width) value c.put_element.ensures
     (record { row = c.put_element.auto.row; marks = c.put_element.auto.marks })
 
 pub shape_of-row : goal.shape_of-row
@@ -39,5 +34,5 @@ pub shape_of-marks : goal.shape_of-marks
 shape_of-marks c = c.loop-i.invariant.long.marks
 
 pub returns : goal.returns
-returns c = values-all (drop c.args.from.0 (elements_of c.args.bits c.args.value.now)) c.requires.room_for
+returns c = values-all (drop c.args.from.0 (elements_of c.args.value.bits c.args.value.bytes.now)) c.requires.room_for
     c.loop-i.invariant c.loop-i-test.false

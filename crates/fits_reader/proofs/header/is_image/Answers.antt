@@ -1,30 +1,28 @@
 -- `fits_reader::header::is_image` meets its contract: a clipped integer tells 16 and 2 from all others. Assumes nothing.
-use native.Mathlib.Omega.{arith}
-use mathlib.Core.Path.{sym, ◌∙◌}
-use borrow.Author.Tests.{eq-eqb, ne_eqb}
+use Rattle.std.proofs.Common.{arith, sym, ◌∙◌, eq-eqb, ne_eqb}
 use Rattle.fits_format.specs.Header.{card_integer}
 use Rattle.fits_reader.proofs.header.Laws.{clipped-number}
 use Rattle.fits_reader.proofs.header.is_image.Goals as goal
 
-pub returns-then-integer_at-eq16 : goal.returns-then-integer_at-eq16
+pub returns-then-card_integer-eq16 : goal.returns-then-card_integer-eq16
 unfolding card_integer
-returns-then-integer_at-eq16 c = rw (
-  sym c.true_at.ensures ∙ c.if-true_at.true,
+returns-then-card_integer-eq16 c = rw (
+  sym (rw c.header_cards-cards.ensures at c.is_true.ensures) ∙ c.if-is_true.true,
   ← clipped-number 16 (card_integer "BITPIX  " 1 c.args.fits.now) (omega arith) (omega arith),
-  ← c.integer_at.ensures,
-  eq-eqb c.integer_at.result 16 c.if-integer_at-eq16.true,
+  ← (rw c.header_cards-cards.ensures at c.card_integer.ensures),
+  eq-eqb c.card_integer.result 16 c.if-card_integer-eq16.true,
   ← clipped-number 2 (card_integer "NAXIS   " 2 c.args.fits.now) (omega arith) (omega arith),
-  ← c.integer_at-then-integer_at-eq16.ensures,
+  ← (rw c.header_cards-cards.ensures at c.card_integer-then-card_integer-eq16.ensures),
 )
 
-pub returns-else-integer_at-eq16 : goal.returns-else-integer_at-eq16
+pub returns-else-card_integer-eq16 : goal.returns-else-card_integer-eq16
 unfolding card_integer
-returns-else-integer_at-eq16 c = rw (
-  sym c.true_at.ensures ∙ c.if-true_at.true,
+returns-else-card_integer-eq16 c = rw (
+  sym (rw c.header_cards-cards.ensures at c.is_true.ensures) ∙ c.if-is_true.true,
   ← clipped-number 16 (card_integer "BITPIX  " 1 c.args.fits.now) (omega arith) (omega arith),
-  ← c.integer_at.ensures,
-  ne_eqb c.integer_at.result 16 c.if-integer_at-eq16.false,
+  ← (rw c.header_cards-cards.ensures at c.card_integer.ensures),
+  ne_eqb c.card_integer.result 16 c.if-card_integer-eq16.false,
 )
 
-pub returns-else-true_at : goal.returns-else-true_at
-returns-else-true_at c = rw (sym c.true_at.ensures ∙ c.if-true_at.false)
+pub returns-else-is_true : goal.returns-else-is_true
+returns-else-is_true c = rw (sym (rw c.header_cards-cards.ensures at c.is_true.ensures) ∙ c.if-is_true.false)

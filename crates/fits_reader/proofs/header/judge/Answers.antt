@@ -1,50 +1,64 @@
--- `fits_reader::header::judge` meets its contract: too few cards, the number that they give, or the image. Assumes nothing.
-use Prim.Native.Nat.{ℕ, ◌≤◌}
-use native.Mathlib.Omega.{arith}
-use mathlib.Core.Path.{◌≡◌, sym, ◌∙◌}
-use mathlib.Core.List.{List, []}
-use lib.ListN.{length, get_or}
-use Rattle.fits_format.specs.Card.{integer_of}
-use Rattle.fits_format.specs.Header.{header_cards, card_integer, end_card}
+-- `fits_reader::header::judge` meets its contract: too few cards, no END, the number that they give, or the image. Assumes nothing.
+use Rattle.std.proofs.Common.{arith, ℕ, ◌≤◌, ◌≡◌, List, [], sym, length, get_or}
+use Rattle.std.proofs.lemmas.Result.{err_from_is_err_and}
+use Rattle.answer.specs.Refusal.Laws.{refusal_not_done}
 use Rattle.text.specs.Text.{ascii}
-use Rattle.fits_reader.specs.Clipped.{clipped}
+use Rattle.fits_format.specs.Card.{integer_of}
+use Rattle.fits_format.specs.Header.{header_cards, card_integer, before_end, end_card}
 use Rattle.fits_format.specs.Header.Laws.{end_card-most}
+use Rattle.fits_reader.specs.Clipped.{clipped}
 use Rattle.fits_reader.specs.Judged.{CardsRead}
-use Rattle.fits_reader.proofs.header.Laws.{too_short, number_is, judged-done, judged-refused}
+use Rattle.fits_reader.proofs.header.Laws.{too_short, no_end, judged-first, judged-second, judged_none, judged-done}
 use Rattle.fits_reader.proofs.header.judge.Goals as goal
 
-cards-read : (s : List ℕ) (n w r e : ℕ) → n ≡ length (header_cards s) → 5 ≤ n
-    → w ≡ clipped (integer_of (ascii "NAXIS1  ") (get_or (header_cards s) 3 []))
-    → r ≡ clipped (integer_of (ascii "NAXIS2  ") (get_or (header_cards s) 4 [])) → e ≡ end_card s → CardsRead s w r e
-unfolding card_integer
-cards-read s n w r e count few width rows end =
-    record { five = omega arith; width = width; rows = rows; end = end }
+cards-read : (s : List ℕ) (cs : List (List ℕ)) (w r e : ℕ) → cs ≡ header_cards s → 5 ≤ length cs
+    → w ≡ clipped (integer_of (ascii "NAXIS1  ") (get_or cs 3 [])) → r ≡ clipped (integer_of (ascii "NAXIS2  ") (get_or cs 4 []))
+    → length (before_end cs) ≡ e → CardsRead s w r e
+unfolding card_integer end_card
+cards-read s cs w r e is few width rows end =
+    record { five = rw is at few; width = rw is at width; rows = rw is at rows; end = sym (rw is at end) }
 
-pub returns-then-count_cards-lt5 : goal.returns-then-count_cards-lt5
-returns-then-count_cards-lt5 c = let short = too_short c.args.fits.now (omega (arith, c.count_cards.ensures, c.if-count_cards-lt5.true)) in
-    judged-refused c.args.fits.now 17 c.refused.result (sym short) (λ e. omega arith) c.refused.ensures
+none-ends : (s : List ℕ) (cs : List (List ℕ)) → cs ≡ header_cards s → length (before_end cs) ≡ length cs
+    → end_card s ≡ length (header_cards s)
+unfolding end_card
+none-ends s cs is e = rw is at e
 
-pub unfit_number-unfit-requires : goal.unfit_number-unfit-requires
-unfit_number-unfit-requires c = cards-read c.args.fits.now c.count_cards.result c.integer_at-width.result c.integer_at-rows.result c.find_end-end.result
-    c.count_cards.ensures c.if-count_cards-lt5.false c.integer_at-width.ensures c.integer_at-rows.ensures c.find_end-end.ensures
+pub returns-then-cards-lt5 : goal.returns-then-cards-lt5
+returns-then-cards-lt5 c = rw (too_short c.args.fits.now (rw c.header_cards-cards.ensures at c.if-cards-lt5.true))
 
-pub returns-then-number-ne0 : goal.returns-then-number-ne0
-returns-then-number-ne0 c = let s = c.args.fits.now in
-    judged-refused s c.first_number-number.result c.refused-then-number-ne0.result (number_is c.args.fits.now _ _ _ (cards-read c.args.fits.now c.count_cards.result c.integer_at-width.result c.integer_at-rows.result c.find_end-end.result
-    c.count_cards.ensures c.if-count_cards-lt5.false c.integer_at-width.ensures c.integer_at-rows.ensures c.find_end-end.ensures)
-    c.unfit_number-unfit.result c.long_number-long.result c.first_number-number.result c.unfit_number-unfit.ensures
-    c.long_number-long.ensures c.first_number-number.ensures)
-    c.if-number-ne0.true c.refused-then-number-ne0.ensures
+pub returns-in_default : goal.returns-in_default
+returns-in_default c =
+    judged-first c.args.fits.now 17 (λ e. absurd (omega arith))
+    (no_end c.args.fits.now (none-ends c.args.fits.now _ c.header_cards-cards.ensures c.in_default.ensures.place))
 
-pub overflow_mul-start : goal.overflow_mul-start
-overflow_mul-start c = omega (arith, c.find_end-end.ensures, end_card-most c.args.fits.now)
+pub check_fit-requires-clause-cards_read : goal.check_fit-requires-clause-cards_read
+check_fit-requires-clause-cards_read c =
+    cards-read c.args.fits.now _ _ _ _ c.header_cards-cards.ensures c.if-cards-lt5.false c.card_integer-width.ensures
+    c.card_integer-rows.ensures c.in-Some.ensures.place
+
+pub returns-in_err-check_fit : goal.returns-in_err-check_fit
+returns-in_err-check_fit c =
+    let p = err_from_is_err_and c.from_residual.result c.from_residual.ensures.1 in
+    rw (p.1, p.2)
+    (judged-first c.args.fits.now _ (λ e. absurd (omega (arith, refusal_not_done c.in_err-check_fit.field-0.0, e))) c.in_err-check_fit.ensures)
+
+pub returns-in_err-check_axes : goal.returns-in_err-check_axes
+returns-in_err-check_axes c =
+    let cards = cards-read c.args.fits.now _ _ _ _ c.header_cards-cards.ensures c.if-cards-lt5.false c.card_integer-width.ensures
+    c.card_integer-rows.ensures c.in-Some.ensures.place in
+    let p = err_from_is_err_and c.from_residual-in_err-check_axes.result c.from_residual-in_err-check_axes.ensures.1 in
+    rw (p.1, p.2)
+    (judged-second c.args.fits.now _ _ _ cards _ (λ e. absurd (omega (arith, refusal_not_done c.in_err-check_axes.field-0.0, e)))
+    c.in_ok-check_fit.ensures c.in_err-check_axes.ensures)
 
 pub overflow_cast-result : goal.overflow_cast-result
-overflow_cast-result c = omega (arith, c.find_end-end.ensures, end_card-most c.args.fits.now)
+overflow_cast-result c =
+    let cards = cards-read c.args.fits.now _ _ _ _ c.header_cards-cards.ensures c.if-cards-lt5.false c.card_integer-width.ensures
+    c.card_integer-rows.ensures c.in-Some.ensures.place in
+    record { fits = omega (arith, cards.end, end_card-most c.args.fits.now) }
 
 pub returns : goal.returns
-returns c = judged-done c.args.fits.now _ _ _ (cards-read c.args.fits.now c.count_cards.result c.integer_at-width.result c.integer_at-rows.result c.find_end-end.result
-    c.count_cards.ensures c.if-count_cards-lt5.false c.integer_at-width.ensures c.integer_at-rows.ensures c.find_end-end.ensures) (sym (number_is c.args.fits.now _ _ _ (cards-read c.args.fits.now c.count_cards.result c.integer_at-width.result c.integer_at-rows.result c.find_end-end.result
-    c.count_cards.ensures c.if-count_cards-lt5.false c.integer_at-width.ensures c.integer_at-rows.ensures c.find_end-end.ensures)
-    c.unfit_number-unfit.result c.long_number-long.result c.first_number-number.result c.unfit_number-unfit.ensures
-    c.long_number-long.ensures c.first_number-number.ensures) ∙ c.if-number-ne0.false)
+returns c =
+    let cards = cards-read c.args.fits.now _ _ _ _ c.header_cards-cards.ensures c.if-cards-lt5.false c.card_integer-width.ensures
+    c.card_integer-rows.ensures c.in-Some.ensures.place in
+    judged-done c.args.fits.now _ _ _ cards (judged_none c.args.fits.now _ _ _ cards c.in_ok-check_fit.ensures c.in_ok-check_axes.ensures)

@@ -1,17 +1,18 @@
 -- `list_table::print::print_refusal`: the line of a refused table is its listing. Assumes nothing.
-use Prim.Native.Nat.{ℕ}
-use native.Mathlib.Omega.{arith}
-use mathlib.Core.Path.{◌≡◌, sym, ap, ◌∙◌}
-use mathlib.Core.Bool.{false≢true}
-use mathlib.Core.List.{List, [], ◌∷◌}
-use lib.ListN.{length}
-use lib.Seq.{length-take-le}
+use Rattle.std.proofs.Common.{ℕ, ◌≡◌, List, [], ◌∷◌, refl, sym, ap, ◌∙◌, length, take, arith}
+use Rattle.std.proofs.lemmas.Result.{IfOk-weaker}
+use Rattle.answer.specs.declared.refusal.Refusal.{Refusal}
+use Rattle.answer.specs.Refusal.{refusal_number}
+use Rattle.answer.specs.Refusal.Laws.{refusal_not_done}
 use Rattle.row_format.specs.Table.{table_number}
 use Rattle.text.specs.Lines.{refused_line}
-use Rattle.text.specs.Put.Laws.{put_front, put-start}
+use Rattle.text.specs.Put.Laws.{put_front}
 use Rattle.table_listing.specs.Listing.{lines, joined, table_listing}
 use Rattle.table_listing.specs.Listing.Laws.{lines-refused, joined-one}
 use Rattle.list_table.proofs.print.print_refusal.Goals as goal
+
+some : (e : Refusal) → refusal_number e ≡ 0 → ⊥
+some e n = omega (arith, refusal_not_done e)
 
 module _ (t : List ℕ) (n : ℕ) (is : n ≡ table_number t) (refused : n ≡ 0 → ⊥) where
   line-is : lines t ≡ refused_line n ∷ []
@@ -20,14 +21,17 @@ module _ (t : List ℕ) (n : ℕ) (is : n ≡ table_number t) (refused : n ≡ 0
   listing-is : table_listing t ≡ refused_line n
   listing-is = ap joined line-is ∙ joined-one (refused_line n)
 
-pub slice_bounds-print_lines-end : goal.slice_bounds-print_lines-end
-slice_bounds-print_lines-end c = sym (length-take-le c.put_refused_line-n.result c.put_refused_line-n.new.out (omega (arith, c.put_refused_line-n.auto.out)))
-
 pub print_lines-requires : goal.print_lines-requires
-print_lines-requires c = put_front c.put_refused_line-n.ensures.put ∙ rw (line-is c.args.table.now c.args.number c.requires.number_value c.requires.fact) (sym (joined-one (refused_line c.args.number)))
+print_lines-requires c =
+    let n : ℕ = refusal_number c.args.refusal in
+    put_front c.put_refused_line-n.ensures.put
+    ∙ rw (c.number.ensures, line-is c.args.table.now n c.requires (some c.args.refusal)) (sym (joined-one (refused_line n)))
 
-pub returns-then-print_lines : goal.returns-then-print_lines
-returns-then-print_lines c = record { number = c.requires.number_value; whole = λ e. (put-start c.put_refused_line-n.ensures.put).0 ∙ sym (ap length (listing-is c.args.table.now c.args.number c.requires.number_value c.requires.fact)) }
-
-pub returns : goal.returns
-returns c = record { number = c.requires.number_value; whole = λ e. absurd (false≢true e) }
+pub returns-clause-whole : goal.returns-clause-whole
+returns-clause-whole c =
+    let n : ℕ = refusal_number c.args.refusal in
+    let listing : table_listing c.args.table.now ≡ refused_line n = listing-is c.args.table.now n c.requires (some c.args.refusal) in
+    IfOk-weaker c.print_lines.result (λ bytes. bytes ≡ length (take c.put_refused_line-n.result c.put_refused_line-n.new.out))
+    (λ bytes. bytes ≡ length (table_listing c.args.table.now))
+    (λ bytes e. e ∙ ap length (put_front c.put_refused_line-n.ensures.put) ∙ rw (c.number.ensures, listing) refl)
+    c.print_lines.ensures

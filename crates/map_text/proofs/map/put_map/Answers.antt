@@ -9,17 +9,16 @@ use Rattle.map_text.proofs.map.put_map.Goals as goal
 
 pub loop-row-init : goal.loop-row-init
 unfolding rows_text
-loop-row-init c = (omega arith, search rules, omega arith, put-none c.args.out.now 0)
+loop-row-init c = (search rules, omega arith, put-none c.args.out.now 0)
 
 pub loop-row-preserved : goal.loop-row-preserved
 loop-row-preserved c = let xs = halves_of c.args.counts.now in (
   omega arith,
   omega arith,
-  omega arith,
-  rw (rows_text-more c.loop-row.row xs) (put-put (omega arith) c.loop-row.invariant.3 c.put_row-next.ensures.put),
+  rw (rows_text-more c.loop-row.row xs) (put-put (omega arith) c.loop-row.invariant.2 c.put_row-next.ensures.put),
 )
 
 pub returns : goal.returns
 unfolding map_text
 returns c = let all : c.loop-row.row ≡ 128 = omega arith in
-    record { put = rw all at c.loop-row.invariant.3; most = omega arith }
+    record { put = rw all at c.loop-row.invariant.2; most = omega arith }

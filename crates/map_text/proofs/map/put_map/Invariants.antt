@@ -1,14 +1,10 @@
--- `map_text::map::put_map`: before each turn the rows before `row` are put; the measure is the rows left. Assumes nothing.
-use Prim.Native.Nat.{◌-◌, ◌*◌, ◌≤◌}
-use mathlib.Core.Path.{◌≡◌}
-use lib.ListN.{length}
+-- `map_text::map::put_map`: before each turn the rows before `row` are put. Assumes nothing.
+use Rattle.std.proofs.Common.{◌≡◌, ◌*◌, ◌≤◌, length}
 use Rattle.bitstream.specs.Bits.{halves_of}
 use Rattle.text.specs.Put.{Put}
 use Rattle.map_text.specs.MapText.{rows_text}
 use Rattle.map_text.proofs.map.put_map.Given as goal
 
 abbrev pub invariant-loop-row : goal.invariant-loop-row
-invariant-loop-row l = (l.row ≤ 128) × (length l.out ≡ length l.initial.out) × (l.next ≤ 768 * l.row) × Put l.initial.out 0 (rows_text l.row (halves_of l.counts)) l.next l.out
-
-abbrev pub decreases-loop-row : goal.decreases-loop-row
-decreases-loop-row l = 128 - l.row
+invariant-loop-row l = (length l.out ≡ length l.initial.out) × (l.next ≤ 768 * l.row)
+    × Put l.initial.out 0 (rows_text l.row (halves_of l.counts)) l.next l.out

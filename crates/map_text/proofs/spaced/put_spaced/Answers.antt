@@ -11,7 +11,6 @@ use Rattle.map_text.proofs.spaced.put_spaced.Goals as goal
 
 pub loop-i-init : goal.loop-i-init
 loop-i-init c = (
-  omega arith,
   search rules,
   omega arith,
   rw (spaced-none (halves_of c.args.counts.now) c.args.first) (put-none c.args.out.now c.args.at),
@@ -23,10 +22,9 @@ loop-i-preserved c = let xs = halves_of c.args.counts.now in
     let room : c.args.at ≤ length c.args.out.now = omega arith in (
       omega arith,
       omega arith,
-      omega arith,
-      rw (spaced-more xs c.args.first c.loop-i.i inside) (put-put room c.loop-i.invariant.3 c.put_count-next.ensures.put),
+      rw (spaced-more xs c.args.first c.loop-i.i inside) (put-put room c.loop-i.invariant.2 c.put_count-next.ensures.put),
     )
 
 pub returns : goal.returns
 returns c = let all : c.loop-i.i ≡ c.args.n = omega arith in
-    record { put = rw all at c.loop-i.invariant.3; most = omega arith }
+    record { put = rw all at c.loop-i.invariant.2; most = omega arith }

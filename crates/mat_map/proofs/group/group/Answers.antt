@@ -8,6 +8,7 @@ use Rattle.bitstream.specs.Msb.{msb_bits_of}
 use Rattle.row_pixels.specs.Laws.{length-halves}
 use Rattle.mat_map.specs.Step.GroupAhead.{ahead-dark, one-low, ahead-one, first-low, second-low, second-room, ahead-two, ahead-each}
 use Rattle.mat_map.specs.Step.Group.{first_fits}
+use Rattle.mat_map.specs.Step.{as_stepped}
 use Rattle.mat_map.proofs.group.group.Goals as goal
 
 pub msb_field-ahead-requires : goal.msb_field-ahead-requires
@@ -106,5 +107,5 @@ returns c = let there = ltb-false _ _ (sym c.lacks_bits.ensures ∙ c.if-lacks_b
     ahead-each c.args.s.now c.args.at c.msb_field-ahead.result there c.msb_field-ahead.ensures c.args.k c.args.place
     (halves_of c.args.own.now) c.requires
     c.if-ahead-eq1.false c.if-ahead-eq1-2.false c.if-ahead-eq1-3.false (halves_of c.each_pixel.new.own)
-    c.each_pixel.result
+    (as_stepped c.each_pixel.result)
     c.each_pixel.ensures

@@ -1,9 +1,8 @@
 -- `pixel::pixel`: the fields of the bits ahead, where they are there. Assumes nothing.
 use native.Mathlib.Omega.{arith}
-use mathlib.Core.Path.{sym, ap, ◌∙◌}
+use mathlib.Core.Path.{refl, sym, ◌∙◌}
 use borrow.Author.Tests.{ltb-false}
 use Rattle.mat_map.specs.Step.Ahead.{pixel-ahead-two, pixel-ahead-four, pixel-ahead-wide, pixel-ahead-bad}
-use Rattle.mat_map.specs.declared.field.Step.{Step}
 use Rattle.mat_map.proofs.pixel.pixel.Goals as goal
 
 pub msb_field-ahead-requires : goal.msb_field-ahead-requires
@@ -26,5 +25,5 @@ returns-then-wide-gt17 c = let there = ltb-false _ _ (sym c.lacks_bits.ensures �
 pub returns : goal.returns
 returns c = let there = ltb-false _ _ (sym c.lacks_bits.ensures ∙ c.if-lacks_bits.false) in
     pixel-ahead-bad c.args.s.now c.args.at c.msb_field-ahead.result there c.msb_field-ahead.ensures
-    c.if-two-lt3.false c.if-four-lt15.false c.if-wide-gt17.false c.stopped.result
-    (ap (λ (x : Step). x.number) c.stopped.ensures)
+    c.if-two-lt3.false c.if-four-lt15.false c.if-wide-gt17.false _
+    refl

@@ -12,7 +12,7 @@ loop-i-init c = map-none (halves_of c.args.counts.now) c.args.out.now c.requires
 
 pub put_part-w-requires : goal.put_part-w-requires
 put_part-w-requires c = let inside : c.loop-i.i < map_groups c.args.k =
-    omega (arith, c.loop-i-test.true, c.power-groups.ensures) in
+    omega (arith, c.power-i-end.ensures) in
     let room = map-room (halves_of c.args.counts.now) c.args.out.now c.requires.le_k c.requires.k_bound
     c.requires.out_len c.start-w.ensures c.loop-i.invariant in
     record { k_bound = c.requires.k_bound; counts_len = c.requires.counts_len; i_bound = inside; room = room inside }
@@ -20,17 +20,17 @@ put_part-w-requires c = let inside : c.loop-i.i < map_groups c.args.k =
 pub loop-i-preserved : goal.loop-i-preserved
 loop-i-preserved c = map_more (halves_of c.args.counts.now) c.args.out.now c.requires.le_k c.requires.k_bound
     c.requires.out_len c.start-w.ensures c.loop-i.invariant
-    (omega (arith, c.loop-i-test.true, c.power-groups.ensures)) c.put_part-w.ensures c.out-1.given
+    (omega (arith, c.power-i-end.ensures)) c.put_part-w.ensures c.out-1.given
 
 pub finish-requires : goal.finish-requires
 finish-requires c = map-closable (halves_of c.args.counts.now) c.args.out.now c.requires.le_k c.requires.k_bound
     c.requires.out_len c.start-w.ensures c.loop-i.invariant
-    (omega (arith, c.loop-i-test.false, c.power-groups.ensures))
+    (omega (arith, c.power-i-end.ensures))
 
 pub total-requires : goal.total-requires
 total-requires c = let few = map-few (halves_of c.args.counts.now) c.args.out.now c.requires.le_k c.requires.k_bound
     c.requires.out_len c.start-w.ensures c.loop-i.invariant
-    (omega (arith, c.loop-i-test.false, c.power-groups.ensures)) in
+    (omega (arith, c.power-i-end.ensures)) in
     omega (arith, few)
 
 pub shape_of-out : goal.shape_of-out
@@ -40,5 +40,5 @@ pub returns : goal.returns
 returns c = rw c.total.ensures
     (map-all (halves_of c.args.counts.now) c.args.out.now c.requires.le_k c.requires.k_bound
     c.requires.out_len c.start-w.ensures c.loop-i.invariant
-    (omega (arith, c.loop-i-test.false, c.power-groups.ensures)) c.finish.ensures c.out-2-1.given
+    (omega (arith, c.power-i-end.ensures)) c.finish.ensures c.out-2-1.given
     (record { below = λ i. (c.slice_known-2-1.given i).fits }))

@@ -1,12 +1,18 @@
 -- `pgm_reader::header::begins` meets its contract. Assumes nothing.
-use native.Mathlib.Omega.{arith}
-use mathlib.Core.Path.{sym}
-use lib.Seq.{length-take-le}
-use Rattle.pgm_format.specs.Header.Laws.{take_min}
+use Rattle.std.proofs.Common.{ℕ, List, ◌≡◌, sym, ◌∙◌, take}
+use Rattle.row_format.specs.Lists.Laws.{by-test}
+use Rattle.text.specs.Text.{ascii}
+use Rattle.text.specs.Same.{same_bytes}
+use Rattle.text.specs.Same.Laws.{same_pointwise, same-is}
 use Rattle.pgm_reader.proofs.header.begins.Goals as goal
 
-pub slice_bounds-same_bytes-end : goal.slice_bounds-same_bytes-end
-slice_bounds-same_bytes-end c = sym (length-take-le c.lesser-n.result c.args.bytes.now (omega (arith, c.lesser-n.ensures)))
+same-turned : (a b : List ℕ) → same_bytes a b ≡ same_bytes b a
+same-turned a b =
+    by-test (same_bytes a b)
+    (λ t. rw (same-is a b t))
+    (λ t. by-test (same_bytes b a) (λ u. rw (same-is b a u)) (λ u. t ∙ sym u))
 
 pub returns : goal.returns
-returns c = rw (c.lesser-n.ensures, take_min 2 c.args.bytes.now) at c.same_bytes.ensures
+returns c =
+    let front = take 2 c.args.bytes.now in
+    c.starts_with.ensures.value ∙ same_pointwise (ascii "P5") front ∙ same-turned (ascii "P5") front

@@ -1,10 +1,12 @@
 -- `pgm_reader::header::read_fields` meets its contract. Assumes nothing.
 use Prim.Native.Nat.{ℕ, min}
 use native.Mathlib.Omega.{arith}
-use mathlib.Core.Path.{◌≡◌, sym, ap}
+use mathlib.Core.Path.{◌≡◌, refl, sym, ap}
 use mathlib.Core.Bool.{Bool, true}
 use mathlib.Core.List.{List}
 use lib.ListN.{length, take, get_or, length-take}
+use Rattle.std.proofs.lemmas.Result.{err_from_is_err_and}
+use Rattle.answer.specs.Refusal.Laws.{refusal_not_done}
 use Rattle.text.specs.Same.{same_bytes}
 use Rattle.pgm_format.specs.Header.{field_at, after_field, is_blank}
 use Rattle.text.specs.Text.{ascii}
@@ -32,14 +34,20 @@ pub field_at-width-requires : goal.field_at-width-requires
 field_at-width-requires c = let begins = same-is (take 2 c.args.bytes.now) (ascii "P5") c.requires.ascii_value in
     omega (arith, ap length begins, length-take 2 c.args.bytes.now)
 
-pub returns-then-number-ne0 : goal.returns-then-number-ne0
-returns-then-number-ne0 c = rw c.refused.ensures (sym (front-refused (fields c.args.bytes.now c.field_at-width.result.value c.field_at-width.result.end
+pub returns-in_err-judge : goal.returns-in_err-judge
+returns-in_err-judge c =
+    let p = err_from_is_err_and c.from_residual.result c.from_residual.ensures.1 in
+    rw (p.1, p.2)
+    (sym (front-refused (fields c.args.bytes.now c.field_at-width.result.value c.field_at-width.result.end
     c.field_at-rows.result.value c.field_at-rows.result.end c.field_at-largest.result.value c.field_at-largest.result.end c.blank_at-blank.result
     c.requires.ascii_value c.field_at-width.ensures.value c.field_at-width.ensures.end c.field_at-rows.ensures.value
-    c.field_at-rows.ensures.end c.field_at-largest.ensures.value c.field_at-largest.ensures.end c.blank_at-blank.ensures) c.fields_number-number.ensures c.if-number-ne0.true))
+    c.field_at-rows.ensures.end c.field_at-largest.ensures.value c.field_at-largest.ensures.end c.blank_at-blank.ensures)
+    c.in_err-judge.ensures (λ e. absurd (omega (arith, refusal_not_done c.in_err-judge.field-0.0, e)))))
 
 pub returns : goal.returns
-returns c = sym (front-accepted (fields c.args.bytes.now c.field_at-width.result.value c.field_at-width.result.end
+returns c =
+    sym (front-accepted (fields c.args.bytes.now c.field_at-width.result.value c.field_at-width.result.end
     c.field_at-rows.result.value c.field_at-rows.result.end c.field_at-largest.result.value c.field_at-largest.result.end c.blank_at-blank.result
     c.requires.ascii_value c.field_at-width.ensures.value c.field_at-width.ensures.end c.field_at-rows.ensures.value
-    c.field_at-rows.ensures.end c.field_at-largest.ensures.value c.field_at-largest.ensures.end c.blank_at-blank.ensures) c.fields_number-number.ensures c.if-number-ne0.false)
+    c.field_at-rows.ensures.end c.field_at-largest.ensures.value c.field_at-largest.ensures.end c.blank_at-blank.ensures)
+    c.in_ok-judge.ensures refl)

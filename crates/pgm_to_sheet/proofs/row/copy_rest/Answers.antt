@@ -12,9 +12,9 @@ returns-then-front-place c = record { count = omega (arith, length-drop c.args.p
 
 pub returns : goal.returns
 returns c = let rest = drop c.args.place c.args.front.now in
-    let count : c.lesser-n.result ≡ min c.args.span (length rest) = rw (length-drop c.args.place c.args.front.now) c.lesser-n.ensures in
-    let size : length (take c.lesser-n.result rest) ≡ c.lesser-n.result = length-take-le c.lesser-n.result rest (omega (arith, count)) in record {
+    let count : c.min-n.result ≡ min c.args.span (length rest) = rw (length-drop c.args.place c.args.front.now) c.min-n.ensures in
+    let size : length (take c.min-n.result rest) ≡ c.min-n.result = length-take-le c.min-n.result rest (omega (arith, count)) in record {
       count = count;
-      bytes = ap (take c.lesser-n.result) c.copy.ensures
-          ∙ rw (part_to_end c.args.front.now c.args.place) (take_at (take c.lesser-n.result rest) (drop c.lesser-n.result c.args.row.now) c.lesser-n.result size);
+      bytes = ap (take c.min-n.result) c.copy.ensures
+          ∙ rw (part_to_end c.args.front.now c.args.place) (take_at (take c.min-n.result rest) (drop c.min-n.result c.args.row.now) c.min-n.result size);
     }

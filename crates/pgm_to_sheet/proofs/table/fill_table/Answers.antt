@@ -18,9 +18,6 @@ unfolding plain_lent
 plain_lent-front m room =
     rw (less_number-none (length m) 2072 5 room) (take_at plain_bytes (drop (length plain_bytes) m) 2072 length-plain_bytes)
 
-pub returns-then-place-eq0 : goal.returns-then-place-eq0
-returns-then-place-eq0 c = let front = plain_lent-front c.args.bytes.now (omega (arith, c.requires)) in
-    record { within = omega arith; plain = λ e. ap (λ (o : Outcome Answer). take 2072 o.memory) c.plain_table.ensures ∙ front }
-
-pub returns : goal.returns
-returns c = record { within = omega (arith, c.fill_named.ensures, c.requires); plain = λ e. absurd (c.if-place-eq0.false e) }
+pub returns-in_default-clause-plain : goal.returns-in_default-clause-plain
+returns-in_default-clause-plain c =
+    λ e. ap (λ (o : Outcome Answer). take 2072 o.memory) c.plain_table.ensures ∙ plain_lent-front c.args.bytes.now (omega arith)

@@ -1,12 +1,6 @@
--- `part::shortest` meets its contract. The invariant: `least` is the shortest of the first i. The measure is what is left.
--- Assumes nothing.
-use Prim.Native.Nat.{◌-◌, ◌≤◌}
-use lib.ListN.{length}
+-- `part::shortest` meets its contract. The invariant: `least` is the shortest of the words before. Assumes nothing.
 use Rattle.prefix_free.specs.Branch.{Shortest}
 use Rattle.prefix_free.proofs.part.shortest.Given as goal
 
-abbrev pub invariant-loop-i : goal.invariant-loop-i
-invariant-loop-i l = (l.i ≤ length l.s) × Shortest l.s l.i l.least
-
-abbrev pub decreases-loop-i : goal.decreases-loop-i
-decreases-loop-i l = length l.s - l.i
+abbrev pub invariant-loop-w : goal.invariant-loop-w
+invariant-loop-w l = Shortest l.s l.w-index l.least

@@ -5,19 +5,19 @@ use Rattle.row_packer.proofs.measure.MeasureTurn.{measuring-none, measuring-more
 use Rattle.row_packer.proofs.measure.measure.Goals as goal
 
 pub loop-i-init : goal.loop-i-init
-loop-i-init c = measuring-none (words_of c.args.table.now) (halves_of c.args.pixels.now) c.start-p.ensures
+loop-i-init c = measuring-none (words_of c.args.table.bytes.now) (halves_of c.args.row.pixels.now) c.start-p.ensures
 
 pub encode-coded-requires : goal.encode-coded-requires
-encode-coded-requires c = let inside = inside-halves c.args.pixels.now c.loop-i-test.true in
-    let low = pixel-most (halves_of c.args.pixels.now) c.loop-i.i c.requires.pixels_value inside c.pixel_at-pixel.ensures in
-    record { accepted = c.requires.accepted; header_of = c.requires.header_of; sound = c.loop-i.invariant.sound; pixel_bound = low }
+encode-coded-requires c = let inside = inside-halves c.args.row.pixels.now c.loop-i-test.true in
+    let low = pixel-most (halves_of c.args.row.pixels.now) c.loop-i.i c.args.row.low inside c.pixel_at-pixel.ensures in
+    record { sound = c.loop-i.invariant.sound; pixel_bound = low }
 
 pub overflow_add-bits : goal.overflow_add-bits
-overflow_add-bits c = record { fits = omega (arith, c.encode-coded.ensures.bits.most, c.loop-i.invariant.most, c.requires.pixels_len_bound, c.loop-i-test.true) }
+overflow_add-bits c = record { fits = omega (arith, c.encode-coded.ensures.bits.most, c.loop-i.invariant.most, c.args.row.few, c.loop-i-test.true) }
 
 pub loop-i-preserved : goal.loop-i-preserved
-loop-i-preserved c = let inside = inside-halves c.args.pixels.now c.loop-i-test.true in
+loop-i-preserved c = let inside = inside-halves c.args.row.pixels.now c.loop-i-test.true in
     measuring-more c.loop-i.invariant inside c.pixel_at-pixel.ensures c.encode-coded.ensures
 
 pub returns : goal.returns
-returns c = measured-all c.loop-i.invariant (past-halves c.args.pixels.now c.loop-i-test.false)
+returns c = measured-all c.loop-i.invariant (past-halves c.args.row.pixels.now c.loop-i-test.false)

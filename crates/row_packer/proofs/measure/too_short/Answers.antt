@@ -4,21 +4,22 @@ use native.Mathlib.Omega.{arith}
 use mathlib.Core.Path.{ap, ◌∙◌}
 use lib.Dec.{ltb}
 use Rattle.bitstream.specs.Bits.{words_for}
+use Rattle.row_format.specs.Table.Laws.{accepted-table}
 use Rattle.row_packer.specs.Write.Laws.{longest-most, row_bits-most, longest-fits}
 use Rattle.row_packer.proofs.measure.too_short.Goals as goal
 
 pub overflow_mul-longest : goal.overflow_mul-longest
-overflow_mul-longest c = record { fits = omega (arith, longest-most c.requires.accepted c.args.pixels.now c.requires.most_value c.requires.pixels_len_bound) }
+overflow_mul-longest c = record { fits = omega (arith, longest-most (accepted-table c.args.table.bytes.now c.args.table.accepted) c.args.row.pixels.now c.args.table.most_value c.args.row.few) }
 
 pub words_for-requires : goal.words_for-requires
-words_for-requires c = longest-most c.requires.accepted c.args.pixels.now c.requires.most_value c.requires.pixels_len_bound
+words_for-requires c = longest-most (accepted-table c.args.table.bytes.now c.args.table.accepted) c.args.row.pixels.now c.args.table.most_value c.args.row.few
 
 pub returns-then-words_for-lent : goal.returns-then-words_for-lent
-returns-then-words_for-lent c = longest-fits c.requires.accepted c.args.pixels.now c.requires.most_value c.requires.pixels_len_bound
+returns-then-words_for-lent c = longest-fits (accepted-table c.args.table.bytes.now c.args.table.accepted) c.args.row.pixels.now c.args.table.most_value c.args.row.few
     (omega (arith, c.words_for.ensures, c.if-words_for-lent.true))
 
 pub words_for-requires-2 : goal.words_for-requires-2
-words_for-requires-2 c = let few = row_bits-most c.requires.accepted c.args.pixels.now c.requires.most_value c.requires.pixels_len_bound in
+words_for-requires-2 c = let few = row_bits-most (accepted-table c.args.table.bytes.now c.args.table.accepted) c.args.row.pixels.now c.args.table.most_value c.args.row.few in
     omega (arith, c.measure.ensures, few)
 
 pub returns : goal.returns

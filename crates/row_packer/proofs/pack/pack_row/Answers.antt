@@ -1,33 +1,33 @@
 -- `row_packer::pack::pack_row` meets its contract: the refusals 11, 4 and 5, and the row written. Assumes nothing.
-use mathlib.Core.Path.{sym, ◌∙◌}
-use Rattle.row_format.specs.Table.Laws.{accepted-table}
-use Rattle.row_packer.proofs.Laws.{header-words, packed-many, packed_above, packed-full, room-enough, packed_all}
+use borrow.Author.Rules.{rules}
+use native.Mathlib.Omega.{arith}
+use mathlib.Core.Path.{◌≡◌, sym, ap, ◌∙◌}
+use Prim.Native.Nat.{ℕ}
+use mathlib.Core.List.{List}
+use Rattle.std.proofs.Common.{Bor}
+use Rattle.std.specs.Prelude.{Result, Err}
+use Rattle.answer.specs.Outcome.{outcome}
+use Rattle.answer.specs.Refusal.{as_answer}
+use Rattle.answer.specs.Refusal.Laws.{refusal_not_done}
+use Rattle.row_packer.proofs.Laws.{packed-judged, packed-full, packed_all, packed-same}
 use Rattle.row_packer.proofs.pack.pack_row.Goals as goal
 
-pub returns-then-pixels-gt-MAX_PIXELS : goal.returns-then-pixels-gt-MAX_PIXELS
-returns-then-pixels-gt-MAX_PIXELS c = packed-many c.args.table.now c.args.pixels.now c.args.words.now c.requires.table_value c.if-pixels-gt-MAX_PIXELS.true
+now : {a b : Bor (List ℕ)} → a ≡ b → a.now ≡ b.now
+now e = ap (λ (x : Bor (List ℕ)). x.now) e
 
-pub returns-then-any_above : goal.returns-then-any_above
-returns-then-any_above c = packed_above c.args.table.now c.args.pixels.now c.args.words.now c.requires.table_value c.if-pixels-gt-MAX_PIXELS.false
-    (sym c.if-any_above.true ∙ c.any_above.ensures)
-
-pub header_of-header-requires : goal.header_of-header-requires
-header_of-header-requires c = header-words c.args.table.now c.requires.table_value
-
-pub too_short-requires : goal.too_short-requires
-too_short-requires c = let table = accepted-table c.args.table.now c.requires.table_value in
-    record { accepted = table; header_of = c.header_of-header.ensures; most_value = c.requires.most_value; pixels_value = sym (sym c.if-any_above.false ∙ c.any_above.ensures); pixels_len_bound = c.if-pixels-gt-MAX_PIXELS.false }
+pub returns-in_err-row : goal.returns-in_err-row
+returns-in_err-row c = let refusal = c.in_err-row.field-0.0 in
+    let is : c.from_residual.result ≡ Err refusal = search rules in
+    ap (λ (r : Result ℕ _). outcome (as_answer r) c.args.words.now) is
+    ∙ packed-judged c.args.table.now c.args.pixels.now c.args.words.now c.requires.table_value c.in_err-row.ensures.number
+    (λ z. omega (arith, refusal_not_done refusal))
 
 pub returns-then-too_short : goal.returns-then-too_short
-returns-then-too_short c = packed-full c.args.table.now c.args.pixels.now c.args.words.now c.requires.table_value c.if-pixels-gt-MAX_PIXELS.false (sym c.if-any_above.false ∙ c.any_above.ensures)
-    (sym c.if-too_short.true ∙ c.too_short.ensures)
-
-pub write-bits-requires : goal.write-bits-requires
-write-bits-requires c = let room =
-    room-enough c.args.table.now c.args.pixels.now c.args.words.now c.requires.table_value c.if-pixels-gt-MAX_PIXELS.false (sym c.if-any_above.false ∙ c.any_above.ensures)
-    (sym c.if-too_short.false ∙ c.too_short.ensures) in
-    record { accepted = accepted-table c.args.table.now c.requires.table_value; header_of = c.header_of-header.ensures; pixels_value = sym (sym c.if-any_above.false ∙ c.any_above.ensures); pixels_len_bound = c.if-pixels-gt-MAX_PIXELS.false; pixels_in_bounds = room }
+returns-then-too_short c = packed-same _ (now c.of-table.ensures) (now c.in_ok-row.ensures.pixels)
+    (packed-full c.of-table.result.bytes.now c.in_ok-row.row.pixels.now c.args.words.now c.of-table.result.accepted c.in_ok-row.row.few
+    c.in_ok-row.row.low (sym c.if-too_short.true ∙ c.too_short.ensures))
 
 pub returns : goal.returns
-returns c = packed_all c.args.table.now c.args.pixels.now c.args.words.now c.requires.table_value c.if-pixels-gt-MAX_PIXELS.false (sym c.if-any_above.false ∙ c.any_above.ensures)
-    (sym c.if-too_short.false ∙ c.too_short.ensures) c.write-bits.ensures
+returns c = packed-same _ (now c.of-table.ensures) (now c.in_ok-row.ensures.pixels)
+    (packed_all c.of-table.result.bytes.now c.in_ok-row.row.pixels.now c.args.words.now c.of-table.result.accepted c.in_ok-row.row.few
+    c.in_ok-row.row.low (sym c.if-too_short.false ∙ c.too_short.ensures) c.write.ensures)

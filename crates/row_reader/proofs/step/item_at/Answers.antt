@@ -1,38 +1,38 @@
 -- `row_reader::step::item_at` meets its contract: refused before an item is read; or the item is given; or it is faulty.
 -- Assumes nothing.
+use borrow.Author.Rules.{rules}
 use native.Mathlib.Omega.{arith}
-use mathlib.Core.Path.{◌≡◌, sym, ◌∙◌}
-use Rattle.row_reader.specs.Step.{place_number}
+use mathlib.Core.Path.{◌≡◌, sym, ap, ◌∙◌}
+use Rattle.std.specs.Prelude.{Err}
+use Rattle.answer.specs.Refusal.{refusal_number}
+use Rattle.answer.specs.Refusal.Laws.{refusal_not_done}
+use Rattle.row_unpacker.specs.Item.{numbered}
+use Rattle.row_reader.specs.Step.{as_read}
 use Rattle.row_reader.specs.Step.Laws.{place_number-stands, step-refused, step-got, step-faulty}
-use Rattle.row_reader.specs.Walk.Laws.{item_read-place}
 use Rattle.row_reader.proofs.step.item_at.Goals as goal
 
-pub returns-then-number-ne0 : goal.returns-then-number-ne0
-returns-then-number-ne0 c = let p = item_read-place c.args.table.now c.args.words.now c.args.place c.refused.result
-    (c.refused.ensures
-    ∙ step-refused c.args.table.now c.args.words.now c.args.place c.place_number-number.result c.place_number-number.ensures c.if-number-ne0.true) in
-    record { given = p.0; place = p.1 }
+pub returns-in_err-judge : goal.returns-in_err-judge
+returns-in_err-judge c = let refusal = c.in_err-judge.field-0.0 in
+    let is : c.from_residual.result ≡ Err refusal = search rules in
+    ap (as_read c.args.place) is
+    ∙ step-refused c.args.table.now c.args.words.now c.args.place (refusal_number refusal) c.in_err-judge.ensures
+    (λ z. omega (arith, refusal_not_done refusal))
 
-pub read_item-read-requires : goal.read_item-read-requires
-read_item-read-requires c = let none : place_number c.args.place ≡ 0 = sym c.place_number-number.ensures ∙ c.if-number-ne0.false in
-    let stands = place_number-stands c.args.place none in
+pub read_item-requires : goal.read_item-requires
+read_item-requires c = let stands = place_number-stands c.args.place (sym c.in_ok-judge.ensures) in
     omega (arith, stands.possible.near, stands.more)
 
+pub returns-in_err-got : goal.returns-in_err-got
+returns-in_err-got c = let fault = c.in_err-got.field-0.0 in
+    let is : c.from_residual-in_err-got.result ≡ Err fault.refusal = search rules in
+    ap (as_read c.args.place) is
+    ∙ step-faulty c.args.table.now c.args.words.now c.args.place (sym c.in_ok-judge.ensures) (numbered c.read_item.result)
+    c.read_item.ensures (refusal_number fault.refusal) fault.place (ap numbered c.in_err-got.was)
+
 pub overflow_add-result : goal.overflow_add-result
-overflow_add-result c = let none : place_number c.args.place ≡ 0 = sym c.place_number-number.ensures ∙ c.if-number-ne0.false in
-    omega (arith, (place_number-stands c.args.place none).more)
+overflow_add-result c = omega (arith, (place_number-stands c.args.place (sym c.in_ok-judge.ensures)).more)
 
-pub returns-in-Got : goal.returns-in-Got
-returns-in-Got c = let none : place_number c.args.place ≡ 0 = sym c.place_number-number.ensures ∙ c.if-number-ne0.false in
-    let p = item_read-place c.args.table.now c.args.words.now c.args.place _
-    (step-got c.args.table.now c.args.words.now c.args.place none c.read_item-read.result
-    c.read_item-read.ensures c.after.result _ _ _ c.in-Got.is c.after.ensures) in
-    record { given = p.0; place = p.1 }
-
-pub returns-in-Refused : goal.returns-in-Refused
-returns-in-Refused c = let none : place_number c.args.place ≡ 0 = sym c.place_number-number.ensures ∙ c.if-number-ne0.false in
-    let p = item_read-place c.args.table.now c.args.words.now c.args.place c.refused-in-Refused.result
-    (c.refused-in-Refused.ensures
-    ∙ step-faulty c.args.table.now c.args.words.now c.args.place none c.read_item-read.result
-    c.read_item-read.ensures _ _ c.in-Refused.is) in
-    record { given = p.0; place = p.1 }
+pub returns : goal.returns
+returns c =
+    step-got c.args.table.now c.args.words.now c.args.place (sym c.in_ok-judge.ensures) (numbered c.read_item.result)
+    c.read_item.ensures c.after.result c.in_ok-got.got (ap numbered c.in_ok-got.was) c.after.ensures

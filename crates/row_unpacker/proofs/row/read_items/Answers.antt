@@ -1,4 +1,5 @@
 use native.Mathlib.Omega.{arith}
+use borrow.Author.Rules.{rules}
 use mathlib.Core.Path.{refl, ◌∙◌}
 use lib.ListN.{length}
 use Rattle.bitstream.specs.Bits.{words_of, stream}
@@ -12,8 +13,8 @@ loop-i-init c = partly_none (read_item (words_of c.args.table.now)) (read_item-m
     (stream c.args.words.now) (length c.args.row.now) c.requires.n_in_bounds c.args.row.now c.start-p.result refl
     c.start-p.ensures
 
-pub hinted_item-read-requires : goal.hinted_item-read-requires
-hinted_item-read-requires c = record { table_value = c.requires.table_value; at_bound = omega (arith, c.loop-i.invariant.place, c.loop-i.invariant.within, c.requires.n_bound) }
+pub hinted_item-requires : goal.hinted_item-requires
+hinted_item-requires c = record { table_value = c.requires.table_value; at_bound = omega (arith, c.loop-i.invariant.place, c.loop-i.invariant.within, c.requires.n_bound) }
 
 pub put_u16-requires : goal.put_u16-requires
 put_u16-requires c = omega (arith, c.loop-i.invariant.kept)
@@ -21,21 +22,21 @@ put_u16-requires c = omega (arith, c.loop-i.invariant.kept)
 pub loop-i-preserved : goal.loop-i-preserved
 loop-i-preserved c = partly_more (read_item (words_of c.args.table.now)) (read_item-most (words_of c.args.table.now)) c.args.n
     (stream c.args.words.now) (length c.args.row.now) c.requires.n_in_bounds c.loop-i.row c.loop-i.at c.loop-i.p
-    c.loop-i.i c.loop-i.invariant c.loop-i-test.true c.hinted_item-read.result
-    (c.hinted_item-read.ensures ∙ item_at-answered c.args.table.now c.args.words.now c.loop-i.at c.loop-i.p)
-    c.in-Got.item c.in-Got.pixel c.in-Got.next c.after-p.result
-    c.put_u16.new.s c.in-Got.is c.after-p.ensures c.put_u16.ensures
+    c.loop-i.i c.loop-i.invariant c.loop-i-test.true c.hinted_item.result
+    (c.hinted_item.ensures ∙ item_at-answered c.args.table.now c.args.words.now c.loop-i.at c.loop-i.p)
+    c.in_ok-got.got c.after-p.result
+    c.put_u16.new.s c.in_ok-got.was c.after-p.ensures c.put_u16.ensures
 
-pub shape_of-row-in-Refused : goal.shape_of-row-in-Refused
-shape_of-row-in-Refused c = c.loop-i.invariant.kept
+pub shape_of-row-in_err-got : goal.shape_of-row-in_err-got
+shape_of-row-in_err-got c = c.loop-i.invariant.kept
 
-pub returns-in-Refused : goal.returns-in-Refused
+pub returns-in_err-got : goal.returns-in_err-got
 unfolding read_items
-returns-in-Refused c = partly-stop (read_item (words_of c.args.table.now)) (read_item-most (words_of c.args.table.now)) c.args.n
+returns-in_err-got c = partly-stop (read_item (words_of c.args.table.now)) (read_item-most (words_of c.args.table.now)) c.args.n
     (stream c.args.words.now) (length c.args.row.now) c.requires.n_in_bounds c.loop-i.row c.loop-i.at c.loop-i.p
-    c.loop-i.i c.loop-i.invariant c.loop-i-test.true c.hinted_item-read.result
-    (c.hinted_item-read.ensures ∙ item_at-answered c.args.table.now c.args.words.now c.loop-i.at c.loop-i.p)
-    c.in-Refused.number c.in-Refused.place c.loop-i.row c.in-Refused.is
+    c.loop-i.i c.loop-i.invariant c.loop-i-test.true c.hinted_item.result
+    (c.hinted_item.ensures ∙ item_at-answered c.args.table.now c.args.words.now c.loop-i.at c.loop-i.p)
+    c.loop-i.row c.in_err-got.was (search rules)
 
 pub shape_of-row : goal.shape_of-row
 shape_of-row c = c.loop-i.invariant.kept

@@ -10,14 +10,14 @@ returns-then-v-gt31 c = short-long (words_of c.args.table.now) c.args.v (omega a
 pub loop-i-init : goal.loop-i-init
 loop-i-init c = passed_none begins (words_of c.args.table.now) c.args.v
 
-pub returns-then-begun_by_rest : goal.returns-then-begun_by_rest
-returns-then-begun_by_rest c = short-here (words_of c.args.table.now) c.args.v c.loop-i.i c.word_at.result
+pub returns-then-begins : goal.returns-then-begins
+returns-then-begins c = short-here (words_of c.args.table.now) c.args.v c.loop-i.i c.word_at.result
     (omega (arith, length-words c.args.table.now)) c.word_at.ensures c.loop-i.invariant
-    c.begun_by_rest.ensures c.if-begun_by_rest.true
+    c.begins.ensures c.if-begins.true
 
 pub loop-i-preserved : goal.loop-i-preserved
 loop-i-preserved c = passed-more begins (words_of c.args.table.now) c.args.v c.loop-i.i c.word_at.result c.loop-i.invariant
-    c.word_at.ensures c.begun_by_rest.ensures c.if-begun_by_rest.false
+    c.word_at.ensures c.begins.ensures c.if-begins.false
 
 pub returns : goal.returns
 returns c = short-nowhere (words_of c.args.table.now) c.args.v c.loop-i.i c.loop-i.invariant

@@ -11,14 +11,14 @@ loop-i-init c = passed_none begun_by (words_of c.args.table.now) c.args.v
 pub overflow_sub-result : goal.overflow_sub-result
 overflow_sub-result c = omega (arith, c.loop-i.invariant.least)
 
-pub returns-then-begins_rest : goal.returns-then-begins_rest
-returns-then-begins_rest c = finds-here (words_of c.args.table.now) c.args.v c.loop-i.i c.word_at.result
-    (omega (arith, length-words c.args.table.now)) c.word_at.ensures c.loop-i.invariant c.begins_rest.ensures
-    c.if-begins_rest.true
+pub returns-then-is_begun_by : goal.returns-then-is_begun_by
+returns-then-is_begun_by c = finds-here (words_of c.args.table.now) c.args.v c.loop-i.i c.word_at.result
+    (omega (arith, length-words c.args.table.now)) c.word_at.ensures c.loop-i.invariant c.is_begun_by.ensures
+    c.if-is_begun_by.true
 
 pub loop-i-preserved : goal.loop-i-preserved
 loop-i-preserved c = passed-more begun_by (words_of c.args.table.now) c.args.v c.loop-i.i c.word_at.result c.loop-i.invariant
-    c.word_at.ensures c.begins_rest.ensures c.if-begins_rest.false
+    c.word_at.ensures c.is_begun_by.ensures c.if-is_begun_by.false
 
 pub returns : goal.returns
 returns c = finds-nowhere (words_of c.args.table.now) c.args.v c.loop-i.i c.loop-i.invariant

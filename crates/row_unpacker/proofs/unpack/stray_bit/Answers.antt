@@ -7,5 +7,5 @@ pub returns-then-last-eq0 : goal.returns-then-last-eq0
 returns-then-last-eq0 c = stray-none (stream c.args.words.now) c.args.used c.if-last-eq0.true
 
 pub returns : goal.returns
-returns c = stray-low (stream c.args.words.now) c.args.used c.look_ahead-v.result c.look_ahead-v.ensures
+returns c = stray-low (stream c.args.words.now) c.args.used c.ahead-v.result c.ahead-v.ensures
     c.if-last-eq0.false c.low_bits.result c.low_bits.ensures

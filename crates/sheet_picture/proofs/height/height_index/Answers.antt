@@ -3,7 +3,7 @@ use Prim.Native.Nat.{ℕ}
 use native.Mathlib.Omega.{arith}
 use mathlib.Core.Path.{sym}
 use Rattle.sheet_picture.specs.Colour.{Range}
-use Rattle.sheet_picture.specs.Colour.Laws.{index-bad-pixel, index-bad-bias, index_below, index-above, index-grey, grey-few}
+use Rattle.sheet_picture.specs.Colour.Laws.{index-bad-pixel, index-bad-bias, index_below, index-above, index-grey}
 use Rattle.sheet_picture.proofs.height.height_index.Goals as goal
 
 abbrev range : ℕ → ℕ → Range
@@ -22,10 +22,6 @@ pub returns-then-high-h : goal.returns-then-high-h
 returns-then-high-h c = sym
     (index-above (range c.args.low c.args.high) c.args.h c.if-h-eq4095.false c.if-h-eq4094.false
     (omega arith) (omega arith))
-
-pub overflow_cast-result : goal.overflow_cast-result
-overflow_cast-result c = let few = grey-few (range c.args.low c.args.high) c.args.h (omega arith) (omega arith) in
-    record { fits = omega (arith, few) }
 
 pub returns : goal.returns
 returns c = sym

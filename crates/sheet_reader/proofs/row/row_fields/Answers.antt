@@ -1,11 +1,8 @@
 -- `sheet_reader::row::row_fields` meets its contract: the fields are missing, or read and followed by the place. Assumes
 -- nothing.
-use Rattle.sheet_reader.proofs.row.Laws.{fields-missing, fields-there}
+use Rattle.sheet_reader.proofs.row.Laws.{fields-there}
 use Rattle.sheet_reader.proofs.row.row_fields.Goals as goal
-
-pub returns-then-body-lt4 : goal.returns-then-body-lt4
-returns-then-body-lt4 c = fields-missing c.args.body.now c.args.state c.if-body-lt4.true
 
 pub returns : goal.returns
 returns c = fields-there c.args.body.now c.args.state c.if-body-lt4.false
-    c.read_u16-row.ensures c.read_u16-count.ensures c.row_place.ensures
+    c.read_u16-row.ensures c.read_u16-count.ensures c.in_ok-row_place.ensures

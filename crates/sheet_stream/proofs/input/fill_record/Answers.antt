@@ -1,27 +1,19 @@
 -- `sheet_stream::input::fill_record` meets its contract: what comes is what is held of a record. Assumes nothing.
-use Prim.Native.Nat.{◌-◌, ◌≤◌}
-use native.Mathlib.Omega.{arith}
-use mathlib.Core.Path.{sym, ◌∙◌}
-use mathlib.Core.List.{◌++◌}
-use lib.ListN.{length, drop, length-append, length-drop, length-take}
-use lib.Seq.{length-take-le}
-use Rattle.sheet_stream.proofs.input.Laws.{held-front, held-record}
+use Rattle.std.proofs.Common.{ℕ, ◌≤◌, ◌≡◌, List, ◌++◌, take, drop, arith, length-take}
+use Rattle.std.proofs.lemmas.Result.{err_from_is_err_and}
+use Rattle.sheet_format.specs.Stream.{held_of}
+use Rattle.sheet_format.proofs.Stream.Held.{held-short}
 use Rattle.sheet_stream.proofs.input.fill_record.Goals as goal
 
-pub slice_bounds-fill-end-2 : goal.slice_bounds-fill-end-2
-slice_bounds-fill-end-2 c = sym (length-take-le 4 c.args.bytes.now (omega (arith, c.requires)))
+-- the front of some memory, where it is short
+held-front : (k : ℕ) (m : List ℕ) → k ≤ 4 → take k m ≡ held_of (take k m)
+held-front k m h = held-short (take k m) (rw (length-take k m) (omega arith))
 
-pub returns-then-front-lt4 : goal.returns-then-front-lt4
-returns-then-front-lt4 c = let bytes = c.fill-front.new.bytes ++ drop 4 c.args.bytes.now in
-    record { within = omega arith; held = held-front c.fill-front.result.count bytes (omega arith) }
+pub returns-in_err-front-clause-held_unread : goal.returns-in_err-front-clause-held_unread
+returns-in_err-front-clause-held_unread c =
+    let few : c.in_err-front.field-0.0.count ≤ 4 = omega (arith, c.in_err-front.ensures.err, length-take 4 c.args.bytes.now) in
+    let p = err_from_is_err_and c.from_residual.result c.from_residual.ensures.1 in
+    rw (p.1, p.2) (held-front c.in_err-front.field-0.0.count (c.fill.new.bytes ++ drop 4 c.args.bytes.now) few)
 
-pub returns : goal.returns
-returns c = let m = c.fill-front.new.bytes ++ drop 4 c.args.bytes.now in
-    let size : 4 ≤ length m = omega (arith, length-append c.fill-front.new.bytes (drop 4 c.args.bytes.now), length-drop 4 c.args.bytes.now, c.fill-front.auto) in
-    let part = length-take (c.span-end.result - 4) (drop 4 m) in
-    let few : c.fill-rest.result.count ≤ c.span-end.result - 4 = omega (arith, c.fill-rest.ensures, part) in
-    record {
-      within = omega (arith, c.span-end.ensures.within);
-      held = held-record m c.fill-rest.new.bytes c.span-end.result c.fill-rest.result.count size c.span-end.ensures.within.0 few
-          (λ b h. c.span-end.ensures.spans b (h ∙ sym c.read_u32.ensures));
-    }
+pub returns-then-front-lt4-clause-held : goal.returns-then-front-lt4-clause-held
+returns-then-front-lt4-clause-held c = held-front c.in_ok-front.front (c.fill.new.bytes ++ drop 4 c.args.bytes.now) (omega arith)

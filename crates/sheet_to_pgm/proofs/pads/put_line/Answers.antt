@@ -10,7 +10,7 @@ use Rattle.sheet_to_pgm.proofs.pads.put_line.Goals as goal
 
 pub put_pads-requires : goal.put_pads-requires
 put_pads-requires c = let size = length-samples_of (halves_of c.args.pixels.now) in
-    record { n_in_bounds = omega (arith, c.put_samples-next.ensures.put.next, size, length-halves c.args.pixels.now, c.put_samples-next.auto); height_bound = c.requires.height_bound }
+    omega (arith, c.put_samples-next.ensures.put.next, size, length-halves c.args.pixels.now, c.put_samples-next.auto)
 
 pub returns : goal.returns
 returns c = let rest = replicate (c.args.width - length c.args.pixels.now / 2) c.args.height in

@@ -1,15 +1,13 @@
--- `sheet_to_text::records::write_records` meets its contract. The loop's invariant: the memory keeps its lengths, what is carried fits
--- it, and it is carried after some bytes that were taken (`Underway`). The measure is what is left of a u64 for the index. Assumes
--- nothing.
-use Prim.Native.Nat.{◌-◌, ◌≤◌}
-use mathlib.Core.Path.{◌≡◌}
-use lib.ListN.{length}
+-- `sheet_to_text::records::write_records` meets its contract. The loop's invariant: as many records are behind as turns, what is carried
+-- fits the memory, and it is carried after some bytes that were taken (`Underway`). Assumes nothing.
+use Rattle.std.proofs.Common.{◌≡◌}
 use Rattle.sheet_stream.specs.Progress.{carried_by, CarriedFits, Underway}
 use Rattle.sheet_to_text.proofs.records.write_records.Given as goal
 
-abbrev pub invariant-loop-at : goal.invariant-loop-at
-invariant-loop-at l = (length l.bytes ≡ length l.initial.bytes) × (length l.table ≡ length l.initial.table) × (length l.content ≡ length l.initial.content) × (length l.text ≡ length l.initial.text)
-    × (l.at.index ≤ 18446744073709551615) × CarriedFits l.at l.table × Underway (carried_by l.at l.table)
-
-abbrev pub decreases-loop-at : goal.decreases-loop-at
-decreases-loop-at l = 18446744073709551615 - l.at.index
+abbrev pub invariant-loop : goal.invariant-loop
+invariant-loop l =
+    record {
+      index : l.at.index ≡ l.counter;
+      fits : CarriedFits l.at l.memory.table;
+      underway : Underway (carried_by l.at l.memory.table);
+    }

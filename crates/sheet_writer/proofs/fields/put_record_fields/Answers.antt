@@ -3,5 +3,6 @@ use Rattle.sheet_writer.proofs.fields.Laws.{put-record-done}
 use Rattle.sheet_writer.proofs.fields.put_record_fields.Goals as goal
 
 pub returns : goal.returns
-returns c = put-record-done c.args.out.now c.put_u32.new.s c.put_u16.new.s c.args.kind c.args.record_bytes
-    c.put_u32.ensures c.put_u16.ensures
+returns c = rw (← c.code.ensures)
+    (put-record-done c.args.out.now c.put_u32.new.s c.put_u16.new.s c.code.result c.args.record_bytes
+    c.put_u32.ensures c.put_u16.ensures)

@@ -1,8 +1,9 @@
 -- `sheet_writer::fields::put_row_fields` meets its contract: a record's fields, and two more behind them. Assumes nothing.
+use Rattle.sheet_format.specs.Kinds.{kind_code}
 use Rattle.sheet_writer.proofs.fields.Laws.{put-row-done}
 use Rattle.sheet_writer.proofs.fields.put_row_fields.Goals as goal
 
 pub returns : goal.returns
 returns c = put-row-done c.args.out.now c.put_record_fields.new.out c.put_u16.new.s
-    c.put_u16-2.new.s c.args.kind c.args.row c.args.pixels c.args.record_bytes
+    c.put_u16-2.new.s (kind_code c.args.kind) c.args.row c.args.pixels c.args.record_bytes
     c.put_record_fields.ensures c.put_u16.ensures c.put_u16-2.ensures

@@ -40,17 +40,6 @@ loop-i-preserved c =
     c.write_signed-put.new.out c.loop-i.invariant c.requires c.loop-i-test.true c.number_at-value.type_inv c.number_at-value.ensures
     c.write_signed-put.ensures (search rules)
 
-pub overflow_add-at : goal.overflow_add-at
-overflow_add-at c =
-    let next =
-    put-next c.args.content.now c.args.out.now c.loop-i.out c.loop-i.at c.loop-i.i c.number_at-value.result c.write_signed-put.result
-    c.write_signed-put.new.out c.loop-i.invariant c.requires c.loop-i-test.true c.number_at-value.type_inv c.number_at-value.ensures
-    c.write_signed-put.ensures (search rules) in
-    omega (arith, next.inside)
-
-pub shape_of-out : goal.shape_of-out
-shape_of-out c = c.loop-i.invariant.size
-
 pub returns : goal.returns
 returns c = putting-all (given_numbers c.args.content.now) c.args.out.now c.loop-i.out c.loop-i.at c.loop-i.i
     c.loop-i.invariant (omega (arith, length-given c.args.content.now))

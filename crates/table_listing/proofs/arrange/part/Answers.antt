@@ -13,8 +13,8 @@ part-is list scratch h = sym (length-take-le (length list) scratch h)
 pub slice_bounds-from-end-2 : goal.slice_bounds-from-end-2
 slice_bounds-from-end-2 c = part-is c.args.list.now c.args.scratch.now c.requires.list_in_bounds
 
-pub copy-requires : goal.copy-requires
-copy-requires c = part-is c.args.list.now c.args.scratch.now c.requires.list_in_bounds
+pub copy_from_slice-requires : goal.copy_from_slice-requires
+copy_from_slice-requires c = sym (part-is c.args.list.now c.args.scratch.now c.requires.list_in_bounds)
 
 pub returns : goal.returns
-returns c = rw c.copy.ensures at c.pick_each.ensures
+returns c = rw c.copy_from_slice.ensures.after at c.pick_each.ensures

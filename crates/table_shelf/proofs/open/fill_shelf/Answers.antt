@@ -36,4 +36,4 @@ returns c = let small = sizes c.args.table0.now c.args.table1.now c.args.table2.
       c.fill_place-4.auto.shelf,
     ) in
     shelf-filled c.args.table0.now c.args.table1.now c.args.table2.now c.args.table3.now four
-    (cleared-part (mid_of 131088 262176 c.fill_place-4.new.shelf) 262176 (mid_len 131088 393264 c.fill_place-4.new.shelf long) c.clear.ensures)
+    (cleared-part (mid_of 131088 262176 c.fill_place-4.new.shelf) 262176 (mid_len 131088 393264 c.fill_place-4.new.shelf long) (c.fill.ensures.after (λ y e. e)))

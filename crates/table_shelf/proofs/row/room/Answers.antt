@@ -1,19 +1,13 @@
 -- `table_shelf::row::room` meets its contract. Assumes nothing.
-use native.Mathlib.Omega.{arith}
-use mathlib.Core.Path.{sym, ◌∙◌}
-use Rattle.table_shelf.proofs.row.Laws.{room-refused, inside, room-done}
+use Rattle.std.proofs.Common.{sym, ◌∙◌}
+use Rattle.shelf_format.proofs.Calls.Laws.{refusal_some}
+use Rattle.table_shelf.proofs.row.Laws.{room-refused, room-done}
 use Rattle.table_shelf.proofs.row.room.Goals as goal
 
-pub returns-then-number-ne0 : goal.returns-then-number-ne0
-returns-then-number-ne0 c = room-refused c.args.shelf.now c.args.party c.args.place c.use_number-number.ensures c.if-number-ne0.true c.args.n
+pub returns-in-Ok : goal.returns-in-Ok
+returns-in-Ok c = let known = c.in-Ok.ensures in
+    room-done c.args.shelf.now c.args.party c.args.place (sym known.number) known.table c.args.n c.room.ensures
 
-pub table_end-end-requires : goal.table_end-end-requires
-table_end-end-requires c = inside c.args.shelf.now c.args.party c.args.place (sym c.use_number-number.ensures ∙ c.if-number-ne0.false)
-
-pub slice_bounds-room-end : goal.slice_bounds-room-end
-slice_bounds-room-end c = let here = inside c.args.shelf.now c.args.party c.args.place (sym c.use_number-number.ensures ∙ c.if-number-ne0.false) in
-    omega (arith, here, c.table_end-end.ensures.least, c.table_end-end.ensures.most)
-
-pub returns : goal.returns
-returns c = room-done c.args.shelf.now c.args.party c.args.place (sym c.use_number-number.ensures ∙ c.if-number-ne0.false) c.table_end-end.result
-    c.table_end-end.ensures c.args.n c.room.ensures
+pub returns-in-Err : goal.returns-in-Err
+returns-in-Err c = let known = c.in-Err.ensures in
+    c.into.ensures ∙ room-refused c.args.shelf.now c.args.party c.args.place known.number (refusal_some c.in-Err.refusal) c.args.n

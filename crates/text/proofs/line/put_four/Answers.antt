@@ -1,11 +1,7 @@
 -- `text::line::put_four` meets its contract: its parts one after the other. Assumes nothing.
-use Prim.Native.Nat.{◌≤◌}
 use native.Mathlib.Omega.{arith}
-use lib.ListN.{length}
-use borrow.Author.Rules.{rules}
 use Rattle.text.specs.Put.Laws.{put-put}
 use Rattle.text.proofs.line.put_four.Goals as goal
 
-pub returns : goal.returns
-returns c = let room : c.args.at ≤ length c.args.out.now = omega arith in
-    record { put = put-put room c.put_fields-middle.ensures.put c.put_two.ensures.put; most = search rules }
+pub returns-clause-put : goal.returns-clause-put
+returns-clause-put c = put-put (omega arith) c.put_fields-middle.ensures.put c.put_two.ensures.put

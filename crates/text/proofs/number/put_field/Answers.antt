@@ -1,8 +1,7 @@
 -- `text::number::put_field`: the words and then the number. Assumes nothing.
 use native.Mathlib.Omega.{arith}
 use Rattle.text.specs.Put.Laws.{put-put}
-use borrow.Author.Rules.{rules}
 use Rattle.text.proofs.number.put_field.Goals as goal
 
-pub returns : goal.returns
-returns c = record { put = put-put (omega arith) c.put_bytes-next.ensures c.put_decimal.ensures.put; most = search rules }
+pub returns-clause-put : goal.returns-clause-put
+returns-clause-put c = put-put (omega arith) c.put_bytes-next.ensures c.put_decimal.ensures.put

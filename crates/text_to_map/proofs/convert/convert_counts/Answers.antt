@@ -1,9 +1,9 @@
 -- `text_to_map::convert::convert_counts` is safe: what it prints is the map, and the verdict that it says is its own. Assumes nothing.
 use Prim.Native.Nat.{ℕ, ◌≤◌}
-use mathlib.Core.Path.{◌≡◌, sym}
+use native.Mathlib.Omega.{arith}
+use mathlib.Core.Path.{◌≡◌}
 use mathlib.Core.List.{List}
 use lib.ListN.{length}
-use lib.Seq.{length-take-le}
 use Rattle.answer.specs.declared.Answer.{Answer}
 use Rattle.answer.specs.Outcome.{outcome}
 use Rattle.map_format.specs.Calls.{map_written}
@@ -17,17 +17,14 @@ answered : {g : ℕ} {held m : List ℕ} {a : Answer} {m' : List ℕ} → Counts
 answered of room left same = record { of = of; room = room; left = left; same = same }
 
 pub end-requires : goal.end-requires
-end-requires c = ended-refused (answered c.requires.counts_of c.requires.in_bounds c.write_map-answer.ensures c.write_map-answer.auto.out) c.if-number-ne0.true
+end-requires c = ended-refused (answered c.requires (omega arith) c.write_map-answer.ensures c.write_map-answer.auto.out) c.if-number-ne0.true
 
-pub slice_bounds-print_map-end : goal.slice_bounds-print_map-end
-slice_bounds-print_map-end c = count-within (answered c.requires.counts_of c.requires.in_bounds c.write_map-answer.ensures c.write_map-answer.auto.out) c.if-number-ne0.false
-
-pub slice_bounds-print_map-end-2 : goal.slice_bounds-print_map-end-2
-slice_bounds-print_map-end-2 c = let within = count-within (answered c.requires.counts_of c.requires.in_bounds c.write_map-answer.ensures c.write_map-answer.auto.out) c.if-number-ne0.false in
-    sym (length-take-le c.write_map-answer.result.count c.write_map-answer.new.out within)
+pub shared_ref_as_front-print_map : goal.shared_ref_as_front-print_map
+shared_ref_as_front-print_map c =
+    omega (arith, count-within (answered c.requires (omega arith) c.write_map-answer.ensures c.write_map-answer.auto.out) c.if-number-ne0.false)
 
 pub print_map-requires : goal.print_map-requires
-print_map-requires c = map_of_lem (answered c.requires.counts_of c.requires.in_bounds c.write_map-answer.ensures c.write_map-answer.auto.out) c.if-number-ne0.false
+print_map-requires c = map_of_lem (answered c.requires (omega arith) c.write_map-answer.ensures c.write_map-answer.auto.out) c.if-number-ne0.false
 
-pub end-requires-then-print_map : goal.end-requires-then-print_map
-end-requires-then-print_map c = ended-done (answered c.requires.counts_of c.requires.in_bounds c.write_map-answer.ensures c.write_map-answer.auto.out) c.if-number-ne0.false
+pub end-requires-2 : goal.end-requires-2
+end-requires-2 c = ended-done (answered c.requires (omega arith) c.write_map-answer.ensures c.write_map-answer.auto.out) c.if-number-ne0.false

@@ -15,7 +15,7 @@ overflow_add-all c = let low = count_low c.args.counts.now c.loop-i.i in
 pub loop-i-preserved : goal.loop-i-preserved
 loop-i-preserved c = let inside = inside-halves c.args.counts.now c.loop-i-test.true in
     let small : c.pixel_at.result < 65536 = omega (arith, c.pixel_at.ensures, count_low c.args.counts.now c.loop-i.i) in
-    summing-more c.loop-i.invariant inside c.pixel_at.ensures small
+    rw c.from-all.ensures (summing-more c.loop-i.invariant inside c.pixel_at.ensures small)
 
 pub returns : goal.returns
 returns c = summing-all c.loop-i.invariant (past-halves c.args.counts.now c.loop-i-test.false)

@@ -1,12 +1,8 @@
--- `text_to_map::verdict::photons` meets its contract: of the counts the first i are summed; the measure is the counts left. Assumes
+-- `text_to_map::verdict::photons` meets its contract: of the counts the first i are summed. Assumes
 -- nothing.
-use Prim.Native.Nat.{◌-◌}
 use Rattle.bitstream.specs.Bits.{halves_of}
 use Rattle.text_to_map.proofs.verdict.PhotonsTurn.{Summing}
 use Rattle.text_to_map.proofs.verdict.photons.Given as goal
 
 abbrev pub invariant-loop-i : goal.invariant-loop-i
 invariant-loop-i l = Summing (halves_of l.counts) l.all l.i
-
-abbrev pub decreases-loop-i : goal.decreases-loop-i
-decreases-loop-i l = l.n - l.i

@@ -1,9 +1,0 @@
--- `list_table::files::list_files`: one argument a turn; the measure is how many are left. Assumes nothing.
-use Prim.Native.Nat.{◌-◌}
-use Rattle.list_table.proofs.files.list_files.Given as goal
-
-abbrev pub invariant-loop-i : goal.invariant-loop-i
-invariant-loop-i l = Unit {0}
-
-abbrev pub decreases-loop-i : goal.decreases-loop-i
-decreases-loop-i l = l.files.arguments - l.i

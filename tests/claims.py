@@ -3,7 +3,8 @@
 - what a chapter cites is not there: a definition, theorem or contract, a must-fail edit, a test;
 - a must-fail edit, or a theorem on a page of theorems (specs/ or proofs/Theorems.antt), is there that no chapter cites;
 - an entry is said by what the reading path does not list;
-- a statement on the reading path uses a definition of ours that the path does not list.
+- a statement on the reading path uses a definition of ours that the path does not list;
+- a refusal has another name or number in `answer/src/refusal.rt` than in include/tahliruz.h.
 
 The reading path is the section of that name in the index: `crate/path.antt` puts a whole file on it, `crate/path.antt#name` a
 single name, and `{a,b}` stands for each of a and b. A chapter begins with its key, lines "- `Name` is `crate/path`", and then
@@ -207,6 +208,15 @@ def check_theorems_cited():
                 fault(path, f"no entry is said by {theorem.name}")
 
 
+def check_refusals():
+    """The names and numbers of refusals in C's header are those of `Refusal`, and what a number is stands in its match."""
+    numbers = re.search(r"^enum tahliruz_number \{(.*?)^\};", Path("include/tahliruz.h").read_text(), re.M | re.S)[1]
+    header = re.findall(r"^    TAHLIRUZ_(\w+) = (\d+)", numbers, re.M)
+    here = re.findall(r"^ +Refusal::(\w+) => (\d+),", (CRATES / "answer/src/refusal.rt").read_text(), re.M)
+    if {(name.title().replace("_", ""), number) for name, number in header} - {("Done", "0")} != set(here):
+        fault(CRATES / "answer/src/refusal.rt", "its names and numbers are not those of include/tahliruz.h")
+
+
 def check_width(path):
     for number, line in enumerate(path.read_text().splitlines(), 1):
         if len(line) > WIDTH:
@@ -221,6 +231,7 @@ def main():
     entries = sum(check_chapter(path, reading) for path in chapters)
     edits = check_edits_cited()
     check_theorems_cited()
+    check_refusals()
     for path in (INDEX, *chapters):
         check_width(path)
     for line in dict.fromkeys(faults):

@@ -165,14 +165,25 @@ CLAUSE = re.compile(r"\s+(requires|ensures)(\s+\w+)?\s+(?={)")
 ITEM = re.compile(r'(pub\s+)?(?:extern\s+""\s+)?(?:const\s+)?(fn|struct|enum|const|type)\s+(\w+)')
 
 
+# a block of methods; of a trait's methods the trait is not looked at
+IMPL = re.compile(r"impl(?:<[^>]*>)?\s+(?:[\w:<>, '&\[\]]+\s+for\s+)?(\w+)")
+
+
 def read_rattle(source, lines):
     crate = source.path.parts[1]
+    owner = None
     for number, line in enumerate(lines):
         text = "".join(lines[number:]).partition(";")[0] if "use " in line else ""
         if line.startswith("ghost use "):
             read_use(source, text.removeprefix("ghost "))
         elif re.match(r"(pub )?use ", line):
             read_rattle_use(source, crate, text)
+        elif IMPL.match(line):
+            owner = IMPL.match(line).group(1)
+        elif line == "}":
+            owner = None
+        elif owner and ITEM.match(line.removeprefix("    ")):
+            read_item(source, [re.sub(r"\bSelf\b", owner, inner.removeprefix("    ")) for inner in lines[number:]], owner)
         elif ITEM.match(line):
             read_item(source, lines[number:])
 
@@ -195,8 +206,11 @@ def rattle_path(crate, modules):
     return next((p for p in (CRATES / crate / "src" / n for n in ("lib.rt", "main.rt")) if p.exists()), None)
 
 
-def read_item(source, lines):
+def read_item(source, lines, owner=None):
+    """Of a method the type is its owner; two methods of one name in a file are told apart by it."""
     public, kind, name = ITEM.match(lines[0]).groups()
+    if name in source.declared and owner:
+        name = f"{owner}::{name}"
     if kind in ("const", "type"):
         source.declare(name, bool(public), lines[0])
         return
@@ -236,7 +250,7 @@ def meaning(source, declaration, names, word):
     elif head in names:
         path, name = names[head]
         yield path, owner_name(path, name)
-    elif head != declaration.name and source.owner(head):
+    elif head != declaration.name.split("::")[-1] and source.owner(head):
         yield source.path, owner_name(source.path, head)
 
 

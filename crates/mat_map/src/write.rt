@@ -39,6 +39,8 @@ fn write_counts(group: u32, counts: &[u8], out: &mut [u8]) -> Result<u32, Refusa
 
 // The same of a map's counts, k the bits of a position. The map is made in memory of its own, so that one that has no room in
 // `out` leaves no trace there, and is not measured first.
+// Not put in line: where the compiler sees which two numbers k is, it makes shifts of products with its powers.
+#[inline(never)]
 fn write_sized(k: u32, counts: &[u8], out: &mut [u8]) -> Result<u32, Refusal>
     requires le_k { 2 ≤ k }
     requires k_bound { k ≤ 4 }

@@ -19,6 +19,7 @@ pub fn read_unsigned(s: &[u8]) -> UnsignedRead
 }
 
 // The signed number at the front of s. 12 and 13 as above, the range being that of an i32.
+#[inline(always)]
 pub fn read_signed(s: &[u8]) -> SignedRead
     ensures { result ≡ signed_read s.now }
 {
@@ -38,7 +39,9 @@ fn unsigned_number(s: &[u8]) -> Result<Number<u32>, Refusal>
     })
 }
 
-// What read_signed answers, for a caller that isn't C.
+// What read_signed answers, for a caller that isn't C. Both are put in line at each of their calls: a line is read by them, and as
+// calls with an answer in memory they take more than twice the time.
+#[inline(always)]
 pub fn signed_number(s: &[u8]) -> Result<Number<i32>, Refusal>
     ensures { reading_of result ≡ read_as signed_type s.now }
 {

@@ -113,8 +113,9 @@ fn said(name: &[u8]) -> &[u8] {
     }
 }
 
-fn say(rt: HostRuntime, text: &[u8]) {
-    let _ = rt.stderr().write_all(text);
+// Whether a text was written to standard error.
+pub fn say(rt: HostRuntime, text: &[u8]) -> bool {
+    rt.stderr().write_all(text).is_ok()
 }
 
 // `WHAT: why`

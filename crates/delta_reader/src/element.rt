@@ -10,12 +10,14 @@ use answer::refusal::Refusal;
 use bitstream::byte::byte_at;
 use bitstream::number::{read_u16, read_u32};
 
-// The bytes, and the bits of an element.
+// The bytes, the bits of an element, and how many whole elements the bytes hold.
 #[derive(Clone, Copy)]
 pub struct Elements<'a> {
     pub bytes: &'a [u8],
     pub bits: u32,
+    pub whole: u64,
     ghost width: { width_number bits ≡ 0 },
+    ghost counted: { whole ≡ length (elements_of bits bytes.now) },
 }
 
 impl<'a> Elements<'a> {
@@ -26,22 +28,24 @@ impl<'a> Elements<'a> {
         ensures bytes { IfOk result (λ e. e.bytes.now ≡ bytes.now) }
     {
         judge_width(bits)?;
-        Ok(Elements { bytes, bits })
+        Ok(Elements::with_width(bytes, bits))
+    }
+
+    // Of a width that is read. The elements are counted here, once: a division for each element is slow.
+    pub fn with_width(bytes: &'a [u8], bits: u32) -> Elements<'a>
+        requires { width_number bits ≡ 0 }
+        ensures bits { result.bits ≡ bits }
+        ensures bytes { result.bytes.now ≡ bytes.now }
+    {
+        let whole = bytes.len() as u64 / (bits / 8) as u64;
+        Elements { bytes, bits, whole }
     }
 
     // How many they are.
     pub fn count(self) -> u64
         ensures { result ≡ length (elements_of self.entry.bits self.entry.bytes.now) }
     {
-        // a division by the width would be done anew for each element
-        let n = self.bytes.len() as u64;
-        if self.bits == 8 {
-            return n;
-        }
-        if self.bits == 16 {
-            return n / 2;
-        }
-        n / 4
+        self.whole
     }
 
     // Element i, in offset binary.

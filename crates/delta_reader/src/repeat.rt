@@ -10,11 +10,7 @@ use delta_format::FirstRepeat;
 pub fn repeat_ends(repeat: &[u8], at: FirstRepeat) -> bool
     ensures { result ≡ leb (length (elements_of 32 repeat.now)) at.0 }
 {
-    let counts = Elements {
-        bytes: repeat,
-        bits: 32,
-    };
-    counts.count() <= at.0
+    Elements::with_width(repeat, 32).count() <= at.0
 }
 
 // The count there, 0 for any below 1.
@@ -22,11 +18,9 @@ pub fn count_at(repeat: &[u8], at: FirstRepeat) -> u64
     requires { at.0 < length (elements_of 32 repeat.now) }
     ensures { result ≡ count_of (get_or (elements_of 32 repeat.now) at.0 (pos 0)) }
 {
-    let counts = Elements {
-        bytes: repeat,
-        bits: 32,
-    };
-    counts.at(at.0).saturating_sub(2147483648)
+    Elements::with_width(repeat, 32)
+        .at(at.0)
+        .saturating_sub(2147483648)
 }
 
 // The next place.

@@ -6,7 +6,7 @@ ghost use Rattle.fits_format.specs.Header.{header_cards, header_number, no_image
 ghost use Rattle.fits_reader.specs.Judged.{is_image, unfit_number, CardsRead, table_written, as_header};
 
 use crate::card::{card_integer, is_true};
-use crate::cards::{end_place, header_cards, stands};
+use crate::cards::{count_cards, find_end, header_cards, stands};
 use crate::plain::plain_bytes;
 use answer::refusal::Refusal;
 use fits_format::{BLOCK_BYTES, ImageHeader, MAX_AXIS};
@@ -57,15 +57,17 @@ fn read_header(fits: &[u8], out: &mut [u8]) -> Result<Image, Refusal>
 fn judge(fits: &[u8]) -> Result<Image, Refusal>
     ensures { as_header result ≡ unless (header_number fits.now) no_image (image_of fits.now) }
 {
-    let cards = header_cards(fits);
-    if cards.len() < 5 {
+    let count = count_cards(fits);
+    if count < 5 {
         return Err(Refusal::FitsHeader);
     }
-    let Some(end) = end_place(cards) else {
-        return Err(Refusal::FitsHeader);
-    };
+    let cards = header_cards(fits);
     let width = card_integer(&cards[3], b"NAXIS1  ");
     let rows = card_integer(&cards[4], b"NAXIS2  ");
+    let end = find_end(fits);
+    if end == count {
+        return Err(Refusal::FitsHeader);
+    }
     check_fit(fits, width, rows, end)?;
     check_axes(width, rows)?;
     // The image starts with the block after END's; a block has 36 cards.

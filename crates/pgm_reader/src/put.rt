@@ -37,6 +37,5 @@ pub fn put_sample(out: &mut [u8], at: usize, height: u32)
     requires height_bound { height < 65536 }
     ensures { Put out.old at (height / 256 ∷ height % 256 ∷ []) (at + 2) out.new }
 {
-    out[at] = (height / 256) as u8;
-    out[at + 1] = (height % 256) as u8;
+    out[at..at + 2].copy_from_slice(&(height as u16).to_be_bytes());
 }

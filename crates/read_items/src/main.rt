@@ -3,9 +3,11 @@
 // never gives an item.
 #![tactic(auto)]
 
+use answer::refusal::Refusal;
 use code_table::plain::plain_table;
 use command::say::fail;
-use row_reader::reader::Reader;
+use row_reader::reader::take_two;
+use row_reader::step::GivenItem;
 use std::io::Print;
 use text::number::put_field;
 use text::put::put_bytes;
@@ -18,19 +20,18 @@ fn main(rt: HostRuntime) {
     print_items(rt, b"", &words);
 }
 
-fn print_items(rt: HostRuntime, table: &[u8], words: &[u8]) {
-    let mut reader = Reader::open(table, words);
-    for _ in 0..2 {
-        let (number, pixel) = match reader.next() {
-            Ok(given) => (0, given.pixel),
-            Err(refusal) => (refusal.number(), 0),
-        };
-        print_item(rt, number, pixel, reader.place.at);
-    }
+fn print_items<'a>(rt: HostRuntime, table: &'a [u8], words: &'a [u8]) {
+    let taken = take_two(table, words);
+    let at = print_item(rt, taken.first, 0);
+    print_item(rt, taken.second, at);
 }
 
-// One line: the number, the pixel, and the reader's bit place after it.
-fn print_item(rt: HostRuntime, number: u32, pixel: u32, at: usize) {
+// One line: the number, the pixel, and the bit place after the item, which is `before` where it is refused. The answer is that place.
+fn print_item(rt: HostRuntime, item: Result<GivenItem, Refusal>, before: usize) -> usize {
+    let (number, pixel, at) = match item {
+        Ok(given) => (0, given.pixel, given.place.at),
+        Err(refusal) => (refusal.number(), 0, before),
+    };
     let mut line = [0u8; 128];
     let mut n = put_field(&mut line, 0, b"number ", number as u64);
     n = put_field(&mut line, n, b" pixel ", pixel as u64);
@@ -39,4 +40,5 @@ fn print_item(rt: HostRuntime, number: u32, pixel: u32, at: usize) {
     if let Err(e) = rt.stdout().write_all(&line[..n]) {
         fail(rt, b"standard output", e);
     }
+    at
 }

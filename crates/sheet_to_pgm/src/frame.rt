@@ -10,4 +10,5 @@ pub struct Frame {
     pub count: u32,
     pub pad: u16,
     ghost narrow: { width ≤ 4096 },
+    ghost low: { pad ≤ 4095 },
 }

@@ -1,4 +1,7 @@
 // The two passes over a sheet.
+ghost use Rattle.std.specs.Prelude.{◌≤◌};
+ghost use Rattle.sheet_to_pgm.specs.Written.{pad_height};
+
 use crate::judge::judge_sheet;
 use crate::memory::Memory;
 use crate::picture::write_picture;
@@ -8,7 +11,9 @@ use sheet_stream::twice::{again, place, twice};
 
 // What cannot be read twice is copied first. `pads` is the height that stands where a row lacks one; with none, such a row is at
 // fault.
-pub fn write_pgm(input: Input, pads: Option<u16>) {
+pub fn write_pgm(input: Input, pads: Option<u16>)
+    requires { pad_height pads ≤ 4095 }
+{
     if let Some(sheet) = twice(input) {
         let mut memory = Memory {
             bytes: [0u8; 32778],
@@ -20,7 +25,9 @@ pub fn write_pgm(input: Input, pads: Option<u16>) {
     }
 }
 
-fn write_passes(input: &Input, pads: Option<u16>, memory: &mut Memory) -> Result<(), NoPicture> {
+fn write_passes(input: &Input, pads: Option<u16>, memory: &mut Memory) -> Result<(), NoPicture>
+    requires { pad_height pads ≤ 4095 }
+{
     let start = place(input);
     let shape = judge_sheet(input, memory)?;
     check_shape(input, pads, shape)?;

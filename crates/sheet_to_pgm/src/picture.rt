@@ -1,5 +1,6 @@
 // The second pass: the picture, a row at a time.
-ghost use Rattle.sheet_to_pgm.specs.Written.{PictureFound, PictureFront};
+ghost use Rattle.std.specs.Prelude.{◌≡◌, ◌≤◌};
+ghost use Rattle.sheet_to_pgm.specs.Written.{pad_height, PictureFound, PictureFront};
 
 use crate::frame::Frame;
 use crate::memory::Memory;
@@ -16,16 +17,24 @@ pub fn write_picture(
     count: u32,
     memory: &mut Memory,
 ) -> Result<(), NoPicture>
-    requires { PictureFound pads width count }
+    requires pads_bound { pad_height pads ≤ 4095 }
+    requires picture_found { PictureFound pads width count }
 {
     let n = put_pgm_header(&mut memory.line, width, count);
     print_front(input.program, pads, width, count, &memory.line[..n])?;
-    let frame = Frame {
+    write_rows(input, frame_of(pads, width, count), memory)
+}
+
+fn frame_of(pads: Option<u16>, width: u32, count: u32) -> Frame
+    requires pads_bound { pad_height pads ≤ 4095 }
+    requires picture_found { PictureFound pads width count }
+    ensures { result.pad ≡ pad_height pads }
+{
+    Frame {
         width,
         count,
         pad: pads.unwrap_or(0),
-    };
-    write_rows(input, frame, memory)
+    }
 }
 
 // Nothing else goes out before the lines.

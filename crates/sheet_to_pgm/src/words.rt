@@ -1,4 +1,7 @@
 // The words of a command line: a height for what is missing, and one file at most.
+ghost use Rattle.std.specs.Prelude.{◌≤◌};
+ghost use Rattle.sheet_to_pgm.specs.Written.{pad_height};
+
 use crate::passes::write_pgm;
 use command::input::Input;
 use command::program::Program;
@@ -21,7 +24,9 @@ pub fn write_words(program: Program) {
     write_input(program, Some(height as u16));
 }
 
-fn write_input(program: Program, pads: Option<u16>) {
+fn write_input(program: Program, pads: Option<u16>)
+    requires { pad_height pads ≤ 4095 }
+{
     let Some(i) = program.word_place(0) else {
         write_file(program, b"-", pads);
         return;
@@ -31,7 +36,9 @@ fn write_input(program: Program, pads: Option<u16>) {
     write_file(program, &word[..n], pads);
 }
 
-fn write_file(program: Program, name: &[u8], pads: Option<u16>) {
+fn write_file(program: Program, name: &[u8], pads: Option<u16>)
+    requires { pad_height pads ≤ 4095 }
+{
     if let Some(input) = Input::open(program, name) {
         write_pgm(input, pads);
     }

@@ -1,6 +1,6 @@
 // The item reader as C has it: its place and its answers as structs of numbers.
 ghost use Rattle.std.specs.Prelude.{◌≡◌, ◌≤◌};
-ghost use Rattle.answer.specs.Refusal.{refusal_number, result_number};
+ghost use Rattle.answer.specs.Refusal.{result_number};
 ghost use Rattle.tahliruz.specs.Items.{item_first_number, place_of, flat_place, item_kind, item_step, refused_item, as_item, next_item};
 
 use answer::refusal::Refusal;
@@ -92,11 +92,11 @@ pub fn flat_place(p: Place) -> ReaderPlace
     }
 }
 
-pub fn refused(refusal: Refusal, place: ReaderPlace) -> ItemAnswer
-    ensures { result ≡ refused_item place (refusal_number refusal) }
+pub fn refused(number: u32, place: ReaderPlace) -> ItemAnswer
+    ensures { result ≡ refused_item place number }
 {
     ItemAnswer {
-        number: refusal.number(),
+        number,
         kind: 0,
         step: 0,
         pixel: 0,

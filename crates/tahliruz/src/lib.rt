@@ -84,7 +84,7 @@ pub extern "C" fn tahliruz_next(table: &[u8], words: &[u8], place: ReaderPlace) 
 {
     match item::next(table, words, place) {
         Ok(given) => given,
-        Err(refusal) => item::refused(refusal, place),
+        Err(refusal) => item::refused(refusal.number(), place),
     }
 }
 

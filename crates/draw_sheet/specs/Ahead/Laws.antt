@@ -21,7 +21,7 @@ use Rattle.sheet_stream.specs.Step.Laws.{step-ended, step-carries}
 use Rattle.sheet_stream.specs.Step.Rows.{rowless-next, row_next, row_count, row-there, gap-absent}
 use Rattle.sheet_picture.specs.View.{heights_by}
 use Rattle.draw_sheet.specs.declared.advance.Ahead.{Ahead}
-use Rattle.draw_sheet.specs.Ahead.{none_read, rows_in, height_bytes, least_in, is_known, BeginsSheet, MayBe, SheetOver}
+use Rattle.draw_sheet.specs.Ahead.{rows_in, height_bytes, least_in, is_known, BeginsSheet, MayBe, SheetOver}
 use Rattle.draw_sheet.specs.Ahead.{HeldLast, HeldBy, ReadTo, Onward}
 
 -- ---- the bytes of a row's heights
@@ -209,9 +209,10 @@ module _ {a : Ahead} {bytes table content : List ℕ} {n : ℕ} (w : ReadTo a by
           })
 
 -- ---- at the start nothing is read
-pub read_first : (bytes table content : List ℕ) (n : ℕ) → ReadTo none_read bytes table content n
-read_first bytes table content n =
-    record {
+pub read_first : (bytes table content : List ℕ) (n : ℕ) {h k : ℕ} {a : Ahead}
+    → a ≡ record { ended = false; held = h; count = k; at = progress_first } → ReadTo a bytes table content n
+read_first bytes table content n is =
+    rw is (record {
       taken = [];
       last = [];
       carries = carries-none;
@@ -219,4 +220,4 @@ read_first bytes table content n =
       row = λ less rest. absurd (omega arith);
       between = λ m from less rest. absurd (omega arith);
       known = λ k. true-false k (le-ltb n 0 (omega arith));
-    }
+    })

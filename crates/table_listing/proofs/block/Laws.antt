@@ -7,16 +7,18 @@ use native.Mathlib.Numerals.{add-one}
 use native.Mathlib.Omega.{arith}
 use mathlib.Core.Path.{◌≡◌, refl, sym, ap, ◌∙◌}
 use mathlib.Core.List.{List, [], ◌∷◌, ◌++◌, append-nil, append_assoc, map}
-use lib.ListN.{length, take, drop, get_or, length-drop, length-map, drop_of_length-le}
+use lib.ListN.{length, take, drop, get_or, length-append, length-drop, length-map, drop_of_length-le}
 use lib.Seq.{take-suc, take_all, drop-cons}
 use borrow.Author.Tests.{le-leb, lt-leb}
 use Rattle.answer.specs.Outcome.{outcome}
+use Rattle.row_format.specs.Table.{codeword_at}
 use Rattle.text.specs.Put.{Put}
 use Rattle.text.specs.Put.Laws.{put-none, put-put, put-start}
+use Rattle.text.specs.Text.{ascii, digit}
 use Rattle.table_listing.specs.Listed.{ListedLines}
 use Rattle.table_listing.specs.Listing.{joined, fitting, next_number, listed_of, no_lines, block_of}
 use Rattle.table_listing.specs.Listing.Answers.{next_fits, next-all, next-not, block_of-refused, block_of-done}
-use Rattle.table_listing.specs.Line.{line}
+use Rattle.table_listing.specs.Line.{line, name}
 use Rattle.table_listing.specs.Line.Laws.{get_d_map}
 use Rattle.table_listing.specs.Append.{LineFits, LineOver}
 
@@ -147,3 +149,8 @@ lines-rest t list first {k} is =
     by-split (no within) =
         let there : k ≡ first = omega (arith, is, within) in
         ap (λ (n : ℕ). map (line t) (drop n list)) there ∙ sym (drop-map (line t) first list)
+
+-- a line is not empty
+pub line-some : (t : List ℕ) (p : ℕ) → 1 ≤ length (line t p)
+unfolding line
+line-some t p = rw (length-append (name t p ++ ascii " " ++ map digit (codeword_at t p)) (ascii "\n")) (omega arith)

@@ -2,5 +2,5 @@
 use Rattle.delta_reader.proofs.element.Laws.{width-counts}
 use Rattle.delta_reader.proofs.repeat.count_at.Goals as goal
 
-pub invariant_of-counts : goal.invariant_of-counts
-invariant_of-counts c = record { width = width-counts }
+pub with_width-requires : goal.with_width-requires
+with_width-requires c = width-counts

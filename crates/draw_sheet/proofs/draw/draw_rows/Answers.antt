@@ -1,4 +1,4 @@
-use Rattle.std.proofs.Common.{◌/◌, arith}
+use Rattle.std.proofs.Common.{◌/◌, arith, refl}
 use Rattle.sheet_stream.specs.Progress.Laws.{fits-first}
 use Rattle.draw_sheet.specs.Ahead.Laws.{read_first, onward-later}
 use Rattle.draw_sheet.specs.Drawn.Laws.{row-later, drawn-first, drawn-onward, drawn-next, row_out, end-out}
@@ -12,7 +12,7 @@ loop-y-init c = rw c.none-ahead.ensures
       held = omega arith;
       to =
           drawn-first
-          (read_first c.args.memory.now.bytes c.args.memory.now.table c.args.memory.now.content (0 / c.args.scene.view.times))
+          (read_first c.args.memory.now.bytes c.args.memory.now.table c.args.memory.now.content (0 / c.args.scene.view.times) refl)
           c.begin_sums-sums.ensures;
       next = c.requires.next_value;
     })

@@ -1,15 +1,11 @@
--- `pgm_reader::put::put_sample` meets its contract. Assumes nothing.
-use mathlib.Core.Path.{refl}
-use Prim.Native.Nat.{◌/◌, ◌%◌}
-use native.Mathlib.Omega.{arith}
-use lib.ListN.{length-set}
-use Rattle.text.specs.Put.Laws.{put_one, put-more}
+-- `pgm_reader::put::put_sample` meets its contract: two bytes are written over. Assumes nothing.
+use Rattle.std.specs.Prelude.{ℕ, ◌/◌, ◌%◌, ◌≡◌, [], ◌∷◌}
+use Rattle.std.proofs.Common.{◌∙◌, ap, arith, refl}
+use Rattle.bitstream.specs.Memory.Part.{part-overwritten}
 use Rattle.pgm_reader.proofs.put.put_sample.Goals as goal
 
-pub bounds-out-at-2 : goal.bounds-out-at-2
-bounds-out-at-2 c = simp length-set (omega arith)
-
 pub returns : goal.returns
-returns c = let one = put_one c.args.out.now c.args.at (c.args.height / 256) (omega arith) in
-    let two = put-more (c.args.height % 256) (omega arith) (length-set c.args.out.now c.args.at (c.args.height / 256)) one in
-    record { next = refl; memory = two.memory }
+returns c =
+    let high : c.args.height / 256 % 256 ≡ c.args.height / 256 = omega (arith, c.requires.height_bound) in
+    let bytes = c.copy_from_slice.ensures.after ∙ c.to_be_bytes.ensures ∙ ap (λ (x : ℕ). x ∷ c.args.height % 256 ∷ []) high in
+    record { next = refl; memory = rw bytes (part-overwritten c.args.at 2 c.args.out.now (c.args.height / 256 ∷ c.args.height % 256 ∷ []) refl) }

@@ -5,4 +5,7 @@ pub loop-init : goal.loop-init
 loop-init c = rw c.begin-taken.ensures (underway-none c.args.counts.now)
 
 pub loop-preserved : goal.loop-preserved
-loop-preserved c = underway-more c.loop.invariant (record { scan = c.take_block-taken.ensures.scan; held = c.take_block-taken.ensures.held })
+loop-preserved c = underway-more c.loop.invariant c.in_ok-turn.ensures.ok
+
+pub returns-then-turn-eq0 : goal.returns-then-turn-eq0
+returns-then-turn-eq0 c = underway-more c.loop.invariant c.in_ok-turn.ensures.ok
